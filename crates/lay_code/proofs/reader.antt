@@ -14,6 +14,8 @@ pub mod Longest
 pub mod File
 pub mod ExprSoundLevel
 pub mod ExprReads
+pub mod BodilessTypes
+pub mod BodilessKinds
 pub mod BlocksSound
 pub mod ConditionsSound
 pub mod BlocksSoundWhole

@@ -1,5 +1,5 @@
 -- Branches are read where they are spelled, where what is one level deeper is read.
-use Rattle.std.proofs.Common.{◌≡◌, ℕ, max, true, ◌∷◌, [], Some, refl, subst, arith}
+use Rattle.std.proofs.Common.{◌≡◌, ℕ, max, true, ◌∷◌, [], Some, inl, refl, subst, arith}
 use Rattle.std.proofs.lemmas.Bool.{and_parts}
 use Rattle.lay_piece.specs.Forms.{opening}
 use Rattle.lay_piece.specs.declared.kind.Delim.TheVariants.{Brace}
@@ -28,7 +28,7 @@ module _ (fronts : Fronts) (depth : ℕ) (within : ExprWithin) (reads : ExprRead
   pub before_block : (level : ℕ) (x : Expr) (ts rest inside : Tokens) → Spells (about_expr x).form depth ts rest → placed (about_expr x) (plain level true) ≡ true
       → IsOne (Opener Brace) (opening Brace ∷ []) rest inside → IsRead depth (within.exprs (plain level true)) x ts rest
   before_block level x ts rest inside s g o =
-      reads.exprs (plain level true) x ts rest s g (ends_follow (about_expr x) (plain level true) rest (brace_ends_expr rest inside o))
+      reads.exprs (plain level true) x ts rest s g (inl (ends_follow (about_expr x) (plain level true) rest (brace_ends_expr rest inside o)))
 
   -- ---- a branch, behind its `if`
 

@@ -20,7 +20,7 @@ use Rattle.lay_node.proofs.reader.TypesCompleteKinds.{within_reads}
 use Rattle.lay_node.proofs.reader.Use.{use_complete}
 use Rattle.lay_node.proofs.reader.ValueHeads.{value_heads_complete}
 use Rattle.lay_code.specs.nodes.Code.{about_block, about_expr, about_item}
-use Rattle.lay_code.specs.nodes.Exprs.{follows, placed}
+use Rattle.lay_code.specs.nodes.Exprs.{Followed, placed}
 use Rattle.lay_code.specs.reader.Code.{code_in, deeper_block, expr_at, item_at}
 use Rattle.lay_code.specs.reader.Within.{ExprWithin}
 use Rattle.lay_code.specs.declared.blocks.Block.{Block}
@@ -105,7 +105,7 @@ module _ (fronts : Fronts) where
 
   -- An expression that stands there is read.
   pub expr_read : (place : Place) (x : Expr) (depth budget : ℕ) (ts rest : Tokens) → depth ≤ budget → Spells (about_expr x).form depth ts rest
-      → placed (about_expr x) place ≡ true → follows (about_expr x) place rest ≡ true → IsRead depth (expr_at place budget) x ts rest
+      → placed (about_expr x) place ≡ true → Followed (about_expr x) place depth ts rest → IsRead depth (expr_at place budget) x ts rest
   expr_read place x depth budget ts rest h s w f = (code_reads budget depth h).exprs place x ts rest s w f
 
   -- So is an item.

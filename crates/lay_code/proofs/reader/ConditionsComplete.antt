@@ -1,5 +1,5 @@
 -- Conditions are read where they are spelled, where what is one level deeper is read.
-use Rattle.std.proofs.Common.{◌≡◌, ℕ, max, Bool, true, false, List, [], ◌∷◌, map, drop, codes, Option, Some, None, if◌then◌else◌, refl, sym, ap, subst, ◌∙◌, arith, le-leb, eq-eqb}
+use Rattle.std.proofs.Common.{◌≡◌, ℕ, max, Bool, true, false, List, [], ◌∷◌, map, drop, codes, Option, Some, None, if◌then◌else◌, inl, refl, sym, ap, subst, ◌∙◌, arith, le-leb, eq-eqb}
 use Rattle.std.specs.Prelude.{◌==◌}
 use Rattle.std.specs.List.{list_any}
 use Rattle.std.proofs.lemmas.Bool.{and_parts}
@@ -114,9 +114,9 @@ module _ (depth : ℕ) (within : ExprWithin) (reads : ExprReads depth within) wh
       let strong : strength mid ≡ 4 = op_strength mid op.AndAnd b in
       let here = before_plain F 4 true false w in
       let follow = plain_follows F 4 true mid (le-leb (strength mid) 4 (omega (arith, strong))) tail in
-      record { read = reads.exprs (plain 4 true) x ts mid s here follow; there = here; ends = rw (eq-eqb (strength mid) 4 strong) stand }
+      record { read = reads.exprs (plain 4 true) x ts mid s here (inl follow); there = here; ends = rw (eq-eqb (strength mid) 4 strong) stand }
   value_there x false ts mid s w b = record {
-    read = reads.exprs (plain 4 true) x ts mid s w (ends_follow (about_expr x) (plain 4 true) mid b);
+    read = reads.exprs (plain 4 true) x ts mid s w (inl (ends_follow (about_expr x) (plain 4 true) mid b));
     there = w;
     ends = rw (not_at_level 3 mid (omega (arith, b.weak))) refl;
   }

@@ -17,7 +17,7 @@ use Rattle.lay_node.proofs.reader.Exact.{IsRead}
 use Rattle.lay_node.proofs.reader.Loops.{Turn, repeat_complete}
 use Rattle.lay_code.specs.Operators.{angle_by, is_angle, op_level, op_text, strength}
 use Rattle.lay_code.specs.nodes.Code.{about_expr}
-use Rattle.lay_code.specs.nodes.Exprs.{ExprFacts, ExprLayer, expr_facts, inside, is_chain_level, level_of_chain, may_chain, operands_form, operands_placed, placed, root_follows, stands, tail_follows}
+use Rattle.lay_code.specs.nodes.Exprs.{ExprFacts, ExprLayer, expr_facts, inside, is_chain_level, level_of_chain, may_chain, operands_placed, placed, root_follows, stands, tail_follows, tail_of}
 use Rattle.lay_code.specs.nodes.Places.{before_op, link_place, plain}
 use Rattle.lay_code.specs.reader.Code.{climbed_on}
 use Rattle.lay_code.specs.reader.Conditions.{ReadLink, alone, any_let, begins_link, chain_of, condition_by, condition_of, further_links, is_let, link_ends, one_link}
@@ -35,13 +35,14 @@ use Rattle.lay_code.proofs.reader.ExprClimb.{Known, Reach, Reaches, climb_ends, 
 use Rattle.lay_code.proofs.reader.ExprClimbKinds.{assign_reached, chain_reached, range_reached}
 use Rattle.lay_code.proofs.reader.ExprComplete.{accept}
 use Rattle.lay_code.proofs.reader.ExprFronts.{no_depth, placed_begins}
-use Rattle.lay_code.proofs.reader.ExprHeadsJumps.{plain_follows}
+use Rattle.lay_code.proofs.reader.ExprHeadsJumps.{plain_followed}
 use Rattle.lay_code.proofs.reader.ExprLeads.{expr_no_keyword}
 use Rattle.lay_code.proofs.reader.ExprOperators.{at_op, not_at_level}
-use Rattle.lay_code.proofs.reader.ExprOperatorsRows.{OperandFits, before_plain, before_tail, operands_fit, operands_spelled}
+use Rattle.lay_code.proofs.reader.ExprOperatorsRows.{OperandFits, before_plain, before_tail, chain_before, first_sign, operands_fit}
 use Rattle.lay_code.proofs.reader.ExprOperatorsTails.{before_parts, stands_parts}
 use Rattle.lay_code.proofs.reader.ExprReads.{ExprReads, ReadsExprs}
 use Rattle.lay_code.proofs.reader.ExprSoundStages.{base_within}
+use Rattle.lay_code.proofs.reader.Followed.{Ended, ended_of, node_parts, root_of}
 
 -- The one operator of the level of `&&` is `&&`.
 pub and_and : (o : Op) → op_level o ≡ 3 → o ≡ op.AndAnd
@@ -84,10 +85,10 @@ module _ (most : ℕ) (lower : ExprWithin) (reads : (depth : ℕ) → depth ≤ 
 
   -- an expression that stands where a link does
   link_there : (depth : ℕ) → depth ≤ suc most → (x : Expr) (ts mid : Tokens) → Spells (about_expr x).form depth ts mid
-      → placed (about_expr x) (plain 4 true) ≡ true → strength mid ≤ 4 → tail_follows (about_expr x).tail true mid ≡ true
+      → placed (about_expr x) (plain 4 true) ≡ true → strength mid ≤ 4 → Ended (about_expr x).tail (about_expr x).form true depth ts mid
       → link_ends (None, x) mid ≡ true → IsRead depth (one_link within) (None, x) ts mid
   link_there depth le x ts mid s w weak tail ends =
-      let follow = plain_follows (about_expr x) 4 true mid (le-leb (strength mid) 4 weak) tail in
+      let follow = plain_followed (about_expr x) 4 true depth ts mid weak tail in
       let r = exprs depth le (plain 4 true) x ts mid s w follow in
       let lead = (placed_begins x (plain 4 true) depth ts mid s w).lead in
       (r.0, r.1, link_made x r.0 ts mid (expr_no_keyword (codes "let") (λ us. refl) ts (about_expr x).lead lead) r.2 ends)
@@ -160,9 +161,9 @@ module _ (most : ℕ) (lower : ExprWithin) (reads : (depth : ℕ) → depth ≤ 
         let same = and_and y.0 level in
         let a = at_op 3 y.0 ts at f.at s.1 in
         let left : drop 2 ts ≡ at = subst (λ (o : Op). drop (length (op_text o)) ts ≡ at) same a.left in
-        let follow = and_parts (root_follows (about_expr y.1) (plain 4 true) mid) (tail_follows (about_expr y.1).tail true mid) f.follow in
-        let weak : strength mid ≤ 4 = leb-true (strength mid) 4 follow.0 in
-        let one = link_there depth le y.1 at mid s.2 f.there weak follow.1 (ends_well (about_expr y.1) mid f.ends) in
+        let weak : strength mid ≤ 4 = leb-true (strength mid) 4 (root_of (about_expr y.1) (plain 4 true) depth at mid f.follow) in
+        let tail = ended_of (about_expr y.1) (plain 4 true) depth at mid f.follow in
+        let one = link_there depth le y.1 at mid s.2 f.there weak tail (ends_well (about_expr y.1) mid f.ends) in
         let more = further_there ys mid rest r.2 in
         record {
           found = ((None, y.1), one.0) ∷ more.found;
@@ -192,26 +193,24 @@ module _ (most : ℕ) (lower : ExprWithin) (reads : (depth : ℕ) → depth ≤ 
       let os = map behind_op (y ∷ ys) in
       let k : Known lower condition_place level (suc depth) (expr_facts (Expr-F.Chain F os)) start ts mid =
       subst (λ (G : ExprFacts). Known lower condition_place level (suc depth) G start ts mid) (expr_chain_is x (y ∷ ys)) known in
-      let deep = k.spelled in
-      let t : Spells (inside (Expr-F.Chain F os)) depth ts mid = subst (λ us. Spells (inside (Expr-F.Chain F os)) depth ts us) deep.2 deep.1 in
-      let parts = t.1 in
+      let layer : ExprLayer = Expr-F.Chain F os in
+      let parts = chain_before true depth x y ys ts mid (node_parts (tail_of layer) true depth (inside layer) ts mid (k.spelled, k.tail)) in
       let at = parts.0 in
-      let rows = operands_spelled depth (y ∷ ys) at mid (subst (λ us. Spells (operands_form os) depth at us) t.2 parts.2) in
       let w3 = and_parts (is_chain_level 3 && may_chain 3 os && placed F (before_op 4 true start false)) (operands_placed 3 true os) k.inside in
       let w2 = and_parts (is_chain_level 3 && may_chain 3 os) (placed F (before_op 4 true start false)) w3.0 in
       let chains = (and_parts (is_chain_level 3) (may_chain 3 os) w2.0).1 in
       let there = subst (λ b. placed F (before_op 4 true b false) ≡ true) (k.starts refl) w2.1 in
       let stand = (and_parts (stands F (before_op 4 true false false)) (F.within true false) there).0 in
       let b = before_parts F 4 true false false stand in
-      let sign = rows.1 in
+      let sign = first_sign depth true y ys at mid parts.2 in
       let a = at_op 3 op.AndAnd at sign.0 refl sign.1 in
       let angled : is_angle at ≡ false = ap angle_by a.binary in
       let tail = before_tail F 4 true false false b at op.AndAnd a.binary angled in
       let ends : link_ends (None, x) at ≡ true = rw (eq-eqb (strength at) 4 a.strength) stand in
       let one =
-      link_there depth (omega (arith, le)) x ts at parts.1 (before_plain F 4 true false there) (omega (arith, a.strength)) tail ends in
+      link_there depth (omega (arith, le)) x ts at parts.1 (before_plain F 4 true false there) (omega (arith, a.strength)) (inl tail) ends in
       let weak : strength mid ≤ 3 = omega (arith, k.weak, below) in
-      let fit = operands_fit depth 3 true y ys at mid rows w3.1 chains weak k.tail in
+      let fit = operands_fit depth 3 true y ys at mid parts.2 w3.1 chains weak in
       let more = further_there depth (omega (arith, le)) (y ∷ ys) at mid fit in
       let need = suc (max one.0 (deepest more.found)) in
       record {
@@ -337,7 +336,7 @@ module _ (most : ℕ) (lower : ExprWithin) (reads : (depth : ℕ) → depth ≤ 
   whole_read depth le x ts rest s w f = by (begins_dots ts) refl
     where
       by : (b : Bool) → begins_dots ts ≡ b → IsRead depth (condition_by within) (alone x) ts rest
-      by true d = let r = exprs depth le condition_place x ts rest s w f in (r.0, r.1, dots_made x r.0 ts rest d r.2)
+      by true d = let r = exprs depth le condition_place x ts rest s w (inl f) in (r.0, r.1, dots_made x r.0 ts rest d r.2)
       by false d =
           let F = about_expr x in
           let p = and_parts (stands F condition_place) (F.within true false) w in
@@ -350,7 +349,7 @@ module _ (most : ℕ) (lower : ExprWithin) (reads : (depth : ℕ) → depth ≤ 
             spelled = s;
             inside = p.1;
             weak = leb-true (strength rest) 0 q.0;
-            tail = q.1;
+            tail = inl q.1;
             struct_free = (stands_parts F condition_place p.0).struct_free;
           } in
           let h = all_reached depth le x 0 false ts rest (omega arith) known in

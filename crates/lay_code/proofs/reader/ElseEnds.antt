@@ -1,12 +1,13 @@
 -- An expression that ends in branches without an `else` ends in a `}`. So an `else` may follow what doesn't end so.
-use Rattle.std.proofs.Common.{◌≡◌, ℕ, zero, suc, Bool, true, false, not, ◌&&◌, List, [], ◌∷◌, ◌++◌, map, codes, Option, option_map, Some, None, if◌then◌else◌, refl, sym, subst, ◌∙◌}
+use Rattle.std.proofs.Common.{◌≡◌, ℕ, zero, suc, ◌-◌, arith, Bool, true, false, not, ◌&&◌, List, [], ◌∷◌, ◌++◌, map, codes, Option, option_map, Some, None, if◌then◌else◌, refl, sym, subst, ◌∙◌}
 use Rattle.std.specs.Prelude.{◌==◌}
 use Rattle.std.specs.List.{list_all}
 use Rattle.std.proofs.lemmas.Bool.{and_parts, false_from_ne_true, not-true}
 use Rattle.lay_piece.specs.declared.kind.Kind.TheVariants.{Ident}
-use Rattle.lay_form.specs.Form.{Blank, Form, Done, Piece, Part}
+use Rattle.lay_form.specs.Form.{Blank, Bare, Body, Braces, Form, Done, Marked, Nothing, Piece, Part, Unseen}
 use Rattle.lay_form.specs.Notation.{body, soft}
-use Rattle.lay_form.specs.Spelled.{IsOne, Spells}
+use Rattle.lay_form.specs.Spelled.{IsOne, Spells, cost}
+use Rattle.lay_form.proofs.FormLaws.{deeper}
 use Rattle.lay_node.specs.Ahead.{Tokens}
 use Rattle.lay_node.specs.Follow.{OfColons}
 use Rattle.lay_node.specs.nodes.Attr.{attr_form}
@@ -19,9 +20,10 @@ use Rattle.lay_node.proofs.Parts.{part_alone}
 use Rattle.lay_code.specs.Operators.{op_level}
 use Rattle.lay_code.specs.nodes.Blocks.{attrs_before, block_form, dropped_if, is_plain, precedes_else, soft_form, stmt_form}
 use Rattle.lay_code.specs.nodes.Code.{about_arm, about_block, about_branch, about_condition, about_expr, about_field_expr, about_step, about_stmt}
+use Rattle.lay_code.specs.nodes.Bodies.{sheds}
 use Rattle.lay_code.specs.nodes.CodeFacts.{BlockFacts, BranchFacts, StmtFacts}
 use Rattle.lay_code.specs.nodes.Ends.{brace_bits, brace_behind, ends_in_brace}
-use Rattle.lay_code.specs.nodes.Exprs.{ExprFacts, ExprLayer, StepFacts, branches_form, closure_head, end_form, end_placed, expr_facts, inside, is_chain_level, is_field, label_form, level_of_chain, may_chain, more_branches, next_is_angle, operand_form, operand_place, operand_placed, operands_form, operands_placed, placed, prefix_bits, prefixes_form, shut, shut_by, follows, start_placed, tail_of, tail_of_operands, tail_of_steps, targets_form, targets_placed, within_of, is_closure_param, break_placed, is_prefix_lead}
+use Rattle.lay_code.specs.nodes.Exprs.{ExprFacts, ExprLayer, StepFacts, body_braces, branches_form, closure_body, closure_head, end_form, end_placed, expr_facts, inside, is_chain_level, is_field, label_form, level_of_chain, may_chain, more_branches, next_is_angle, operand_form, operand_place, operand_placed, operands_form, operands_placed, placed, prefix_bits, prefixes_form, shut, shut_by, follows, start_placed, tail_of, tail_of_operands, tail_of_steps, targets_form, targets_placed, within_of, is_closure_param, break_placed, is_prefix_lead}
 use Rattle.lay_code.specs.nodes.Places.{FREE, begins, before_op, plain}
 use Rattle.lay_code.specs.declared.blocks.Block.{Block}
 use Rattle.lay_code.specs.declared.blocks.Branch.{Branch}
@@ -91,6 +93,23 @@ targets_end (x ∷ more) f e before = targets_end more f e _
 start_end : (a : Option ExprFacts) (f : Form) → EndsInBrace f → EndsInBrace (end_form a f)
 start_end None f e before = e before
 start_end (Some x) f e before = e (brace_behind before x.form)
+
+-- the body of a closure, within braces that aren't in the tree or not
+inner_there : (b : Braces) (x : Form) (depth : ℕ) (ts rest : Tokens) → Spells (Body b Nothing x Done) depth ts rest → (at end : Tokens) × Spells x depth at end
+inner_there b x depth ts rest s =
+    let braced = s.3.1 in
+    let within = braced.2 in
+    (braced.0, within.0, deeper x (depth - cost s.0) depth braced.0 within.0 (omega (arith)) within.1)
+
+body_there : (b : Braces) (x : Form) (depth : ℕ) (ts rest : Tokens) → Spells (closure_body b x) depth ts rest → (at end : Tokens) × Spells x depth at end
+body_there Marked x depth ts rest s = inner_there Marked x depth ts rest s
+body_there Bare x depth ts rest s = inner_there Bare x depth ts rest s
+body_there Unseen x depth ts rest s = inner_there Unseen x depth ts rest s
+
+closure_body_ends : (b : Braces) (x : Form) → EndsInBrace x → EndsInBrace (closure_body b x)
+closure_body_ends Marked x e before = e before
+closure_body_ends Bare x e before = e before
+closure_body_ends Unseen x e before = e before
 
 -- ---- all kinds
 
@@ -247,11 +266,14 @@ module _ (depth : ℕ) (ih : AllBranched depth) (no_struct begun : Bool) (ts res
   closure_ends is_async moves params x =
       told (expr.Closure is_async moves params x) (Expr-F.Closure is_async moves params (about_expr x)) (expr_closure_is is_async moves params x) (λ s w l.
       let F = about_expr x in
-      let f : Form = Piece (Blank ∷ []) (Part F.form Done) in
+      let braces = body_braces F in
+      let f : Form = Piece (Blank ∷ []) (closure_body braces F.form) in
       let t = behind_head is_async moves params f s in
       let u = t.1 in
-      let w1 = and_parts (list_all is_closure_param params) (placed F (plain 0 no_struct)) w in
-      let e = last x (plain 0 no_struct) u.0 rest (part_alone F.form depth u.0 rest u.2) w1.1 l in
+      let w2 = and_parts (list_all is_closure_param params && placed F (plain 0 no_struct)) (not (sheds F.kind no_struct)) w in
+      let w1 = and_parts (list_all is_closure_param params) (placed F (plain 0 no_struct)) w2.0 in
+      let b = body_there braces F.form depth u.0 rest u.2 in
+      let e = closure_body_ends braces F.form (last x (plain 0 no_struct) b.0 b.1 b.2 w1.1 l) in
       head_ends is_async moves params f (λ before. e _))
 
   if_ends : (bs : List Branch) (o : Option Block) → Ends (about_expr (expr.If bs o))

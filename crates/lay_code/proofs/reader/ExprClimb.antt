@@ -1,5 +1,5 @@
 -- Reading gets from what begins an expression to the expression itself, operator by operator, from the strongest on.
-use Rattle.std.proofs.Common.{◌≡◌, ℕ, zero, suc, ◌≤◌, ◌<◌, Bool, true, false, not, ◌&&◌, nat_le, Some, None, if◌then◌else◌, refl, sym, ap, subst, ◌∙◌, arith, le-leb, eq-eqb, leb-true}
+use Rattle.std.proofs.Common.{◌≡◌, ℕ, zero, suc, ◌≤◌, ◌<◌, Bool, true, false, not, ◌&&◌, nat_le, Some, None, if◌then◌else◌, inl, refl, sym, ap, subst, ◌∙◌, arith, le-leb, eq-eqb, leb-true}
 use Rattle.std.specs.Prelude.{◌==◌}
 use Rattle.std.proofs.lemmas.Bool.{and_parts, lt-leb, leb-false}
 use Rattle.lay_form.specs.Spelled.{Spells}
@@ -20,6 +20,7 @@ use Rattle.lay_code.proofs.reader.ExprHeads.{Headed, IsHead}
 use Rattle.lay_code.proofs.reader.ExprOperators.{not_at_level}
 use Rattle.lay_code.proofs.reader.ExprOperatorsTails.{BeforeOp, before_parts}
 use Rattle.lay_code.proofs.reader.ExprReads.{head_at}
+use Rattle.lay_code.proofs.reader.Followed.{Ended}
 
 -- A part of what begins a statement begins one.
 part_begins : (b : Bool) → begins (part_if b) ≡ b
@@ -89,7 +90,7 @@ module _ (within : ExprWithin) (place : Place) where
     pub spelled : Spells x.form depth ts mid
     pub inside : x.within place.no_struct first ≡ true
     pub weak : strength mid ≤ level
-    pub tail : tail_follows x.tail place.no_struct mid ≡ true
+    pub tail : Ended x.tail x.form place.no_struct depth ts mid
     pub struct_free : not (place.no_struct && x.is_struct) ≡ true
 
   -- ---- what reading has got to
@@ -212,7 +213,7 @@ module _ (within : ExprWithin) (place : Place) where
       inside = subst (λ b. (about_expr x).within place.no_struct b ≡ true) (part_begins first)
           (and_parts (stands (about_expr x) (before_op (suc operator) place.no_struct first angle)) _ o.there).1;
       weak = omega (arith, o.next);
-      tail = o.tail;
+      tail = inl o.tail;
       struct_free = parts.struct_free;
     })
 

@@ -24,14 +24,16 @@ use Rattle.lay_code.specs.declared.exprs.Step.{Step}
 use Rattle.lay_code.specs.declared.operators.Op.{Op}
 use Rattle.lay_code.specs.declared.operators.Op.TheVariants as op
 use Rattle.lay_code.proofs.nodes.ExprsLaws.{behind_op, before_op as target_of, expr_chain_is, expr_cast_is, expr_range_is, expr_assign_is, expr_postfix_is}
+use Rattle.lay_code.proofs.reader.BodilessKinds.{cast_bare, postfix_bare}
 use Rattle.lay_code.proofs.reader.ExprClimb.{Reach, Known, Reaches, Operand, reach_on, operand_reached, operand_stands}
 use Rattle.lay_code.proofs.reader.ExprHeadsJumps.{range_read}
 use Rattle.lay_code.proofs.reader.ExprOperators.{AtOp, at_op, as_strength, as_binary, as_tail, step_there, step_tail, no_step}
-use Rattle.lay_code.proofs.reader.ExprOperatorsRows.{before_tail, operands_spelled, operands_read, first_of, row_of, row_targets, row_spelled, target_parts, set_no_angle, row_placed, row_tail, row_chains, is_as, types_spelled, types_read}
+use Rattle.lay_code.proofs.reader.ExprOperatorsRows.{before_tail, chain_before, first_sign, operands_read, first_of, row_before, row_of, row_targets, target_parts, set_no_angle, row_placed, row_chains, is_as, types_spelled, types_read}
 use Rattle.lay_code.proofs.reader.ExprOperatorsTails.{before_parts, high_refuses}
 use Rattle.lay_code.proofs.reader.ExprQuiet.{tail_fits}
 use Rattle.lay_code.proofs.reader.ExprReads.{ExprReads}
 use Rattle.lay_code.proofs.reader.ExprSteps.{step_begun, postfix_parts, postfix_read}
+use Rattle.lay_code.proofs.reader.Followed.{SpelledBefore, bodiless_tail, node_parts, part_parts, takes, unspelled}
 
 -- Behind an operator that is no step, what begins a statement begins a part of it.
 starts_on : (first begins step dot : Bool) → step ≡ false → first ≡ begins → first ≡ (begins && not (step && dot))
@@ -53,10 +55,10 @@ module _ (within : ExprWithin) (place : Place) (top : ℕ) (Begun : Tokens → E
   told : (x : Expr) (F : ExprLayer) → about_expr x ≡ expr_facts F → By x (expr_facts F) → By x (about_expr x)
   told x F e f = subst (By x) (sym e) f
 
-  -- what is spelled within a level
-  layer : (F : ExprLayer) (ts mid : Tokens) → Spells (expr_facts F).form (suc depth) ts mid
-      → Spells (inside F) depth ts mid
-  layer F ts mid s = subst (λ us. Spells (inside F) depth ts us) s.2 s.1
+  -- what is spelled within a level, before what may follow it
+  layer : (F : ExprLayer) (level : ℕ) (first : Bool) (ts mid : Tokens) → Known within place level (suc depth) (expr_facts F) first ts mid
+      → SpelledBefore (tail_of F) (inside F) place.no_struct depth ts mid
+  layer F level first ts mid k = node_parts (tail_of F) place.no_struct depth (inside F) ts mid (k.spelled, k.tail)
 
   -- an operand before an operator that is no step
   before_operator : (operator : ℕ) (x : Expr) (first angle : Bool) (ts mid : Tokens) → place.level ≤ operator → (operator == 13) ≡ false
@@ -121,10 +123,8 @@ module _ (within : ExprWithin) (place : Place) (top : ℕ) (Begun : Tokens → E
       let operator = op_level y.0 in
       let angle = is_angle_op y.0 in
       let asked = before_op (suc operator) place.no_struct first angle in
-      let t = layer (Expr-F.Chain F os) ts mid k.spelled in
-      let parts = t.1 in
+      let parts = chain_before place.no_struct depth x y ys ts mid (layer (Expr-F.Chain F os) level first ts mid k) in
       let at = parts.0 in
-      let rows = operands_spelled depth (y ∷ ys) at mid (subst (λ us. Spells (operands_form os) depth at us) t.2 parts.2) in
       let w3 =
       and_parts (is_chain_level operator && may_chain operator os && placed F asked)
       (operands_placed operator place.no_struct os) k.inside in
@@ -132,7 +132,7 @@ module _ (within : ExprWithin) (place : Place) (top : ℕ) (Begun : Tokens → E
       let w1 = and_parts (is_chain_level operator) (may_chain operator os) w2.0 in
       let most = leb-true operator 10 (and_parts (nat_le 2 operator) (nat_le operator 10) w1.0).1 in
       let le = leb-true level operator k.high in
-      let sign = rows.1 in
+      let sign = first_sign depth place.no_struct y ys at mid parts.2 in
       let a = at_op operator y.0 at sign.0 (eq-eqb operator operator refl) sign.1 in
       let angled : is_angle at ≡ angle = ap angle_by a.binary in
       let b =
@@ -141,7 +141,7 @@ module _ (within : ExprWithin) (place : Place) (top : ℕ) (Begun : Tokens → E
       let off : (operator == 13) ≡ false = ne_eqb operator 13 (λ f. absurd (omega (arith, most, f))) in
       let starts = k.starts (lt-leb 14 operator (omega (arith, most))) in
       let o = before_operator operator x first angle ts at (omega (arith, k.allowed, le)) off starts w2.1 parts.1 a.strength angled tail in
-      let found = operands_read depth within reads operator place.no_struct y ys at mid rows w3.1 w1.1 (omega (arith, k.weak, le)) k.tail in
+      let found = operands_read depth within reads operator place.no_struct y ys at mid parts.2 w3.1 w1.1 (omega (arith, k.weak, le)) in
       made_reached operator x (expr.Chain x (y ∷ ys)) level first angle ts at mid o (below w1.0) k.allowed le k.weak (λ n h.
       (suc (max n (deepest found.0)), omega (arith, h, found.2), chain_made operator x n (y ∷ ys) found.0 at mid w1.0 found.1 found.3)))
 
@@ -162,7 +162,9 @@ module _ (within : ExprWithin) (place : Place) (top : ℕ) (Begun : Tokens → E
       let F = about_expr x in
       let types = map about_type (y ∷ ys) in
       let asked = before_op 12 place.no_struct first false in
-      let t = layer (Expr-F.Cast F (y ∷ ys)) ts mid k.spelled in
+      let C : ExprLayer = Expr-F.Cast F (y ∷ ys) in
+      let before = layer C level first ts mid k in
+      let t = before.0 in
       let at = t.0 in
       let rows = types_spelled depth (y ∷ ys) at mid t.2 in
       let sign = rows.1 in
@@ -177,7 +179,8 @@ module _ (within : ExprWithin) (place : Place) (top : ℕ) (Begun : Tokens → E
       let o =
       before_operator 11 x first false ts at (omega (arith, k.allowed, le)) refl (k.starts refl) w1.1 t.1
       (as_strength at sign.0 sign.1) angled tail in
-      let follow = (tail_fits (tail_of (Expr-F.Cast F (y ∷ ys))) place.no_struct mid k.tail).refuses in
+      let fits = bodiless_tail (tail_of C) (inside C) place.no_struct depth ts mid (cast_bare F y ys) before.1 in
+      let follow = (tail_fits (tail_of C) place.no_struct mid fits).refuses in
       let found = types_read depth within reads y ys at mid rows w2.1 (omega (arith, k.weak, le)) follow in
       made_reached 11 x (expr.Cast x (y ∷ ys)) level first false ts at mid o below k.allowed le k.weak (λ n h.
       (suc (max n (deepest found.0)), omega (arith, h, found.2), cast_made x n (y ∷ ys) found.0 at mid found.1 found.3)))
@@ -196,6 +199,11 @@ module _ (within : ExprWithin) (place : Place) (top : ℕ) (Begun : Tokens → E
   dots_at true f at mid s = (s.0, at_op 1 op.UptoEq at s.0 refl (bit_alone (Operator (codes "..=")) at s.0 s.1))
   dots_at false f at mid s = (s.0, at_op 1 op.Upto at s.0 refl (bit_alone (Operator (codes "..")) at s.0 s.1))
 
+  -- It takes a token at least.
+  dots_taken : (inclusive : Bool) (f : Form) → takes (Piece (dots inclusive) f) ≡ true
+  dots_taken true f = refl
+  dots_taken false f = refl
+
   -- It is neither `<` nor `<<`.
   dots_no_angle : (inclusive : Bool) → is_angle_op (dots_op inclusive) ≡ false
   unfolding dots_op
@@ -211,9 +219,11 @@ module _ (within : ExprWithin) (place : Place) (top : ℕ) (Begun : Tokens → E
       let F = about_expr x in
       let E = option_map about_expr end in
       let asked = before_op 2 place.no_struct first false in
-      let t = layer (Expr-F.Range (Some F) inclusive E) ts mid k.spelled in
+      let behind : Form = Piece (dots inclusive) (end_form E Done) in
+      let t = part_parts (tail_of_end E) place.no_struct depth F.form behind (λ us e. unspelled behind (dots_taken inclusive (end_form E Done)) depth us e)
+      ts mid (layer (Expr-F.Range (Some F) inclusive E) level first ts mid k) in
       let at = t.0 in
-      let d = dots_at inclusive (end_form E Done) at mid t.2 in
+      let d = dots_at inclusive (end_form E Done) at mid t.2.0 in
       let a = d.1 in
       let w1 = and_parts (placed F asked) (end_placed E inclusive place.no_struct) k.inside in
       let b = before_parts F 2 place.no_struct first false (and_parts _ (F.within place.no_struct (begins (part_if first))) w1.0).0 in
@@ -221,10 +231,8 @@ module _ (within : ExprWithin) (place : Place) (top : ℕ) (Begun : Tokens → E
       let tail = before_tail F 2 place.no_struct first false b at (dots_op inclusive) a.binary angled in
       let le = leb-true level 1 k.high in
       let o = before_operator 1 x first false ts at (omega (arith, k.allowed, le)) refl (k.starts refl) w1.0 t.1 a.strength angled tail in
-      let follow = tail_fits (tail_of_end E) place.no_struct mid k.tail in
       made_reached 1 x (expr.Range (Some x) inclusive end) level first false ts at mid o below k.allowed le k.weak (λ n h.
-      range_read depth within reads (Some x) n h inclusive end place.no_struct at mid t.2 w1.1 follow
-      (le-leb (strength mid) 1 (omega (arith, k.weak, le)))))
+      range_read depth within reads (Some x) n h inclusive end place.no_struct at mid t.2 w1.1 (omega (arith, k.weak, le))))
 
   -- ---- assignments
 
@@ -246,9 +254,9 @@ module _ (within : ExprWithin) (place : Place) (top : ℕ) (Begun : Tokens → E
       (λ level first ts mid k.
       let F = about_expr y.0 in
       let targets = map target_of (y ∷ more) in
-      let t = row_spelled depth y more x ts mid (layer (Expr-F.Assign targets (about_expr x)) ts mid k.spelled) in
+      let t = row_before place.no_struct depth y more x ts mid (layer (Expr-F.Assign targets (about_expr x)) level first ts mid k) in
       let at = t.0 in
-      let sign = t.2.1 in
+      let sign = first_sign depth place.no_struct (y.1, first_of more x) (row_of more x) at mid t.2 in
       let w2 =
       and_parts (is_there targets && targets_placed targets place.no_struct first)
       (placed (about_expr x) (plain 1 place.no_struct)) k.inside in
@@ -261,9 +269,8 @@ module _ (within : ExprWithin) (place : Place) (top : ℕ) (Begun : Tokens → E
       let le = leb-true level 0 k.high in
       let o =
       before_operator 0 y.0 first false ts at (omega (arith, k.allowed, le)) refl (k.starts refl) p.target t.1 a.strength angled tail in
-      let follow = subst (λ (z : Tail). tail_follows z place.no_struct mid ≡ true) (sym (row_tail y more x)) k.tail in
       let found = operands_read depth within reads 0 place.no_struct (y.1, first_of more x) (row_of more x) at mid t.2
-      (row_placed place.no_struct first y more x w1.1 w2.1) (row_chains y more x) (omega (arith, k.weak, le)) follow in
+      (row_placed place.no_struct first y more x w1.1 w2.1) (row_chains y more x) (omega (arith, k.weak, le)) in
       made_reached 0 y.0 (expr.Assign (y ∷ more) x) level first false ts at mid o below k.allowed le k.weak (λ n h.
       (suc (max n (deepest found.0)), omega (arith, h, found.2), assign_made y more x n found.0 at mid found.1 found.3)))
 
@@ -280,7 +287,9 @@ module _ (within : ExprWithin) (place : Place) (top : ℕ) (Begun : Tokens → E
       let fs = map about_step (s ∷ ss) in
       let part = first && not (is_dotted (about_step s).kind) in
       let asked = before_op 14 place.no_struct part false in
-      let t = postfix_parts depth within reads x (s ∷ ss) ts mid (layer (Expr-F.Postfix F fs) ts mid k.spelled) in
+      let P : ExprLayer = Expr-F.Postfix F fs in
+      let before = layer P level first ts mid k in
+      let t = postfix_parts depth within reads x (s ∷ ss) ts mid before.0 in
       let at = t.0 in
       let rows = t.2 in
       let begun = step_begun s depth at rows.0 rows.1 in
@@ -306,7 +315,8 @@ module _ (within : ExprWithin) (place : Place) (top : ℕ) (Begun : Tokens → E
         tail = step_tail F.tail place.no_struct at begun.begins b.shut refuses;
       } in
       let no_more = no_step mid (omega (arith, k.weak, le)) in
-      let follow = (tail_fits (tail_of_steps fs) place.no_struct mid k.tail).refuses in
+      let fits = bodiless_tail (tail_of P) (inside P) place.no_struct depth ts mid (postfix_bare F s ss) before.1 in
+      let follow = (tail_fits (tail_of_steps fs) place.no_struct mid fits).refuses in
       let found = postfix_read depth within reads x s ss at mid rows steps w2.1 no_more follow in
       made_reached 13 x (expr.Postfix x (s ∷ ss)) level part false ts at mid o below k.allowed le k.weak (λ n h.
       (suc (max n found.0), omega (arith, h, found.1), found.2 n)))

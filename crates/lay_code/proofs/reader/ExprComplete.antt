@@ -6,7 +6,7 @@ use Rattle.lay_node.specs.Ahead.{Tokens}
 use Rattle.lay_node.proofs.reader.Exact.{IsRead}
 use Rattle.lay_code.specs.Operators.{is_dot_or_try, strength}
 use Rattle.lay_code.specs.nodes.Code.{about_arm, about_block, about_branch, about_condition, about_expr, about_field_expr, about_step}
-use Rattle.lay_code.specs.nodes.Exprs.{ExprFacts, stands, placed, root_follows, follows, tail_follows, level_of, level_of_chain, is_block_like, expr_facts, ExprLayer}
+use Rattle.lay_code.specs.nodes.Exprs.{ExprFacts, Followed, stands, placed, root_follows, level_of, level_of_chain, is_block_like, expr_facts, ExprLayer}
 use Rattle.lay_code.specs.nodes.Places.{begins, is_whole}
 use Rattle.lay_code.specs.reader.Exprs.{climb, is_ended, accepted, expr_by}
 use Rattle.lay_code.specs.reader.Within.{ExprWithin}
@@ -33,6 +33,7 @@ use Rattle.lay_code.proofs.reader.ExprOperatorsTails.{stands_parts}
 use Rattle.lay_code.proofs.reader.ExprReads.{ExprReads, head_at}
 use Rattle.lay_code.proofs.reader.ExprSoundLevel.{layer_of}
 use Rattle.lay_code.proofs.reader.ExprSoundOperators.{op_low}
+use Rattle.lay_code.proofs.reader.Followed.{Ended, ended_of, root_of}
 
 -- The levels are 14 at most.
 level_most : (x : Expr) → (about_expr x).level ≤ 14
@@ -134,7 +135,7 @@ module _ (fronts : Fronts) (most : ℕ) (within : ExprWithin) (reads : (depth : 
         (for_head fronts depth within here label pat x b)
     reached _ (IsClosure is_async moves params x) =
         alone (expr.Closure is_async moves params x) (Expr-F.Closure is_async moves params (about_expr x)) (expr_closure_is is_async moves params x) refl
-        (closure_head_read fronts depth within here is_async moves params x)
+        (closure_head_read fronts depth within lower is_async moves params x)
     reached _ (IsTypedClosure is_async moves params output b) =
         alone (expr.TypedClosure is_async moves params output b) (Expr-F.TypedClosure is_async moves params output (about_block b))
         (expr_typed_closure_is is_async moves params output b) refl
@@ -230,16 +231,16 @@ module _ (fronts : Fronts) (most : ℕ) (within : ExprWithin) (reads : (depth : 
   -- an expression with what is within it read at every lower depth
   pub read_one : (depth : ℕ) → depth ≤ most → (x : Expr) (ts rest : Tokens) → Spells (about_expr x).form (suc depth) ts rest
       → placed (about_expr x) place ≡ true
-      → follows (about_expr x) place rest ≡ true → IsRead (suc depth) (expr_by within (suc most) place) x ts rest
+      → Followed (about_expr x) place (suc depth) ts rest → IsRead (suc depth) (expr_by within (suc most) place) x ts rest
   read_one depth le x ts rest s w f =
       let F = about_expr x in
       let p = and_parts (stands F place) (F.within place.no_struct (begins place.start)) w in
-      let q = and_parts (root_follows F place rest) (tail_follows F.tail place.no_struct rest) f in
-      by (is_whole place.start && F.block_like) refl p.0 p.1 q.0 q.1
+      by (is_whole place.start && F.block_like) refl p.0 p.1 (root_of F place (suc depth) ts rest f) (ended_of F place (suc depth) ts rest f)
     where
       by : (b : Bool) → (is_whole place.start && (about_expr x).block_like) ≡ b → stands (about_expr x) place ≡ true
           → (about_expr x).within place.no_struct (begins place.start) ≡ true → root_follows (about_expr x) place rest ≡ true
-          → tail_follows (about_expr x).tail place.no_struct rest ≡ true → IsRead (suc depth) (expr_by within (suc most) place) x ts rest
+          → Ended (about_expr x).tail (about_expr x).form place.no_struct (suc depth) ts rest
+          → IsRead (suc depth) (expr_by within (suc most) place) x ts rest
       by true b m v r t =
           let parts = and_parts (is_whole place.start) (about_expr x).block_like b in
           let no_dot : not (is_dot_or_try rest) ≡ true = sym (rw b refl) ∙ r in

@@ -28,7 +28,7 @@ use Rattle.lay_code.specs.Operands.{ExprLead, ByPath, ByUnderscore, ByParen, ByB
 use Rattle.lay_code.specs.Operators.{op_text, op_level}
 use Rattle.lay_code.specs.nodes.Code.{about_arm, about_block, about_branch, about_condition, about_expr, about_field_expr, about_step}
 use Rattle.lay_code.specs.nodes.CodeFacts.{BranchFacts}
-use Rattle.lay_code.specs.nodes.Exprs.{ExprFacts, placed, expr_forms, tuple_form, base_form, operands_form, types_form, prefix_bits, prefixes_form, end_form, targets_form, label_form, operand_form, level_of_chain, next_is_angle, is_chain_level, may_chain, operands_placed, targets_placed, end_placed, base_placed, first_step, is_tuple_index, is_dotted, are_steps, types_good, methods, steps_form, group_if, inside, lead_of, label_or, within_of, expr_facts, ExprLayer, labelled, more_branches, branches_form, else_branch_form, arm_forms, behind_async, closure_param, closure_head, bar, branches_good, may_be_good}
+use Rattle.lay_code.specs.nodes.Exprs.{ExprFacts, placed, expr_forms, tuple_form, base_form, operands_form, types_form, prefix_bits, prefixes_form, end_form, targets_form, label_form, operand_form, level_of_chain, next_is_angle, is_chain_level, may_chain, operands_placed, targets_placed, end_placed, base_placed, first_step, is_tuple_index, is_dotted, are_steps, types_good, methods, steps_form, group_if, inside, lead_of, label_or, within_of, expr_facts, ExprLayer, labelled, more_branches, branches_form, else_branch_form, arm_forms, behind_async, body_braces, closure_body, closure_param, closure_head, bar, branches_good, may_be_good}
 use Rattle.lay_code.specs.nodes.Places.{plain, begins, before_op}
 use Rattle.lay_code.specs.declared.blocks.Block.{Block}
 use Rattle.lay_code.specs.declared.exprs.ClosureParam.{ClosureParam}
@@ -388,7 +388,7 @@ module _ (depth : ℕ) (ih : AllBegin depth) (no_struct first : Bool) (ts rest :
       (λ t. grouped_word_begun (codes "for") (λ us. refl) (Blank ∷ []) f g t) label s)
   begun _ (IsClosure is_async moves params x) =
       told (expr.Closure is_async moves params x) (Expr-F.Closure is_async moves params (about_expr x)) (expr_closure_is is_async moves params x) (λ s w.
-      closure_begun is_async moves params (Piece (Blank ∷ []) (Part (about_expr x).form Done)) s)
+      closure_begun is_async moves params (Piece (Blank ∷ []) (closure_body (body_braces (about_expr x)) (about_expr x).form)) s)
   begun _ (IsTypedClosure is_async moves params output b) =
       told (expr.TypedClosure is_async moves params output b) (Expr-F.TypedClosure is_async moves params output (about_block b))
       (expr_typed_closure_is is_async moves params output b) (λ s w.

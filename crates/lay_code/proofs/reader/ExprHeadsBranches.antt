@@ -1,5 +1,5 @@
 -- Branches and matches are read where they are spelled.
-use Rattle.std.proofs.Common.{◌≡◌, ℕ, suc, ◌≤◌, ◌<◌, max, true, false, not, ◌&&◌, List, [], ◌∷◌, ◌++◌, map, length, drop, codes, Option, option_map, Some, None, is_some, refl, arith}
+use Rattle.std.proofs.Common.{◌≡◌, ℕ, suc, ◌≤◌, ◌<◌, max, Bool, true, false, not, ◌&&◌, List, [], ◌∷◌, ◌++◌, map, length, drop, codes, Option, option_map, Some, None, is_some, refl, arith}
 use Rattle.std.proofs.lemmas.Bool.{and_parts, not-true}
 use Rattle.lay_piece.specs.Forms.{opening}
 use Rattle.lay_piece.specs.declared.kind.Delim.TheVariants.{Brace}
@@ -23,7 +23,7 @@ use Rattle.lay_node.proofs.reader.Exact.{IsRead}
 use Rattle.lay_node.proofs.reader.Loops.{Turn, repeat_complete}
 use Rattle.lay_node.proofs.reader.TypesCompleteParts.{keyword_there, one_left}
 use Rattle.lay_code.specs.nodes.Code.{about_arm, about_block, about_branch, about_expr}
-use Rattle.lay_code.specs.nodes.Exprs.{arm_forms, arms_good, branch_head, branches_form, branches_good, else_branch_form, may_be_good, more_branches, placed}
+use Rattle.lay_code.specs.nodes.Exprs.{ExprLayer, arm_forms, arms_good, branch_head, branches_form, branches_good, else_branch_form, inside, may_be_good, more_branches, placed, tail_of}
 use Rattle.lay_code.specs.nodes.Places.{plain}
 use Rattle.lay_code.specs.reader.Blocks.{arm_by, block_by, branch_by}
 use Rattle.lay_code.specs.reader.Exprs.{begins_else_if, block_word_expr, if_expr, match_expr}
@@ -37,10 +37,13 @@ use Rattle.lay_code.specs.declared.exprs.Expr.TheVariants as expr
 use Rattle.lay_code.proofs.nodes.ExprsLaws.{expr_if_is, expr_match_is}
 use Rattle.lay_code.proofs.reader.ArmsComplete.{arms_turned}
 use Rattle.lay_code.proofs.reader.BlockReads.{Fronts}
+use Rattle.lay_code.proofs.reader.BodilessKinds.{if_bare}
 use Rattle.lay_code.proofs.reader.BlocksComplete.{brace_ends, block_read, soft_at, turns_read}
 use Rattle.lay_code.proofs.reader.BranchesComplete.{before_block, branch_read}
 use Rattle.lay_code.proofs.reader.ExprHeads.{IsHead, head_of}
+use Rattle.lay_code.proofs.reader.ExprQuiet.{tail_fits}
 use Rattle.lay_code.proofs.reader.ExprReads.{ExprReads}
+use Rattle.lay_code.proofs.reader.Followed.{Ended, bodiless_tail}
 
 module _ (fronts : Fronts) (depth : ℕ) (within : ExprWithin) (reads : ExprReads depth within) where
   -- ---- one branch
@@ -147,12 +150,18 @@ module _ (fronts : Fronts) (depth : ℕ) (within : ExprWithin) (reads : ExprRead
       let last = option_map about_block o in
       head_of depth within (expr.If branches o) (Expr-F.If bs last) (expr_if_is branches o) (λ no_struct first_flag ts rest h.
       let goods = and_parts (is_there bs && branches_good bs) (may_be_good last) h.inside in
-      by branches ts rest h.spelled goods.0 goods.1 (tail_is o rest h.tail.otherwise))
+      by branches ts rest h.spelled goods.0 goods.1 (tail_is branches o no_struct ts rest goods.0 h.tail))
     where
-      tail_is : (o : Option Block) (rest : Tokens) → not (not (is_some (option_map about_block o)) && first (is_keyword (codes "else")) rest) ≡ true
+      tail_is : (bs : List Branch) (o : Option Block) (no_struct : Bool) (ts rest : Tokens)
+          → (is_there (map about_branch bs) && branches_good (map about_branch bs)) ≡ true
+          → Ended (tail_of (Expr-F.If (map about_branch bs) (option_map about_block o))) (inside (Expr-F.If (map about_branch bs) (option_map about_block o)))
+          no_struct depth ts rest
           → not (not (is_some o) && first (is_keyword (codes "else")) rest) ≡ true
-      tail_is None rest e = e
-      tail_is (Some b) rest e = e
+      tail_is [] o no_struct ts rest g e = absurd (cc)
+      tail_is (b ∷ more) (Some c) no_struct ts rest g e = refl
+      tail_is (b ∷ more) None no_struct ts rest g e =
+          let layer : ExprLayer = Expr-F.If (map about_branch (b ∷ more)) None in
+          (tail_fits (tail_of layer) no_struct rest (bodiless_tail (tail_of layer) (inside layer) no_struct depth ts rest (if_bare b more) e)).otherwise
 
       by : (bs : List Branch) (ts rest : Tokens) → Spells (branches_form (map about_branch bs) (else_branch_form (option_map about_block o))) depth ts rest
           → (is_there (map about_branch bs) && branches_good (map about_branch bs)) ≡ true → may_be_good (option_map about_block o) ≡ true

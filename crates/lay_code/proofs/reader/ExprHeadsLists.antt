@@ -68,7 +68,7 @@ module _ (depth : ℕ) (within : ExprWithin) (reads : ExprReads depth within) wh
   -- An expression that ends there is read.
   pub free_read : (x : Expr) (ts rest : Tokens) → Here x ts rest → Free x ≡ true → ExprEnds false rest
       → IsRead depth (within.exprs FREE) x ts rest
-  free_read x ts rest s g e = reads.exprs FREE x ts rest s g (ends_follow (about_expr x) FREE rest e)
+  free_read x ts rest s g e = reads.exprs FREE x ts rest s g (inl (ends_follow (about_expr x) FREE rest e))
 
   -- It begins with nothing that closes a list.
   free_starts : (d : Delim) (x : Expr) (ts rest : Tokens) → Here x ts rest → Free x ≡ true

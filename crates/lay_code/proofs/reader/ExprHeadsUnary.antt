@@ -1,10 +1,10 @@
 -- Unary expressions are read where they are spelled: the operators one by one, and the operand behind the last of them.
-use Rattle.std.proofs.Common.{◌≡◌, ℕ, suc, ◌<◌, Bool, true, false, not, ◌&&◌, ◌||◌, nat_le, List, [], ◌∷◌, length, drop, codes, Some, is_some, inl, inr, refl, arith}
+use Rattle.std.proofs.Common.{◌≡◌, ℕ, suc, ◌≤◌, ◌<◌, leb-true, Bool, true, false, not, ◌&&◌, ◌||◌, nat_le, List, [], ◌∷◌, length, drop, codes, Some, is_some, inl, inr, refl, arith}
 use Rattle.std.proofs.lemmas.Bool.{and_parts, cases_Bool, not-true}
 use Rattle.lay_piece.specs.declared.kind.Kind.TheVariants.{Ident, Punct}
 use Rattle.lay_token.specs.declared.token.Token.{Token}
 use Rattle.lay_form.specs.Form.{Blank, Fixed, Form, Done, Part, keyword}
-use Rattle.lay_form.specs.Spelled.{IsOne, AreBits, Spells}
+use Rattle.lay_form.specs.Spelled.{IsOne, AreBits, Spells, Then}
 use Rattle.lay_node.specs.Ahead.{Tokens, first, tail, is_keyword}
 use Rattle.lay_node.specs.nodes.Types.{is_there}
 use Rattle.lay_node.proofs.Fronts.{one_front, one_shorter}
@@ -14,7 +14,7 @@ use Rattle.lay_node.proofs.reader.Loops.{Turn, repeat_complete}
 use Rattle.lay_node.proofs.reader.TypesCompleteParts.{none_left, none_right}
 use Rattle.lay_code.specs.Operators.{raw_by, amp_by, prefix_by, prefix, prefix_length, strength}
 use Rattle.lay_code.specs.nodes.Code.{about_expr}
-use Rattle.lay_code.specs.nodes.Exprs.{ExprFacts, Tail, stands, placed, begins_pointer, tail_follows, prefix_bits, prefixes_form, is_amp, ends_in_amp, is_prefix_lead}
+use Rattle.lay_code.specs.nodes.Exprs.{ExprFacts, Tail, stands, placed, begins_pointer, tail_follows, prefix_bits, prefixes_form, is_amp, ends_in_amp, is_prefix_lead, tail_of}
 use Rattle.lay_code.specs.nodes.Places.{plain}
 use Rattle.lay_code.specs.reader.Exprs.{one_prefix, unary_expr}
 use Rattle.lay_code.specs.reader.Within.{ExprWithin}
@@ -25,14 +25,16 @@ use Rattle.lay_code.specs.declared.exprs.Place.{Place}
 use Rattle.lay_code.specs.declared.operators.Prefix.{Prefix}
 use Rattle.lay_code.specs.declared.operators.Prefix.TheVariants as before
 use Rattle.lay_code.proofs.nodes.ExprsLaws.{expr_unary_is}
+use Rattle.lay_code.proofs.reader.BodilessKinds.{raw_bare}
 use Rattle.lay_code.proofs.reader.ExprFronts.{placed_begins}
 use Rattle.lay_code.proofs.reader.ExprHeads.{IsHead, head_of}
-use Rattle.lay_code.proofs.reader.ExprHeadsJumps.{plain_follows}
+use Rattle.lay_code.proofs.reader.ExprHeadsJumps.{OperandBefore, plain_followed}
 use Rattle.lay_code.proofs.reader.ExprHeadsRaw.{begins_raw, stands_level, expr_raw}
 use Rattle.lay_code.proofs.reader.ExprLeads.{expr_no_keyword, lead_no_prefix}
-use Rattle.lay_code.proofs.reader.ExprQuiet.{TailFits, fits_tail}
+use Rattle.lay_code.proofs.reader.ExprQuiet.{fits_tail, tail_fits}
 use Rattle.lay_code.proofs.reader.ExprReads.{ExprReads}
 use Rattle.lay_code.proofs.reader.ExprSoundLevel.{within_held}
+use Rattle.lay_code.proofs.reader.Followed.{Ended, SpelledBefore, bodiless_tail, ended_as, last_parts, piece_parts}
 
 -- ---- one operator
 
@@ -138,26 +140,46 @@ PrefixTurn = Turn (λ us. is_some (prefix us)) one_prefix
 prefix_turn : (p : Prefix) (ts rest : Tokens) → IsPrefix p ts rest → PrefixTurn p ts rest
 prefix_turn p ts rest r = (rw r.0 refl, rw (r.0, r.1) refl, r.2)
 
+-- an operator, spelled
+abbrev PrefixSpelled : Prefix → Tokens → Tokens → Type 0
+PrefixSpelled p ts rest = AreBits (prefix_bits p) ts rest
+
+-- They are spelled one behind the other, before the operand.
+prefixes_before : (ps : List Prefix) (t : Tail) (f : Form) (no_struct : Bool) (depth : ℕ) (ts rest : Tokens)
+    → SpelledBefore t (prefixes_form ps f) no_struct depth ts rest → Then (Rows PrefixSpelled ps) (SpelledBefore t f no_struct depth) ts rest
+prefixes_before [] t f no_struct depth ts rest s = (ts, refl, s)
+prefixes_before (p ∷ ps) t f no_struct depth ts rest s =
+    let one = piece_parts t no_struct depth (prefix_bits p) (prefixes_form ps f) ts rest s in
+    let more = prefixes_before ps t f no_struct depth one.0 rest one.2 in
+    (more.0, (one.0, one.1, more.1), more.2)
+
 -- The operators are read one by one, up to the operand.
-prefix_rows : (ps : List Prefix) (f : Form) (depth : ℕ) (ts rest : Tokens) → Spells (prefixes_form ps f) depth ts rest
-    → ((us : Tokens) → Spells f depth us rest → ends_in_amp ps ≡ true → amp_by us ≡ before.Amp)
-    → (mid : Tokens) × Rows PrefixTurn ps ts mid × Spells f depth mid rest
-prefix_rows [] f depth ts rest s stops = (ts, refl, s)
-prefix_rows (p ∷ []) f depth ts rest s stops =
-    (s.0, (s.0, prefix_turn p ts s.0 (prefix_read p ts s.0 s.1 (λ e. stops s.0 s.2 e)), refl), s.2)
-prefix_rows (p ∷ q ∷ ps) f depth ts rest s stops =
-    let t = s.2 in
-    let one = prefix_turn p ts s.0 (prefix_read p ts s.0 s.1 (λ e. prefix_stops q s.0 t.0 t.1)) in
-    let more = prefix_rows (q ∷ ps) f depth s.0 rest s.2 stops in
-    (more.0, (s.0, one, more.1), more.2)
+prefix_rows : (ps : List Prefix) (ts rest : Tokens) → Rows PrefixSpelled ps ts rest → (ends_in_amp ps ≡ true → amp_by rest ≡ before.Amp)
+    → Rows PrefixTurn ps ts rest
+prefix_rows [] ts rest r stops = r
+prefix_rows (p ∷ []) ts rest r stops =
+    (r.0, prefix_turn p ts r.0 (prefix_read p ts r.0 r.1 (λ e. rw r.2 (stops e))), r.2)
+prefix_rows (p ∷ q ∷ ps) ts rest r stops =
+    let t = r.2 in
+    let one = prefix_turn p ts r.0 (prefix_read p ts r.0 r.1 (λ e. prefix_stops q r.0 t.0 t.1)) in
+    (r.0, one, prefix_rows (q ∷ ps) r.0 rest t stops)
 
 -- ---- the operand
 
 -- the tail of the operand, which the operators before it only add to
-operand_fits : (t : Tail) (more no_struct : Bool) (ts : Tokens) → TailFits (record t { raw = t.raw || more }) no_struct ts
-    → TailFits t no_struct ts
-operand_fits t more no_struct ts f =
-    record { all = f.all; bare = f.bare; path = f.path; label = f.label; raw = less t.raw f.raw; otherwise = f.otherwise; refuses = f.refuses }
+operand_fits : (t : Tail) (more no_struct : Bool) (ts : Tokens) → tail_follows (record t { raw = t.raw || more }) no_struct ts ≡ true
+    → tail_follows t no_struct ts ≡ true
+operand_fits t more no_struct ts h =
+    let f = tail_fits (record t { raw = t.raw || more }) no_struct ts h in
+    fits_tail t no_struct ts (record {
+      all = f.all;
+      bare = f.bare;
+      path = f.path;
+      label = f.label;
+      raw = less t.raw f.raw;
+      otherwise = f.otherwise;
+      refuses = f.refuses;
+    })
   where
     less : (a : Bool) → not ((a || more) && begins_pointer ts) ≡ true → not (a && begins_pointer ts) ≡ true
     less true h = h
@@ -196,17 +218,30 @@ operand_stops x no_struct depth ts rest s g alone = elim (cases_Bool (begins_raw
 module _ (depth : ℕ) (within : ExprWithin) (reads : ExprReads depth within) where
   -- operators and an operand behind them
   unary_there : (ps : List Prefix) (x : Expr) (no_struct : Bool) (ts mid rest : Tokens) → Rows PrefixTurn ps ts mid
-      → Spells (about_expr x).form depth mid rest
+      → OperandBefore x no_struct depth mid rest
       → placed (about_expr x) (plain 12 no_struct) ≡ true → not (is_prefix_lead (about_expr x).lead) ≡ true
-      → nat_le (strength rest) 12 ≡ true
-      → tail_follows (about_expr x).tail no_struct rest ≡ true → IsRead (suc depth) (unary_expr within no_struct) (expr.Unary ps x) ts rest
+      → strength rest ≤ 12 → IsRead (suc depth) (unary_expr within no_struct) (expr.Unary ps x) ts rest
   unfolding unary_expr
-  unary_there ps x no_struct ts mid rest rows s g lead weak tail =
-      let b = placed_begins x (plain 12 no_struct) depth mid rest s g in
+  unary_there ps x no_struct ts mid rest rows s g lead weak =
+      let b = placed_begins x (plain 12 no_struct) depth mid rest s.0 g in
       let stops = lead_no_prefix mid (about_expr x).lead b.lead lead in
       let prefixes = repeat_complete one_prefix (λ us. is_some (prefix us)) ps ts mid rows stops in
-      let r = reads.exprs (plain 12 no_struct) x mid rest s g (plain_follows (about_expr x) 12 no_struct rest weak tail) in
+      let r = reads.exprs (plain 12 no_struct) x mid rest s.0 g (plain_followed (about_expr x) 12 no_struct depth mid rest weak s.1) in
       (suc r.0, omega (arith, r.1), rw (prefixes, r.2) refl)
+
+  -- Neither `const` nor `mut` stands behind `&raw`.
+  none_pointer : (ps : List Prefix) (x : Expr) (no_struct : Bool) (mid rest : Tokens) → ends_in_amp ps ≡ true → (about_expr x).is_raw ≡ true
+      → Ended (tail_of (Expr-F.Unary ps (about_expr x))) (about_expr x).form no_struct depth mid rest → begins_pointer rest ≡ false
+  none_pointer ps x no_struct mid rest a k e =
+      let t = tail_of (Expr-F.Unary ps (about_expr x)) in
+      let f = tail_fits t no_struct rest (bodiless_tail t (about_expr x).form no_struct depth mid rest (raw_bare x k) e) in
+      pointer_none (about_expr x).tail.raw (ends_in_amp ps) (about_expr x).is_raw a k f.raw
+    where
+      pointer_none : (a b c : Bool) → b ≡ true → c ≡ true → not ((a || (b && c)) && begins_pointer rest) ≡ true → begins_pointer rest ≡ false
+      pointer_none true true true e k h = not-true (begins_pointer rest) h
+      pointer_none false true true e k h = not-true (begins_pointer rest) h
+      pointer_none a true false e k h = absurd (cc)
+      pointer_none a false c e k h = absurd (cc)
 
   -- a unary expression
   pub unary_head : (ps : List Prefix) (x : Expr) → IsHead depth within (expr.Unary ps x)
@@ -216,17 +251,11 @@ module _ (depth : ℕ) (within : ExprWithin) (reads : ExprReads depth within) wh
       let place = plain 12 no_struct in
       let goods = and_parts (is_there ps && placed F place) (not (is_prefix_lead F.lead)) h.inside in
       let good = (and_parts (is_there ps) (placed F place) goods.0).1 in
-      let fits = operand_fits F.tail (ends_in_amp ps && F.is_raw) no_struct rest h.tail in
-      let stops : (us : Tokens) → Spells (Part F.form Done) depth us rest → ends_in_amp ps ≡ true → amp_by us ≡ before.Amp =
-      λ us s e. operand_stops x no_struct depth us rest (part_alone F.form depth us rest s) good
-      (λ k. pointer_none F.tail.raw (ends_in_amp ps) F.is_raw rest e k h.tail.raw) in
-      let r = prefix_rows ps (Part F.form Done) depth ts rest h.spelled stops in
-      unary_there ps x no_struct ts r.0 rest r.1 (part_alone F.form depth r.0 rest r.2) good goods.1 h.weak
-      (fits_tail F.tail no_struct rest fits))
-    where
-      pointer_none : (a b c : Bool) (us : Tokens) → b ≡ true → c ≡ true → not ((a || (b && c)) && begins_pointer us) ≡ true
-          → begins_pointer us ≡ false
-      pointer_none true true true us e k h = not-true (begins_pointer us) h
-      pointer_none false true true us e k h = not-true (begins_pointer us) h
-      pointer_none a true false us e k h = absurd (cc)
-      pointer_none a false c us e k h = absurd (cc)
+      let t = tail_of (Expr-F.Unary ps F) in
+      let p = prefixes_before ps t (Part F.form Done) no_struct depth ts rest (h.spelled, h.tail) in
+      let operand = last_parts t no_struct depth F.form p.0 rest p.2 in
+      let stops : ends_in_amp ps ≡ true → amp_by p.0 ≡ before.Amp =
+      λ e. operand_stops x no_struct depth p.0 rest operand.0 good (λ k. none_pointer ps x no_struct p.0 rest e k operand.1) in
+      let fits = operand_fits F.tail (ends_in_amp ps && F.is_raw) no_struct rest in
+      unary_there ps x no_struct ts p.0 rest (prefix_rows ps ts p.0 p.1 stops)
+      (ended_as t F.tail F.form no_struct depth p.0 rest fits operand) good goods.1 (leb-true (strength rest) 12 h.weak))

@@ -25,13 +25,17 @@ use Rattle.lay_node.proofs.reader.TypesCompleteParts.{one_alone, one_left, blank
 use Rattle.lay_node.proofs.reader.TypesCompletePaths.{path_read}
 use Rattle.lay_node.proofs.reader.TypesFronts.{follows_clear}
 use Rattle.lay_code.specs.Operands.{ByPath}
-use Rattle.lay_code.specs.nodes.Exprs.{label_form}
+use Rattle.lay_code.specs.nodes.Exprs.{ExprLayer, inside, label_form, tail_of}
 use Rattle.lay_code.specs.reader.Exprs.{path_expr, continue_expr, head_by}
 use Rattle.lay_code.specs.reader.Within.{ExprWithin}
 use Rattle.lay_code.specs.declared.blocks.Stmt.TheOpen.{Expr-F}
 use Rattle.lay_code.specs.declared.exprs.Expr.TheVariants as expr
 use Rattle.lay_code.proofs.nodes.ExprsLaws.{expr_lit_is, expr_path_is, expr_underscore_is, expr_call_is, expr_continue_is}
+use Rattle.lay_code.proofs.reader.BodilessKinds.{continue_bare}
+use Rattle.lay_code.proofs.reader.BodilessTypes.{path_bare}
 use Rattle.lay_code.proofs.reader.ExprHeads.{IsHead, head_of}
+use Rattle.lay_code.proofs.reader.ExprQuiet.{tail_fits}
+use Rattle.lay_code.proofs.reader.Followed.{bodiless_tail}
 use Rattle.lay_code.proofs.reader.ExprReads.{ExprReads}
 
 -- ---- a label that may be there
@@ -87,9 +91,12 @@ module _ (depth : ℕ) (within : ExprWithin) (reads : ExprReads depth within) wh
   -- a path
   pub path_head : (p : Path) → IsHead depth within (expr.Path p)
   path_head p = head_of depth within (expr.Path p) (Expr-F.Path p) (expr_path_is p) (λ no_struct first_flag ts rest h.
-      let refuses = and_parts (not (is_op (codes "!") rest)) (may_follow (about_path p Code).refuses rest) h.tail.refuses in
+      let layer : ExprLayer = Expr-F.Path p in
+      let fits = tail_fits (tail_of layer) no_struct rest
+      (bodiless_tail (tail_of layer) (inside layer) no_struct depth ts rest (path_bare Code p) h.tail) in
+      let refuses = and_parts (not (is_op (codes "!") rest)) (may_follow (about_path p Code).refuses rest) fits.refuses in
       path_there p no_struct ts rest h.spelled h.inside refuses.1 (not-true (is_op (codes "!") rest) refuses.0)
-      (not-true (not no_struct && first (opens Brace) rest) h.tail.path))
+      (not-true (not no_struct && first (opens Brace) rest) fits.path))
 
   -- ---- `continue`
 
@@ -98,9 +105,12 @@ module _ (depth : ℕ) (within : ExprWithin) (reads : ExprReads depth within) wh
   unfolding continue_expr
   continue_head label = head_of depth within (expr.Continue label) (Expr-F.Continue label) (expr_continue_is label)
       (λ no_struct first_flag ts rest h.
+      let layer : ExprLayer = Expr-F.Continue label in
+      let fits = tail_fits (tail_of layer) no_struct rest
+      (bodiless_tail (tail_of layer) (inside layer) no_struct depth ts rest (continue_bare label) h.tail) in
       let s = h.spelled in
       let left = one_left kind.Ident (codes "continue") ts s.0 (bit_alone (keyword (codes "continue")) ts s.0 s.1) in
-      let r = label_read label Done depth s.0 rest s.2 (λ e. bare label s.0 rest e s.2 h.tail.label) in
+      let r = label_read label Done depth s.0 rest s.2 (λ e. bare label s.0 rest e s.2 fits.label) in
       (1, omega arith, rw (left, r.1, r.2) refl))
     where
       bare : (label : Option Lifetime) (mid rest : Tokens) → label ≡ None → Spells (label_form label Done) depth mid rest

@@ -85,7 +85,7 @@ none_binary ts h = rw h refl
 -- ---- an operator between operands, spelled
 
 -- An operator has a character at least.
-some_text : (o : Op) → is_there (op_text o) ≡ true
+pub some_text : (o : Op) → is_there (op_text o) ≡ true
 some_text op.Set = refl
 some_text _ = refl
 

@@ -2,6 +2,7 @@
 -- stand.
 use Rattle.std.proofs.Common.{◌≡◌, ℕ, Bool, true, false, not, ◌&&◌, ◌||◌, nat_le, List, [], ◌∷◌, codes, Option, Some, None, if◌then◌else◌, refl, inl, inr, arith, le-leb}
 use Rattle.std.specs.Prelude.{◌==◌, option_and_then}
+use Rattle.std.proofs.lemmas.Bool.{and_from}
 use Rattle.lay_piece.specs.Forms.{opening, closing}
 use Rattle.lay_piece.specs.declared.kind.Delim.{Delim}
 use Rattle.lay_piece.specs.declared.kind.Delim.TheVariants.{Paren, Bracket, Brace}
@@ -15,12 +16,11 @@ use Rattle.lay_node.proofs.Fronts.{one_front}
 use Rattle.lay_node.proofs.reader.HeadParts.{brace_quiet}
 use Rattle.lay_node.proofs.reader.Loops as loops
 use Rattle.lay_code.specs.Operands.{begins_operand, expr_lead_at}
-use Rattle.lay_code.specs.Operators.{all_ops, named, binary, is_dot_or_try, begins_step, strength_by, strength}
+use Rattle.lay_code.specs.Operators.{all_ops, named, binary, begins_step, strength}
 use Rattle.lay_code.specs.declared.exprs.Place.{Place}
-use Rattle.lay_code.specs.declared.operators.Op.{Op}
-use Rattle.lay_code.specs.nodes.Exprs.{Tail, ExprFacts, begins_pointer, tail_follows, follows}
-use Rattle.lay_code.specs.nodes.Places.{is_whole}
+use Rattle.lay_code.specs.nodes.Exprs.{Tail, ExprFacts, begins_pointer, tail_follows, follows, root_follows}
 use Rattle.lay_code.proofs.reader.ExprLeads.{one_lead, comma_lead, semicolon_lead}
+use Rattle.lay_code.proofs.reader.Followed.{weak_root}
 
 -- Nothing goes on with an expression there, nor with what it ends in. The flag says that no struct literal may stand there.
 pub record ExprEnds (no_struct : Bool) (ts : Tokens) : Type 0 where
@@ -81,30 +81,9 @@ ends_tail t no_struct ts e = fits_tail t no_struct ts (record {
     or_true true = refl
     or_true false = refl
 
--- Where nothing goes on, neither `.` nor `?` stands.
-pub weak_no_dot : (ts : Tokens) → strength ts ≡ 0 → is_dot_or_try ts ≡ false
-unfolding strength
-weak_no_dot ts h = by (binary ts) h
-  where
-    step : (a b c : Bool) → ◌≡◌ {A = ℕ} (if a then 12 else (if b || c then 14 else 0)) 0 → b ≡ false
-    step true b c e = absurd (cc)
-    step false true c e = absurd (cc)
-    step false false c e = refl
-
-    by : (o : Option Op) → strength_by o ts ≡ 0 → is_dot_or_try ts ≡ false
-    by (Some o) e = absurd (cc)
-    by None e = step (first (is_keyword (codes "as")) ts) (is_dot_or_try ts) (first (opens Paren) ts || first (opens Bracket) ts) e
-
 pub ends_follow : (x : ExprFacts) (place : Place) (ts : Tokens) → ExprEnds place.no_struct ts → follows x place ts ≡ true
 ends_follow x place ts e =
-    let low : nat_le (strength ts) place.level ≡ true = le-leb (strength ts) place.level (omega (arith, e.weak)) in
-    let no_dot : not (is_dot_or_try ts) ≡ true = rw (weak_no_dot ts e.weak) refl in
-    rw (by (is_whole place.start && x.block_like) no_dot low) (ends_tail x.tail place.no_struct ts e)
-  where
-    by : (b : Bool) → not (is_dot_or_try ts) ≡ true → nat_le (strength ts) place.level ≡ true
-        → (if b then not (is_dot_or_try ts) else nat_le (strength ts) place.level) ≡ true
-    by true n l = n
-    by false n l = l
+    and_from (root_follows x place ts) (tail_follows x.tail place.no_struct ts) (weak_root x place ts e.weak) (ends_tail x.tail place.no_struct ts e)
 
 -- ---- what stands there
 

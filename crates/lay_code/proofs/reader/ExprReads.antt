@@ -13,7 +13,7 @@ use Rattle.lay_node.proofs.reader.PatternsFronts.{Fits}
 use Rattle.lay_node.proofs.reader.TypesComplete as types
 use Rattle.lay_code.specs.Operands.{expr_lead_at}
 use Rattle.lay_code.specs.nodes.Code.{about_block, about_expr, about_item}
-use Rattle.lay_code.specs.nodes.Exprs.{follows, placed}
+use Rattle.lay_code.specs.nodes.Exprs.{Followed, follows, placed}
 use Rattle.lay_code.specs.nodes.Places.{plain}
 use Rattle.lay_code.specs.reader.Conditions.{alone, condition_by}
 use Rattle.lay_code.specs.reader.Exprs.{head_by}
@@ -26,7 +26,7 @@ use Rattle.lay_code.specs.declared.exprs.Place.{Place}
 abbrev pub ReadsExprs : ℕ → ExprWithin → Type 0
 ReadsExprs depth within =
     (place : Place) (x : Expr) (ts rest : Tokens) → Spells (about_expr x).form depth ts rest → placed (about_expr x) place ≡ true
-    → follows (about_expr x) place rest ≡ true → IsRead depth (within.exprs place) x ts rest
+    → Followed (about_expr x) place depth ts rest → IsRead depth (within.exprs place) x ts rest
 
 -- What is one level deeper is read.
 pub record ExprReads (depth : ℕ) (within : ExprWithin) : Type 0 where

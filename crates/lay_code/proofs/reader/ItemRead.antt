@@ -301,7 +301,7 @@ module _ (fronts : Fronts) (heads : HeadsComplete) (at : Site) (depth : ℕ) (wi
   value_there x (Some y) ts end rest s g o =
       let q = equals_operator ts s.0 s.1 in
       let spelled = part_alone (about_expr y).form depth s.0 end s.2 in
-      let r = code.exprs FREE y s.0 end spelled g (ends_follow (about_expr y) FREE end (semicolon_ends_expr false end rest o)) in
+      let r = code.exprs FREE y s.0 end spelled g (inl (ends_follow (about_expr y) FREE end (semicolon_ends_expr false end rest o))) in
       (quiet_value x ts (equals_quiet ts q.0) (rw (op_first 61 [] ts q.0).3 refl), (r.0, r.1, rw (q.0, q.1, r.2) refl))
 
   value_lead : (x : ValueHead) (ts rest : Tokens) → Spells (about_value_head x).form depth ts rest → is_value_head x ≡ true → item_lead ts ≡ OfValue

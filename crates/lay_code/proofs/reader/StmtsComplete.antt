@@ -133,7 +133,7 @@ module _ (fronts : Fronts) (depth : ℕ) (within : ExprWithin) (reads : ExprRead
   value_read (Some x) ts rest s g none fits =
       let o = equals_operator ts s.0 s.1 in
       let here = part_alone (about_expr x).form depth s.0 rest s.2 in
-      let r = reads.exprs FREE x s.0 rest here g (fits x s.0 refl here) in
+      let r = reads.exprs FREE x s.0 rest here g (inl (fits x s.0 refl here)) in
       (r.0, r.1, rw (o.0, o.1, r.2) refl)
 
   -- a block behind an `else`, or none
@@ -319,12 +319,12 @@ module _ (fronts : Fronts) (depth : ℕ) (within : ExprWithin) (reads : ExprRead
           → placed (about_expr x) statement ≡ true → ExprAhead us × IsRead depth (expr_stmt within attrs) (stmt.Expr attrs x ended) us rest
       by true us at t e b w =
           let o : IsOne Punct (codes ";") at rest = piece_bit (Fixed Punct (codes ";")) depth at rest e in
-          let r = reads.exprs statement x us at t w (ends_follow (about_expr x) statement at (semicolon_ends_expr false at rest o)) in
+          let r = reads.exprs statement x us at t w (inl (ends_follow (about_expr x) statement at (semicolon_ends_expr false at rest o))) in
           (fronts.exprs x depth us at t w (λ h. semicolon_no_item at rest o), (r.0, r.1, ended_made attrs x r.0 us at rest r.2 o))
       by false us at t e b w =
           let q = b refl in
           let here : Spells (about_expr x).form depth us rest = subst (λ vs. Spells (about_expr x).form depth us vs) e t in
-          let r = reads.exprs statement x us rest here w (unended_fits x rest q.0 q.1) in
+          let r = reads.exprs statement x us rest here w (inl (unended_fits x rest q.0 q.1)) in
           (fronts.exprs x depth us rest here w (no_name q.1), (r.0, r.1, unended_made attrs x r.0 us rest r.2 q.0.mark))
         where
           no_name : ((about_expr x).block_like ≡ true) ⊎ ((end : Tokens) × Closed Brace rest end) → (about_expr x).block_like ≡ false → NoItem rest
