@@ -1,5 +1,7 @@
 -- Expressions, blocks and items within a budget: what is read stands there, at the depth that it needs.
-use Rattle.std.proofs.Common.{◌≡◌, ℕ, zero, suc, ◌≤◌, true, drop, Some, refl, arith}
+use Rattle.std.proofs.Common.{◌≡◌, ℕ, zero, suc, ◌≤◌, true, drop, length, length-append, Some, refl, sym, ap, subst, ◌∙◌, arith}
+use Rattle.std.proofs.lemmas.List.{drop_at}
+use Rattle.lay_form.specs.Spelled.{Spells}
 use Rattle.lay_form.proofs.FormLaws.{is_end}
 use Rattle.lay_node.specs.Ahead.{Tokens}
 use Rattle.lay_node.specs.nodes.Facts.{Facts}
@@ -20,13 +22,13 @@ use Rattle.lay_node.proofs.reader.OutsideExact.{extern_crate_sound}
 use Rattle.lay_node.proofs.reader.PatternsSound.{pat_at_sound}
 use Rattle.lay_node.proofs.reader.StructsSound.{enum_sound, struct_sound, union_sound}
 use Rattle.lay_node.proofs.reader.TraitHeads.{trait_held}
-use Rattle.lay_node.proofs.reader.TypesSound.{counted_sound, within_sound}
+use Rattle.lay_node.proofs.reader.TypesSound.{within_sound}
 use Rattle.lay_node.proofs.reader.TypesSoundNeeds.{Held}
 use Rattle.lay_node.proofs.reader.TypesSoundParts.{Out}
 use Rattle.lay_node.proofs.reader.Use.{use_sound}
 use Rattle.lay_node.proofs.reader.ValueHeads.{value_heads_sound}
 use Rattle.lay_code.specs.nodes.Code.{about_expr, about_item}
-use Rattle.lay_code.specs.nodes.Exprs.{ExprFront, follows, placed}
+use Rattle.lay_code.specs.nodes.Exprs.{ExprFront, Followed}
 use Rattle.lay_code.specs.reader.Blocks.{block_by}
 use Rattle.lay_code.specs.reader.Code.{code_in, deeper_block, expr_at, item_at}
 use Rattle.lay_code.specs.reader.Item.{ItemWithin}
@@ -105,9 +107,20 @@ expr_in_sound budget place = (code_sound budget).exprs place
 pub exprs_stand : (place : Place) (budget : ℕ) (ts : Tokens) (x : Expr) (need : ℕ) (rest : Tokens) → InText ts
     → expr_at place budget ts ≡ Some ((x, need), rest)
     → (n : ℕ) × (drop n ts ≡ rest) × (need ≤ budget) × ExprFront place (about_expr x) ts n need
-exprs_stand place =
-    counted_sound (λ x. (about_expr x).form) (λ x. placed (about_expr x) place) (λ x. follows (about_expr x) place) (expr_at place)
-    (λ budget. expr_in_sound budget place)
+exprs_stand place budget ts x need rest t h =
+    let told = about_expr x in
+    let k = (expr_in_sound budget place ts (x, need) rest t h).0 in
+    let e = is_end told.form need ts rest k.1 in
+    let n = length e.before in
+    let dropped : drop n ts ≡ rest = ap (λ (us : Tokens). drop n us) e.whole ∙ drop_at e.before rest n refl in
+    let le : n ≤ length ts = omega (arith, ap length e.whole, length-append e.before rest) in
+    let front : ExprFront place told ts n need = (
+      le,
+      subst (λ us. Spells told.form need ts us) (sym dropped) k.1,
+      k.2,
+      subst (λ us. Followed told place need ts us) (sym dropped) k.3,
+    ) in
+    (n, dropped, k.0, front)
 
 -- An item that is read stands there, at the depth that it needs.
 pub item_sound : (at : Site) (budget : ℕ) → Sound (about_item at) budget (item_at at budget)

@@ -302,7 +302,7 @@ module _ (budget : ℕ) (within : ExprWithin) (sound : SoundExprWithin budget wi
       let s = h.0.lone none.0 in
       let told = about_expr x.0.1 in
       let left : LeftHeld true false (x.0.1, x.1) ts mid =
-      (s.1, within_held told (plain 4 true) s.2, tail_held (plain 4 true) budget told x.1 ts mid s) in
+      (s.1, within_held told (plain 4 true) s.2, (tail_held (plain 4 true) budget told x.1 ts mid s).1) in
       by xs none.1 r left
     where
       by : (xs : List (ReadLink × ℕ)) → list_any is_let (nodes xs) ≡ false → Rows LinkRow xs mid rest

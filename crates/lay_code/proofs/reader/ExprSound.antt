@@ -10,7 +10,7 @@ use Rattle.lay_node.proofs.reader.TypesSoundParts.{Out}
 use Rattle.lay_code.specs.Operands.{expr_lead_at}
 use Rattle.lay_code.specs.Operators.{is_angle, is_dot_or_try, strength}
 use Rattle.lay_code.specs.nodes.Code.{about_expr}
-use Rattle.lay_code.specs.nodes.Exprs.{is_chain_level, root_follows, stands, tail_follows}
+use Rattle.lay_code.specs.nodes.Exprs.{is_chain_level, root_follows, stands}
 use Rattle.lay_code.specs.nodes.Places.{before_op, begins, plain}
 use Rattle.lay_code.specs.reader.Code.{climbed_on}
 use Rattle.lay_code.specs.reader.Exprs.{accepted, climb, climb_by, expr_by, head_by, is_ended, left_place, stage}
@@ -23,6 +23,7 @@ use Rattle.lay_code.proofs.reader.ExprSoundLevel.{ExprHeld, LeftHeld, SoundExprW
 use Rattle.lay_code.proofs.reader.ExprSoundOperands.{assign_stage, chain_stage}
 use Rattle.lay_code.proofs.reader.ExprSoundOperators.{goes_op, op_low}
 use Rattle.lay_code.proofs.reader.ExprSoundStages.{cast_stage, postfix_stage, range_stage}
+use Rattle.lay_code.proofs.reader.Followed.{followed}
 
 and_true : (b : Bool) → (b && true) ≡ b
 and_true true = refl
@@ -112,14 +113,13 @@ module _ (budget : ℕ) (within : ExprWithin) (sound : SoundExprWithin budget wi
   accepted_sound most y begun ts k t x rest h =
       let told = about_expr y.0 in
       let root = root_follows told place ts in
-      let tail = tail_follows told.tail place.no_struct ts in
       let inner = told.within place.no_struct (begins place.start) in
       elim (chosen (stands told place && root && nat_le y.1 most) _ _ _ h) [
         | inl g ↦
             let last = and_parts (stands told place && root) (nat_le y.1 most) g.0 in
             let both = and_parts (stands told place) root last.0 in
             same_some (Out (ExprHeld place most) begun) (y, ts) (x, rest) g.1
-            ((leb-true y.1 most last.1, k.0, and_from (stands told place) inner both.0 k.1, and_from root tail both.1 k.2), t)
+            ((leb-true y.1 most last.1, k.0, and_from (stands told place) inner both.0 k.1, followed told place y.1 begun ts both.1 k.2), t)
         | inr g ↦ absurd (cc g.1)
       ]
 

@@ -4,7 +4,7 @@ use Rattle.std.proofs.Common.{◌≡◌, ℕ, suc, max, Bool, true, false, not, 
 use Rattle.std.proofs.lemmas.Bool.{and_from, leb-true}
 use Rattle.lay_piece.specs.declared.kind.Delim.TheVariants.{Paren, Bracket}
 use Rattle.lay_piece.specs.declared.kind.Kind.TheVariants as kind
-use Rattle.lay_form.specs.Form.{Fixed, Form, Done, closer, opener}
+use Rattle.lay_form.specs.Form.{Blank, Fixed, Form, Done, Part, closer, keyword, opener}
 use Rattle.lay_form.specs.Spelled.{IsBit, IsOne, Spells}
 use Rattle.lay_form.proofs.FormLaws.{deeper as raise, is_end}
 use Rattle.lay_node.specs.Ahead.{Tokens, first, tail, closes, is_lifetime, is_mark}
@@ -12,6 +12,7 @@ use Rattle.lay_node.specs.Begins.{is_literal_token}
 use Rattle.lay_node.specs.Words.{is_literal}
 use Rattle.lay_node.specs.nodes.Attr.{is_empty}
 use Rattle.lay_node.specs.nodes.Call.{about_call}
+use Rattle.lay_node.specs.nodes.Types.{lifetime_form}
 use Rattle.lay_node.specs.reader.Call.{call}
 use Rattle.lay_node.specs.reader.Exact.{InText}
 use Rattle.lay_node.specs.reader.Loops.{deepest, nodes, passed}
@@ -27,7 +28,7 @@ use Rattle.lay_node.proofs.reader.TypesSoundKinds.{length_sound}
 use Rattle.lay_node.proofs.reader.TypesSoundParts.{Out, behind_comma, bit_texts, if_there_sound, IsLifetime, lifetime_sound, literal_sound}
 use Rattle.lay_code.specs.Operators.{strength}
 use Rattle.lay_code.specs.nodes.Code.{about_expr}
-use Rattle.lay_code.specs.nodes.Exprs.{begins_free, break_placed, inside as inside_of, label_form, operand_form, operand_placed, placed, tail_follows, tail_of_jump, tuple_form}
+use Rattle.lay_code.specs.nodes.Exprs.{Tail, begins_free, break_placed, inside as inside_of, label_form, operand_form, operand_placed, placed, tail_of_jump, tuple_form}
 use Rattle.lay_code.specs.nodes.Places.{FREE, plain}
 use Rattle.lay_code.specs.reader.Exprs.{bracket_expr, break_expr, call_expr, continue_expr, free_elements, literal_expr, operand_if, paren_expr, repeat_by, return_expr}
 use Rattle.lay_code.specs.reader.Within.{ExprWithin}
@@ -37,8 +38,9 @@ use Rattle.lay_code.specs.declared.exprs.Expr.TheVariants as expr
 use Rattle.lay_code.proofs.nodes.ExprsLaws.{expr_array_is, expr_break_is, expr_call_is, expr_continue_is, expr_lit_is, expr_paren_is, expr_repeat_is, expr_return_is, expr_tuple_is, expr_underscore_is}
 use Rattle.lay_code.proofs.reader.ExprSoundLeads.{LedWithin}
 use Rattle.lay_code.proofs.reader.ExprSoundFirst.{no_label}
-use Rattle.lay_code.proofs.reader.ExprSoundLevel.{ExprHeld, LeftHeld, SoundExprWithin, all_taken, bare_follows, made, root_held, tail_held}
+use Rattle.lay_code.proofs.reader.ExprSoundLevel.{ExprHeld, LeftHeld, SoundExprWithin, all_taken, bare_follows, made, made_before, root_held, tail_held}
 use Rattle.lay_code.proofs.reader.ExprSoundLists.{FreeRow, OperandHeld, free_sound, operand_sound, row_spelled}
+use Rattle.lay_code.proofs.reader.Followed.{SpelledBefore, ended_as, last_made, part_made, piece_made}
 
 module _ (no_struct starts : Bool) where
   abbrev Left : Expr × ℕ → Tokens → Tokens → Type 0
@@ -91,6 +93,14 @@ module _ (no_struct starts : Bool) where
       → Spells (label_form label f) n ts rest
   label_leads None f n ts mid rest k s = subst (λ us. Spells f n us rest) (sym k.0) s
   label_leads (Some l) f n ts mid rest k s = (ts, (ts, refl, refl), (mid, (mid, k, refl), s))
+
+  -- the same, before what may follow
+  label_before : (t : Tail) (label : Option Lifetime) (f : Form) (n : ℕ) (ts mid rest : Tokens) → LabelHeld label ts mid
+      → SpelledBefore t f no_struct n mid rest → SpelledBefore t (label_form label f) no_struct n ts rest
+  label_before t None f n ts mid rest k s = subst (λ us. SpelledBefore t f no_struct n us rest) (sym k.0) s
+  label_before t (Some l) f n ts mid rest k s =
+      piece_made t no_struct n (Blank ∷ []) (Part (lifetime_form l) f) ts ts rest (ts, refl, refl)
+      (part_made t no_struct n (lifetime_form l) f ts mid rest (mid, k, refl) s)
 
   unlabelled : (b : Bool) → b ≡ false → (not b && true && true && true) ≡ true
   unlabelled false h = refl
@@ -261,16 +271,26 @@ module _ (no_struct starts : Bool) where
     -- ---- jumps
 
     -- Behind an operand that is read at level 0 no operator follows.
-    none_follows : (x : Expr × ℕ) (ts rest : Tokens) → ExprHeld (plain 0 no_struct) budget x ts rest → strength rest ≡ 0
+    pub none_follows : (x : Expr × ℕ) (ts rest : Tokens) → ExprHeld (plain 0 no_struct) budget x ts rest → strength rest ≡ 0
     none_follows x ts rest s =
         let root = root_held (plain 0 no_struct) budget (about_expr x.0) x.1 ts rest s in
         omega (arith, leb-true (strength rest) 0 root)
 
     pub jump_follows : (x : Expr × ℕ) (ts rest : Tokens) → ExprHeld (plain 0 no_struct) budget x ts rest
-        → tail_follows (tail_of_jump (Some (about_expr x.0))) no_struct rest ≡ true
+        → SpelledBefore (tail_of_jump (Some (about_expr x.0))) (about_expr x.0).form no_struct x.1 ts rest
     jump_follows x ts rest s =
-        all_taken (about_expr x.0).tail no_struct rest (none_follows x ts rest s)
-        (tail_held (plain 0 no_struct) budget (about_expr x.0) x.1 ts rest s)
+        let told = about_expr x.0 in
+        ended_as told.tail (tail_of_jump (Some told)) told.form no_struct x.1 ts rest
+        (all_taken told.tail no_struct rest (none_follows x ts rest s)) (tail_held (plain 0 no_struct) budget told x.1 ts rest s)
+
+    -- The operand of a jump is spelled behind a blank.
+    operand_spelled : (x : Expr × ℕ) (ts rest : Tokens) → ExprHeld (plain 0 no_struct) budget x ts rest
+        → SpelledBefore (tail_of_jump (Some (about_expr x.0))) (operand_form (Some (about_expr x.0))) no_struct x.1 ts rest
+    operand_spelled x ts rest s =
+        let told = about_expr x.0 in
+        let ends = tail_of_jump (Some told) in
+        piece_made ends no_struct x.1 (Blank ∷ []) (Part told.form Done) ts ts rest (ts, refl, refl)
+        (last_made ends no_struct x.1 told.form ts rest (jump_follows x ts rest s))
 
     return_held : (y : Option Expr) (need : ℕ) (ts at rest : Tokens) → IsOne kind.Ident (codes "return") ts at
         → OperandHeld budget within sound 0 no_struct y need at rest → Left (expr.Return y, suc need) ts rest
@@ -279,18 +299,17 @@ module _ (no_struct starts : Bool) where
         (at, (at, o, refl), k.0) refl (bare_follows no_struct rest k.1)
     return_held (Some y) need ts at rest o k =
         let told = about_expr y in
-        made no_struct starts (about_expr (expr.Return (Some y))) (Expr-F.Return (Some told)) need ts rest (expr_return_is (Some y))
-        (at, (at, o, refl), (at, (at, refl, refl), (rest, k.0.1, refl)))
-        (and_from (placed told (plain 0 no_struct)) (begins_free no_struct told) k.0.2 k.1)
-        (jump_follows (y, need) at rest k.0)
+        let spelled = piece_made (tail_of_jump (Some told)) no_struct need (keyword (codes "return") ∷ []) (operand_form (Some told)) ts at rest
+        (at, o, refl) (operand_spelled (y, need) at rest k.0) in
+        made_before no_struct starts (about_expr (expr.Return (Some y))) (Expr-F.Return (Some told)) need ts rest (expr_return_is (Some y))
+        spelled (and_from (placed told (plain 0 no_struct)) (begins_free no_struct told) k.0.2 k.1)
 
     break_held : (label : Option Lifetime) (y : Option Expr) (need : ℕ) (ts at mid rest : Tokens)
         → IsOne kind.Ident (codes "break") ts at → LabelHeld label at mid
         → OperandHeld budget within sound 0 no_struct y need mid rest → Left (expr.Break label y, suc need) ts rest
     break_held label None need ts at mid rest o l k =
         made no_struct starts (about_expr (expr.Break label None)) (Expr-F.Break label None) need ts rest (expr_break_is label None)
-        (at, (at, o, refl), label_leads label Done need at mid rest l k.0) (placed_bare label)
-        (bare_follows no_struct rest k.1)
+        (at, (at, o, refl), label_leads label Done need at mid rest l k.0) (placed_bare label) (bare_follows no_struct rest k.1)
       where
         placed_bare : (label : Option Lifetime) → (true && break_placed label None) ≡ true
         placed_bare None = refl
@@ -300,10 +319,11 @@ module _ (no_struct starts : Bool) where
         let F = operand_form (Some told) in
         let G = Expr-F.Break label (Some told) in
         let operand = and_from (placed told (plain 0 no_struct)) (begins_free no_struct told) k.0.2 k.1 in
-        made no_struct starts (about_expr (expr.Break label (Some y))) G need ts rest (expr_break_is label (Some y))
-        (at, (at, o, refl), label_leads label F need at mid rest l (mid, (mid, refl, refl), (rest, k.0.1, refl)))
+        let ends = tail_of_jump (Some told) in
+        let spelled = piece_made ends no_struct need (keyword (codes "break") ∷ []) (label_form label F) ts at rest (at, o, refl)
+        (label_before ends label F need at mid rest l (operand_spelled (y, need) mid rest k.0)) in
+        made_before no_struct starts (about_expr (expr.Break label (Some y))) G need ts rest (expr_break_is label (Some y)) spelled
         (and_from (operand_placed (Some told) no_struct) (break_placed label (Some told)) operand (free label l))
-        (jump_follows (y, need) mid rest k.0)
       where
         free : (label : Option Lifetime) → LabelHeld label at mid → break_placed label (Some (about_expr y)) ≡ true
         free None l = no_label mid (about_expr y).lead k.2 l.1

@@ -1,5 +1,5 @@
 -- What is read as an expression with blocks, or as a closure, begins with the lead that the tokens begin with.
-use Rattle.std.proofs.Common.{◌≡◌, ℕ, suc, max, Bool, true, false, ◌∷◌, drop, inl, inr, codes, Option, Some, None, if◌then◌else◌, sym, ap, subst}
+use Rattle.std.proofs.Common.{◌≡◌, ℕ, suc, max, Bool, true, false, ◌∷◌, drop, length, inl, inr, codes, Option, Some, None, if◌then◌else◌, sym, ap, subst}
 use Rattle.lay_token.specs.Operators.{is_op}
 use Rattle.lay_piece.specs.declared.kind.Delim.TheVariants.{Brace}
 use Rattle.lay_node.specs.Ahead.{Tokens, first, tail, closes, is_keyword, is_mark, more_items, opens}
@@ -11,12 +11,13 @@ use Rattle.lay_node.specs.declared.token.Lifetime.{Lifetime}
 use Rattle.lay_node.specs.declared.types.TypePlace.TheVariants.{NoBounds}
 use Rattle.lay_node.proofs.Steps.{same_some, chosen, bind_some}
 use Rattle.lay_code.specs.Operands.{ExprLead, ByLabel, ByBrace, ByBlockWord, ByClosure}
+use Rattle.lay_code.specs.nodes.Bodies.{sheds}
 use Rattle.lay_code.specs.nodes.Code.{about_expr}
 use Rattle.lay_code.specs.nodes.Exprs.{ExprFacts, label_or}
 use Rattle.lay_code.specs.nodes.Places.{plain}
-use Rattle.lay_code.specs.reader.Blocks.{arm_by, block_by, branch_by}
+use Rattle.lay_code.specs.reader.Blocks.{arm_by, block_by, body_need, branch_by}
 use Rattle.lay_code.specs.reader.Conditions.{condition_by}
-use Rattle.lay_code.specs.reader.Exprs.{async_expr, begins_else_if, block_expr, block_word_expr, closure_behind, closure_expr, closure_param, for_expr, if_expr, label_expr, labelled_expr, match_expr, while_expr}
+use Rattle.lay_code.specs.reader.Exprs.{async_expr, begins_else_if, block_expr, block_word_expr, closure_behind, closure_expr, closure_param, for_expr, if_expr, label_expr, labelled_expr, match_expr, shed, while_expr}
 use Rattle.lay_code.specs.reader.Within.{ExprWithin}
 use Rattle.lay_code.specs.declared.blocks.Block.{Block}
 use Rattle.lay_code.specs.declared.exprs.Expr.{Expr}
@@ -150,8 +151,10 @@ module _ (within : ExprWithin) where
             (led (expr_typed_closure_is is_async moves all t.0.0.0 b.0.0.0))
         | inr g ↦
             let x = bind_some (within.exprs (plain 0 no_struct) ps.0.1) _ _ g.1 in
-            same_some (Led ByClosure) ((expr.Closure is_async moves all x.0.0.0, suc (max need x.0.0.1)), x.0.1) r x.2
-            (led (expr_closure_is is_async moves all x.0.0.0))
+            let body = shed no_struct (length ps.0.1) x.0.0.0 in
+            let deep = body_need (sheds (about_expr x.0.0.0).kind no_struct) x.0.0.1 in
+            same_some (Led ByClosure) ((expr.Closure is_async moves all body, suc (max need deep)), x.0.1) r x.2
+            (led (expr_closure_is is_async moves all body))
       ]
 
   pub closure_led : (no_struct : Bool) (ts : Tokens) (r : (Expr × ℕ) × Tokens) → closure_expr within no_struct ts ≡ Some r

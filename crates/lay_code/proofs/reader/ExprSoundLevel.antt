@@ -1,6 +1,6 @@
 -- Expressions at their places: what is held of those that are read, one level deeper, and of those that operators may still
 -- go on with.
-use Rattle.std.proofs.Common.{◌≡◌, ℕ, suc, ◌≤◌, Bool, true, false, not, ◌&&◌, ◌||◌, List, [], ◌∷◌, map, option_map, Some, refl, sym, ap, subst}
+use Rattle.std.proofs.Common.{◌≡◌, ℕ, suc, ◌≤◌, Bool, true, false, not, ◌&&◌, ◌||◌, List, [], ◌∷◌, map, option_map, Some, inl, refl, sym, ap, subst}
 use Rattle.std.specs.List.{list_all}
 use Rattle.std.specs.Prelude.{◌==◌}
 use Rattle.std.proofs.lemmas.Bool.{and_parts, eq-eqb}
@@ -19,7 +19,7 @@ use Rattle.lay_node.proofs.reader.TypesSoundParts.{Out}
 use Rattle.lay_code.specs.Operands.{begins_operand}
 use Rattle.lay_code.specs.Operators.{strength}
 use Rattle.lay_code.specs.nodes.Code.{about_arm, about_block, about_branch, about_condition, about_expr, about_field_expr, about_item, about_step}
-use Rattle.lay_code.specs.nodes.Exprs.{ExprFacts, Tail, all_free, begins_pointer, expr_facts, expr_forms, follows, inside, lacks_operand, placed, root_follows, stands, tail_follows, tail_of, within_of, ExprLayer}
+use Rattle.lay_code.specs.nodes.Exprs.{ExprFacts, Tail, all_free, begins_pointer, expr_facts, expr_forms, Followed, inside, lacks_operand, placed, root_follows, stands, tail_follows, tail_of, within_of, ExprLayer}
 use Rattle.lay_code.specs.nodes.Places.{FREE, begins, plain}
 use Rattle.lay_code.specs.reader.Within.{ExprWithin}
 use Rattle.lay_code.specs.declared.blocks.Block.{Block}
@@ -27,10 +27,11 @@ use Rattle.lay_code.specs.declared.exprs.Expr.{Expr}
 use Rattle.lay_code.specs.declared.blocks.Stmt.TheOpen.{Expr-F}
 use Rattle.lay_code.specs.declared.exprs.Place.{Place}
 use Rattle.lay_code.proofs.nodes.ExprsLaws.{behind_op, before_op, ExprView, IsLit, IsPath, IsUnderscore, IsCall, IsParen, IsContinue, IsTuple, IsArray, IsRepeat, IsStruct, IsChain, IsCast, IsUnary, IsRange, IsAssign, IsPostfix, IsBlock, IsUnsafe, IsConstBlock, IsAsync, IsIf, IsMatch, IsLoop, IsWhile, IsFor, IsClosure, IsTypedClosure, IsReturn, IsBreak, expr_view, expr_lit_is, expr_path_is, expr_underscore_is, expr_call_is, expr_paren_is, expr_continue_is, expr_tuple_is, expr_array_is, expr_repeat_is, expr_struct_is, expr_chain_is, expr_cast_is, expr_unary_is, expr_range_is, expr_assign_is, expr_postfix_is, expr_block_is, expr_unsafe_is, expr_const_block_is, expr_async_is, expr_if_is, expr_match_is, expr_loop_is, expr_while_is, expr_for_is, expr_closure_is, expr_typed_closure_is, expr_return_is, expr_break_is}
+use Rattle.lay_code.proofs.reader.Followed.{Ended, SpelledBefore, ended_of, node_made, root_of}
 
 -- An expression of which this is told stands at the place, at this depth, which is within the budget.
 abbrev pub IsExpr : Place → ℕ → ExprFacts → ℕ → Tokens → Tokens → Type 0
-IsExpr place budget x n ts rest = (n ≤ budget) × Spells x.form n ts rest × (placed x place ≡ true) × (follows x place rest ≡ true)
+IsExpr place budget x n ts rest = (n ≤ budget) × Spells x.form n ts rest × (placed x place ≡ true) × Followed x place n ts rest
 
 abbrev pub ExprHeld : Place → ℕ → Expr × ℕ → Tokens → Tokens → Type 0
 ExprHeld place budget x ts rest = IsExpr place budget (about_expr x.0) x.1 ts rest
@@ -44,7 +45,7 @@ DeepBlock budget x ts rest =
 -- literal may stand there, and that it begins a statement.
 abbrev pub IsLeft : Bool → Bool → ExprFacts → ℕ → Tokens → Tokens → Type 0
 IsLeft no_struct first x n ts rest =
-    Spells x.form n ts rest × (x.within no_struct first ≡ true) × (tail_follows x.tail no_struct rest ≡ true)
+    Spells x.form n ts rest × (x.within no_struct first ≡ true) × Ended x.tail x.form no_struct n ts rest
 
 abbrev pub LeftHeld : Bool → Bool → Expr × ℕ → Tokens → Tokens → Type 0
 LeftHeld no_struct first x ts rest = IsLeft no_struct first (about_expr x.0) x.1 ts rest
@@ -65,11 +66,11 @@ pub record SoundExprWithin (budget : ℕ) (within : ExprWithin) : Type 0 where
 -- what is held of what follows its root, of what follows what it ends in, and of what is within it
 pub root_held : (place : Place) (budget : ℕ) (x : ExprFacts) (n : ℕ) (ts rest : Tokens) → IsExpr place budget x n ts rest
     → root_follows x place rest ≡ true
-root_held place budget x n ts rest s = (and_parts (root_follows x place rest) (tail_follows x.tail place.no_struct rest) s.3).0
+root_held place budget x n ts rest s = root_of x place n ts rest s.3
 
 pub tail_held : (place : Place) (budget : ℕ) (x : ExprFacts) (n : ℕ) (ts rest : Tokens) → IsExpr place budget x n ts rest
-    → tail_follows x.tail place.no_struct rest ≡ true
-tail_held place budget x n ts rest s = (and_parts (root_follows x place rest) (tail_follows x.tail place.no_struct rest) s.3).1
+    → SpelledBefore x.tail x.form place.no_struct n ts rest
+tail_held place budget x n ts rest s = (s.1, ended_of x place n ts rest s.3)
 
 pub within_held : (x : ExprFacts) (place : Place) → placed x place ≡ true → x.within place.no_struct (begins place.start) ≡ true
 within_held x place h = (and_parts (stands x place) (x.within place.no_struct (begins place.start)) h).1
@@ -86,13 +87,20 @@ expr_list xs = (forms_are xs, list_all-map (λ (x : ExprFacts). placed x FREE) a
 
 -- ---- an expression, one level above what is within it
 
--- An expression of a kind stands there, where what is within it does.
+-- An expression of a kind stands there, where what is within it does, and it ends in what the kind ends in.
+pub made_before : (no_struct first : Bool) (X : ExprFacts) (k : ExprLayer) (n : ℕ) (ts rest : Tokens)
+    → X ≡ expr_facts k → SpelledBefore (tail_of k) (inside k) no_struct n ts rest → within_of k no_struct first ≡ true
+    → IsLeft no_struct first X (suc n) ts rest
+made_before no_struct first X k n ts rest e s w =
+    let b = node_made (tail_of k) no_struct n (inside k) ts rest s in
+    let there : IsLeft no_struct first (expr_facts k) (suc n) ts rest = (b.0, w, b.1) in
+    subst (λ (z : ExprFacts). IsLeft no_struct first z (suc n) ts rest) (sym e) there
+
+-- The same, where what follows is told of what it ends in.
 pub made : (no_struct first : Bool) (X : ExprFacts) (k : ExprLayer) (n : ℕ) (ts rest : Tokens)
     → X ≡ expr_facts k → Spells (inside k) n ts rest → within_of k no_struct first ≡ true
     → tail_follows (tail_of k) no_struct rest ≡ true → IsLeft no_struct first X (suc n) ts rest
-made no_struct first X k n ts rest e s w t =
-    let there : IsLeft no_struct first (expr_facts k) (suc n) ts rest = ((rest, s, refl), w, t) in
-    subst (λ (z : ExprFacts). IsLeft no_struct first z (suc n) ts rest) (sym e) there
+made no_struct first X k n ts rest e s w t = made_before no_struct first X k n ts rest e (s, inl t) w
 
 -- ---- what may follow
 

@@ -2,7 +2,8 @@
 use Rattle.std.proofs.Common.{◌≡◌, ℕ, suc, ◌≤◌, max, Bool, true, false, not, ◌&&◌, List, [], ◌∷◌, inl, inr, length, map, drop, Some, refl, sym, ap, subst, ◌∙◌, arith}
 use Rattle.std.specs.Prelude.{◌==◌}
 use Rattle.std.proofs.lemmas.Bool.{and_parts, and_from, eq-eqb, eqb-true}
-use Rattle.lay_form.specs.Form.{Operator, Done, Part}
+use Rattle.lay_form.specs.Form.{Blank, Operator, Form, Done, Part, Piece}
+use Rattle.lay_form.specs.Notation.{B, N}
 use Rattle.lay_form.specs.Spelled.{Spells}
 use Rattle.lay_form.proofs.FormLaws.{deeper as raise}
 use Rattle.lay_node.specs.Ahead.{Tokens}
@@ -15,7 +16,7 @@ use Rattle.lay_node.proofs.reader.Loops.{repeat_sound}
 use Rattle.lay_node.proofs.reader.TypesSoundParts.{Out, bit_texts}
 use Rattle.lay_code.specs.Operators.{angle_by, binary, is_angle, is_angle_op, op_level, op_text, strength}
 use Rattle.lay_code.specs.nodes.Code.{about_expr}
-use Rattle.lay_code.specs.nodes.Exprs.{ExprFacts, is_chain_level, level_of_chain, may_chain, next_is_angle, operands_form, operands_placed, placed, stands, tail_follows, tail_of_operands, targets_form, targets_placed}
+use Rattle.lay_code.specs.nodes.Exprs.{ExprFacts, Tail, is_chain_level, level_of_chain, may_chain, next_is_angle, operands_form, operands_placed, placed, stands, tail_of_operands, targets_form, targets_placed}
 use Rattle.lay_code.specs.nodes.Places.{before_op, plain}
 use Rattle.lay_code.specs.reader.Exprs.{assign_expr, chain_expr, operand, operand_ends, operands, targets_of, value_of}
 use Rattle.lay_code.specs.reader.Within.{ExprWithin}
@@ -26,9 +27,10 @@ use Rattle.lay_code.specs.declared.exprs.Place.{Place}
 use Rattle.lay_code.specs.declared.operators.Op.{Op}
 use Rattle.lay_code.proofs.nodes.ExprsLaws.{behind_op, expr_assign_is, expr_chain_is}
 use Rattle.lay_code.proofs.nodes.ExprsLaws as laws
-use Rattle.lay_code.proofs.reader.ExprSoundLevel.{ExprHeld, LeftHeld, SoundExprWithin, made, tail_held, within_held}
+use Rattle.lay_code.proofs.reader.ExprSoundLevel.{ExprHeld, LeftHeld, SoundExprWithin, made_before, tail_held, within_held}
 use Rattle.lay_code.proofs.reader.ExprSoundOperators.{binary_op, goes_op, low_no_angle, op_strength}
 use Rattle.lay_code.proofs.reader.ExprSoundPrefixes.{rows_there}
+use Rattle.lay_code.proofs.reader.Followed.{SpelledBefore, before_deeper, group_made, last_made, part_made, piece_made}
 
 -- ---- an expression before an operator
 
@@ -75,23 +77,37 @@ module _ (budget : ℕ) (within : ExprWithin) (sound : SoundExprWithin budget wi
       let r = repeat_sound more (operand within level no_struct) OperandRow row_sound ts xs rest t h in
       (r.0, r.1, rows_there more OperandRow xs ts rest r.0 (eq-eqb (strength ts) (suc level) s) r.2)
 
+  -- an operator and its operand, and what stands behind it
+  operand_spelled : (t : Tail) (most : ℕ) (x : (Op × Expr) × ℕ) (f : Form) (ts mid rest : Tokens) → OperandRow x ts mid
+      → SpelledBefore t (Part (about_expr x.0.1).form f) no_struct most (drop (length (op_text x.0.0)) ts) rest
+      → SpelledBefore t (B (Piece (Operator (op_text x.0.0) ∷ []) (Piece (Blank ∷ []) (Part (about_expr x.0.1).form f)))) no_struct most ts rest
+  operand_spelled t most x f ts mid rest r k =
+      let at = drop (length (op_text x.0.0)) ts in
+      let inner = Part (about_expr x.0.1).form f in
+      piece_made t no_struct most (Operator (op_text x.0.0) ∷ []) (Piece (Blank ∷ []) inner) ts at rest
+      (at, (binary_op ts x.0.0 r.named, refl), refl) (piece_made t no_struct most (Blank ∷ []) inner at at rest (at, refl, refl) k)
+
+  -- Operators and their operands are spelled, and end in the last operand.
   operands_spelled : (most : ℕ) (xs : List ((Op × Expr) × ℕ)) (ts rest : Tokens) → deepest xs ≤ most → Rows OperandRow xs ts rest
-      → Spells (operands_form (told_operands xs)) most ts rest
-  operands_spelled most [] ts rest le r = r
-  operands_spelled most (x ∷ xs) ts rest le r =
-      let at = drop (length (op_text x.0.0)) ts in (
-        at,
-        (at, (binary_op ts x.0.0 r.1.named, refl), refl),
-        (
-          at,
-          (at, refl, refl),
-          (
-            r.0,
-            raise (about_expr x.0.1).form x.1 most at r.0 (omega (arith, le)) r.1.held.1,
-            operands_spelled most xs r.0 rest (omega (arith, le)) r.2,
-          ),
-        ),
-      )
+      → is_there xs ≡ true
+      → SpelledBefore (tail_of_operands (told_operands xs)) (operands_form (told_operands xs)) no_struct most ts rest
+  operands_spelled most [] ts rest le r h = absurd (cc h)
+  operands_spelled most (x ∷ []) ts rest le r h =
+      let told = about_expr x.0.1 in
+      let at = drop (length (op_text x.0.0)) ts in
+      let held = before_deeper told.tail told.form no_struct x.1 most at r.0 (omega (arith, le))
+      (tail_held (plain (suc level) no_struct) budget told x.1 at r.0 r.1.held) in
+      operand_spelled told.tail most x Done ts r.0 rest r.1
+      (last_made told.tail no_struct most told.form at rest
+      (subst (λ us. SpelledBefore told.tail told.form no_struct most at us) r.2 held))
+  operands_spelled most (x ∷ y ∷ xs) ts rest le r h =
+      let told = about_expr x.0.1 in
+      let at = drop (length (op_text x.0.0)) ts in
+      let all = told_operands (y ∷ xs) in
+      operand_spelled (tail_of_operands all) most x (operands_form all) ts r.0 rest r.1
+      (part_made (tail_of_operands all) no_struct most told.form (operands_form all) at r.0 rest
+      (raise told.form x.1 most at r.0 (omega (arith, le)) r.1.held.1)
+      (operands_spelled most (y ∷ xs) r.0 rest (omega (arith, le)) r.2 refl))
 
   -- the level of an operator of a row
   level_is : (x : (Op × Expr) × ℕ) (ts rest : Tokens) → OperandRow x ts rest → op_level x.0.0 ≡ level
@@ -140,16 +156,6 @@ module _ (budget : ℕ) (within : ExprWithin) (sound : SoundExprWithin budget wi
   first_level [] ts rest r h = absurd (cc h)
   first_level (x ∷ xs) ts rest r h = (level_is x ts r.0 r.1, sym (angle_is x ts r.0 r.1))
 
-  operands_end : (xs : List ((Op × Expr) × ℕ)) (ts rest : Tokens) → Rows OperandRow xs ts rest → is_there xs ≡ true
-      → tail_follows (tail_of_operands (told_operands xs)) no_struct rest ≡ true
-  operands_end [] ts rest r h = absurd (cc h)
-  operands_end (x ∷ []) ts rest r h =
-      let told = about_expr x.0.1 in
-      let at = drop (length (op_text x.0.0)) ts in
-      subst (λ us. tail_follows told.tail no_struct us ≡ true) r.2
-      (tail_held (plain (suc level) no_struct) budget told x.1 at r.0 r.1.held)
-  operands_end (x ∷ y ∷ xs) ts rest r h = operands_end (y ∷ xs) r.0 rest r.2 refl
-
 module _ (budget : ℕ) (within : ExprWithin) (sound : SoundExprWithin budget within) (no_struct starts : Bool) where
   abbrev Left : Expr × ℕ → Tokens → Tokens → Type 0
   Left = LeftHeld no_struct starts
@@ -178,14 +184,13 @@ module _ (budget : ℕ) (within : ExprWithin) (sound : SoundExprWithin budget wi
       (operands_good budget within sound level no_struct xs ts end r) in
       let told_good : W (level_of_chain all) (next_is_angle all) ≡ true =
       subst (λ n. W n (next_is_angle all) ≡ true) (sym l.0) (subst (λ a. W level a ≡ true) (sym l.1) good) in
-      let spelled : Spells (Part told.form (operands_form all)) most begun end = (
-        ts,
-        raise told.form lhs.1 most begun ts (omega arith) k.0,
-        operands_spelled budget within sound level no_struct most xs ts end (omega arith) r,
-      ) in
-      made no_struct starts (about_expr (expr.Chain lhs.0 (nodes xs))) (Expr-F.Chain told all) most begun end
-      (expr_chain_is lhs.0 (nodes xs)) (end, spelled, refl) told_good
-      (operands_end budget within sound level no_struct xs ts end r there)
+      let ends = tail_of_operands all in
+      let inner = Part told.form (operands_form all) in
+      let spelled = part_made ends no_struct most told.form (operands_form all) begun ts end
+      (raise told.form lhs.1 most begun ts (omega arith) k.0)
+      (operands_spelled budget within sound level no_struct most xs ts end (omega arith) r there) in
+      made_before no_struct starts (about_expr (expr.Chain lhs.0 (nodes xs))) (Expr-F.Chain told all) most begun end
+      (expr_chain_is lhs.0 (nodes xs)) (group_made ends no_struct most false 4 inner begun end spelled) told_good
 
   -- operators of one level and their operands behind a first
   pub chain_stage : (level : ℕ) → is_chain_level level ≡ true → (lhs : Expr × ℕ) (begun ts : Tokens) → Left lhs begun ts
@@ -208,28 +213,46 @@ module _ (budget : ℕ) (within : ExprWithin) (sound : SoundExprWithin budget wi
   abbrev told_targets : Expr → List ((Op × Expr) × ℕ) → List (ExprFacts × Op)
   told_targets x ys = map laws.before_op (targets_of x (nodes ys))
 
+  -- what stands behind the targets before this one
+  abbrev behind_targets : Expr → List ((Op × Expr) × ℕ) → Form
+  behind_targets x ys = targets_form (told_targets x ys) (Part (about_expr (value_of x (nodes ys))).form Done)
+
+  -- what is told of the value
+  abbrev value_told : Expr → List ((Op × Expr) × ℕ) → ExprFacts
+  value_told x ys = about_expr (value_of x (nodes ys))
+
+  -- a target and its operator, before what stands behind them
+  target_spelled : (t : Tail) (most : ℕ) (x : Expr) (n : ℕ) (y : (Op × Expr) × ℕ) (f : Form) (ts mid end rest : Tokens) → n ≤ most
+      → Spells (about_expr x).form n ts mid → Row y mid end
+      → SpelledBefore t f no_struct most (drop (length (op_text y.0.0)) mid) rest
+      → SpelledBefore t (targets_form ((about_expr x, y.0.0) ∷ []) f) no_struct most ts rest
+  target_spelled t most x n y f ts mid end rest le s r k =
+      let at = drop (length (op_text y.0.0)) mid in
+      let F = about_expr x in
+      let blank = Piece (Blank ∷ []) (N f) in
+      let named = Piece (Operator (op_text y.0.0) ∷ []) blank in
+      part_made t no_struct most F.form (Piece (Blank ∷ []) named) ts mid rest (raise F.form n most ts mid le s)
+      (piece_made t no_struct most (Blank ∷ []) named mid mid rest (mid, refl, refl)
+      (piece_made t no_struct most (Operator (op_text y.0.0) ∷ []) blank mid at rest (at, (binary_op mid y.0.0 r.named, refl), refl)
+      (piece_made t no_struct most (Blank ∷ []) (N f) at at rest (at, refl, refl) k)))
+
+  -- Targets and the value are spelled, and end in the value.
   targets_spelled : (most : ℕ) (x : Expr) (n : ℕ) (ys : List ((Op × Expr) × ℕ)) (ts mid rest : Tokens) → n ≤ most
-      → deepest ys ≤ most → Spells (about_expr x).form n ts mid → Rows Row ys mid rest
-      → Spells (targets_form (told_targets x ys) (Part (about_expr (value_of x (nodes ys))).form Done)) most ts rest
-  targets_spelled most x n [] ts mid rest le less s r = (mid, raise (about_expr x).form n most ts mid le s, r)
-  targets_spelled most x n (y ∷ ys) ts mid rest le less s r =
-      let at = drop (length (op_text y.0.0)) mid in (
-        mid,
-        raise (about_expr x).form n most ts mid le s,
-        (
-          mid,
-          (mid, refl, refl),
-          (
-            at,
-            (at, (binary_op mid y.0.0 r.1.named, refl), refl),
-            (
-              at,
-              (at, refl, refl),
-              targets_spelled most y.0.1 y.1 ys at r.0 rest (omega (arith, less)) (omega (arith, less)) r.1.held.1 r.2,
-            ),
-          ),
-        ),
-      )
+      → deepest ys ≤ most → Spells (about_expr x).form n ts mid → Rows Row ys mid rest → is_there ys ≡ true
+      → SpelledBefore (value_told x ys).tail (behind_targets x ys) no_struct most ts rest
+  targets_spelled most x n [] ts mid rest le less s r h = absurd (cc h)
+  targets_spelled most x n (y ∷ []) ts mid rest le less s r h =
+      let told = about_expr y.0.1 in
+      let at = drop (length (op_text y.0.0)) mid in
+      let held = before_deeper told.tail told.form no_struct y.1 most at r.0 (omega (arith, less))
+      (tail_held (plain 1 no_struct) budget told y.1 at r.0 r.1.held) in
+      target_spelled told.tail most x n y (Part told.form Done) ts mid r.0 rest le s r.1
+      (last_made told.tail no_struct most told.form at rest
+      (subst (λ us. SpelledBefore told.tail told.form no_struct most at us) r.2 held))
+  targets_spelled most x n (y ∷ z ∷ ys) ts mid rest le less s r h =
+      let at = drop (length (op_text y.0.0)) mid in
+      target_spelled (value_told y.0.1 (z ∷ ys)).tail most x n y (behind_targets y.0.1 (z ∷ ys)) ts mid r.0 rest le s r.1
+      (targets_spelled most y.0.1 y.1 (z ∷ ys) at r.0 rest (omega (arith, less)) (omega (arith, less)) r.1.held.1 r.2 refl)
 
   targets_good : (first : Bool) (x : Expr) (ys : List ((Op × Expr) × ℕ)) (ts rest : Tokens)
       → placed (about_expr x) (before_op 1 no_struct first false) ≡ true → Rows Row ys ts rest
@@ -253,14 +276,9 @@ module _ (budget : ℕ) (within : ExprWithin) (sound : SoundExprWithin budget wi
 
   -- The last operand is the value.
   value_good : (x : Expr) (ys : List ((Op × Expr) × ℕ)) (ts rest : Tokens) → Rows Row ys ts rest → is_there ys ≡ true
-      → (placed (about_expr (value_of x (nodes ys))) (plain 1 no_struct) ≡ true)
-      × (tail_follows (about_expr (value_of x (nodes ys))).tail no_struct rest ≡ true)
+      → placed (value_told x ys) (plain 1 no_struct) ≡ true
   value_good x [] ts rest r h = absurd (cc h)
-  value_good x (y ∷ []) ts rest r h =
-      let told = about_expr y.0.1 in
-      let at = drop (length (op_text y.0.0)) ts in
-      let ends = tail_held (plain 1 no_struct) budget told y.1 at r.0 r.1.held in
-      (r.1.held.2, subst (λ us. tail_follows told.tail no_struct us ≡ true) r.2 ends)
+  value_good x (y ∷ []) ts rest r h = r.1.held.2
   value_good x (y ∷ z ∷ ys) ts rest r h = value_good y.0.1 (z ∷ ys) r.0 rest r.2 refl
 
   targets_there : (x : Expr) (ys : List ((Op × Expr) × ℕ)) → is_there ys ≡ true → is_there (told_targets x ys) ≡ true
@@ -293,10 +311,10 @@ module _ (budget : ℕ) (within : ExprWithin) (sound : SoundExprWithin budget wi
       let told_all = told_targets lhs.0 ys in
       let good = and_from (is_there told_all && targets_placed told_all no_struct starts) (placed (about_expr value) (plain 1 no_struct))
       (and_from (is_there told_all) (targets_placed told_all no_struct starts) (targets_there lhs.0 ys r.2)
-      (targets_good starts lhs.0 ys ts end first r.0)) last.0 in
+      (targets_good starts lhs.0 ys ts end first r.0)) last in
       same_some (Out Left begun) ((expr.Assign targets value, suc most), end) (x, rest) more.2 (
-        made no_struct starts (about_expr (expr.Assign targets value)) (Expr-F.Assign told_all (about_expr value)) most begun end
+        made_before no_struct starts (about_expr (expr.Assign targets value)) (Expr-F.Assign told_all (about_expr value)) most begun end
             (expr_assign_is targets value)
-            (targets_spelled most lhs.0 lhs.1 ys begun ts end (omega arith) (omega arith) k.0 r.0) good last.1,
+            (targets_spelled most lhs.0 lhs.1 ys begun ts end (omega arith) (omega arith) k.0 r.0 r.2) good,
         r.1,
       )

@@ -29,7 +29,7 @@ use Rattle.lay_node.proofs.reader.TypesSoundParts.{Out, bit_texts}
 use Rattle.lay_code.specs.Operands.{ByPrefix, expr_lead_at}
 use Rattle.lay_code.specs.Operators.{amp_by, prefix, prefix_by, prefix_length, raw_by}
 use Rattle.lay_code.specs.nodes.Code.{about_expr}
-use Rattle.lay_code.specs.nodes.Exprs.{ExprFacts, StepFacts, begins_free, begins_pointer, end_placed, ends_in_amp, expr_facts, is_amp, is_prefix_lead, is_raw_path, is_raw_word, placed, prefix_bits, prefixes_form, start_placed, tail_follows, tail_of_end, ExprLayer}
+use Rattle.lay_code.specs.nodes.Exprs.{ExprFacts, Tail, begins_free, begins_pointer, end_placed, ends_in_amp, expr_facts, is_amp, is_prefix_lead, is_raw_path, is_raw_word, lacks_operand, placed, prefix_bits, prefixes_form, start_placed, tail_of, ExprLayer}
 use Rattle.lay_code.specs.nodes.Exprs as exprs
 use Rattle.lay_code.specs.nodes.Places.{before_op, plain}
 use Rattle.lay_code.specs.reader.Exprs.{one_prefix, operand_if, range_by, range_expr, unary_expr}
@@ -42,8 +42,9 @@ use Rattle.lay_code.specs.declared.operators.Prefix.TheVariants as before
 use Rattle.lay_code.proofs.nodes.ExprsLaws.{expr_range_is, expr_unary_is}
 use Rattle.lay_code.proofs.reader.ExprSoundFirst.{no_prefix, prefix_first}
 use Rattle.lay_code.proofs.reader.ExprSoundLeads.{LedWithin}
-use Rattle.lay_code.proofs.reader.ExprSoundLevel.{LeftHeld, SoundExprWithin, amp_follows, bare_follows, layer_of, made, tail_held}
+use Rattle.lay_code.proofs.reader.ExprSoundLevel.{LeftHeld, SoundExprWithin, amp_follows, bare_follows, layer_of, made_before, tail_held}
 use Rattle.lay_code.proofs.reader.ExprSoundLists.{OperandHeld, operand_sound}
+use Rattle.lay_code.proofs.reader.Followed.{SpelledBefore, before_deeper, ended_as, last_made, part_made, piece_made}
 
 -- ---- one operator
 
@@ -151,10 +152,11 @@ one_sound ts p rest t h =
 
 -- ---- all of them
 
-prefixes_spelled : (f : Form) (n : ℕ) (ps : List Prefix) (ts mid rest : Tokens) → Rows PrefixHeld ps ts mid → Spells f n mid rest
-    → Spells (prefixes_form ps f) n ts rest
-prefixes_spelled f n [] ts mid rest r s = subst (λ us. Spells f n us rest) (sym r) s
-prefixes_spelled f n (p ∷ ps) ts mid rest r s = (r.0, r.1.0, prefixes_spelled f n ps r.0 mid rest r.2 s)
+prefixes_spelled : (t : Tail) (no_struct : Bool) (n : ℕ) (f : Form) (ps : List Prefix) (ts mid rest : Tokens) → Rows PrefixHeld ps ts mid
+    → SpelledBefore t f no_struct n mid rest → SpelledBefore t (prefixes_form ps f) no_struct n ts rest
+prefixes_spelled t no_struct n f [] ts mid rest r s = subst (λ us. SpelledBefore t f no_struct n us rest) (sym r) s
+prefixes_spelled t no_struct n f (p ∷ ps) ts mid rest r s =
+    piece_made t no_struct n (prefix_bits p) (prefixes_form ps f) ts r.0 rest r.1.0 (prefixes_spelled t no_struct n f ps r.0 mid rest r.2 s)
 
 -- Where a test holds before parts and not behind them, some stand there.
 pub rows_there : {A : Type 0} (more : Tokens → Bool) (P : A → Tokens → Tokens → Type 0) (xs : List A) (ts rest : Tokens)
@@ -235,13 +237,15 @@ module _ (no_struct starts : Bool) (budget : ℕ) (within : ExprWithin) (sound :
       let both = and_parts (ends_in_amp ps.0.0) told.is_raw b in
       let raw = raw_there inner need at end s.0.1 both.1 in
       subst (λ us. begins_pointer us ≡ false) raw.1 (last_amp ps.0.0 ts at r.0 both.0 raw.0) in
+      let kind : ExprLayer = Expr-F.Unary ps.0.0 told in
+      let ended = ended_as told.tail (tail_of kind) told.form no_struct need at end
+      (amp_follows told.tail (ends_in_amp ps.0.0 && told.is_raw) no_struct end free) (tail_held place budget told need at end s.0) in
+      let spelled = prefixes_spelled (tail_of kind) no_struct need (Part told.form Done) ps.0.0 ts at end r.0
+      (last_made (tail_of kind) no_struct need told.form at end ended) in
       same_some (Out Left ts) ((expr.Unary ps.0.0 inner, suc need), end) (x, rest) y.2 (
-        made no_struct starts (about_expr (expr.Unary ps.0.0 inner)) (Expr-F.Unary ps.0.0 told) need ts end
-            (expr_unary_is ps.0.0 inner) (prefixes_spelled (Part told.form Done) need ps.0.0 ts at end r.0 (end, s.0.1, refl))
+        made_before no_struct starts (about_expr (expr.Unary ps.0.0 inner)) kind need ts end (expr_unary_is ps.0.0 inner) spelled
             (and_from (is_there ps.0.0 && placed told place) (not (is_prefix_lead told.lead))
-            (and_from (is_there ps.0.0) (placed told place) there s.0.2) begun)
-            (amp_follows told.tail (ends_in_amp ps.0.0 && told.is_raw) no_struct end free
-            (tail_held place budget told need at end s.0)),
+            (and_from (is_there ps.0.0) (placed told place) there s.0.2) begun),
         s.1,
       )
 
@@ -253,10 +257,12 @@ module _ (no_struct starts : Bool) (budget : ℕ) (within : ExprWithin) (sound :
   StartHeld (Some x) need ts rest =
       Spells (about_expr x).form need ts rest × (placed (about_expr x) (before_op 2 no_struct starts false) ≡ true)
 
-  start_spelled : (start : Option Expr) (need n : ℕ) (f : Form) (begun ts rest : Tokens) → need ≤ n → StartHeld start need begun ts
-      → Spells f n ts rest → Spells (exprs.end_form (option_map about_expr start) f) n begun rest
-  start_spelled None need n f begun ts rest le k s = subst (λ us. Spells f n us rest) (sym k) s
-  start_spelled (Some x) need n f begun ts rest le k s = (ts, raise (about_expr x).form need n begun ts le k.0, s)
+  start_spelled : (t : Tail) (start : Option Expr) (need n : ℕ) (f : Form) (begun ts rest : Tokens) → need ≤ n → StartHeld start need begun ts
+      → SpelledBefore t f no_struct n ts rest → SpelledBefore t (exprs.end_form (option_map about_expr start) f) no_struct n begun rest
+  start_spelled t None need n f begun ts rest le k s = subst (λ us. SpelledBefore t f no_struct n us rest) (sym k) s
+  start_spelled t (Some x) need n f begun ts rest le k s =
+      let told = about_expr x in
+      part_made t no_struct n told.form f begun ts rest (raise told.form need n begun ts le k.0) s
 
   start_good : (start : Option Expr) (need : ℕ) (begun ts : Tokens) → StartHeld start need begun ts
       → start_placed (option_map about_expr start) no_struct starts ≡ true
@@ -271,11 +277,10 @@ module _ (no_struct starts : Bool) (budget : ℕ) (within : ExprWithin) (sound :
       let most = max first_need need in
       let told = option_map about_expr start in
       let form : Form = Piece (dots inclusive) Done in
-      made no_struct starts (about_expr (expr.Range start inclusive None)) (Expr-F.Range told inclusive None) most begun rest
+      made_before no_struct starts (about_expr (expr.Range start inclusive None)) (Expr-F.Range told inclusive None) most begun rest
       (expr_range_is start inclusive None)
-      (start_spelled start first_need most form begun ts rest (omega arith) k (at, o, e.0))
+      (start_spelled lacks_operand start first_need most form begun ts rest (omega arith) k ((at, o, e.0), inl (bare_follows no_struct rest e.1)))
       (and_from (start_placed told no_struct starts) (not inclusive) (start_good start first_need begun ts k) (endless inclusive n))
-      (bare_follows no_struct rest e.1)
     where
       endless : (inclusive : Bool) → (inclusive && true) ≡ false → not inclusive ≡ true
       endless true h = absurd (cc h)
@@ -284,15 +289,16 @@ module _ (no_struct starts : Bool) (budget : ℕ) (within : ExprWithin) (sound :
       let most = max first_need need in
       let told = option_map about_expr start in
       let last = about_expr x in
-      let form : Form = Piece (dots inclusive) (Part last.form Done) in
-      made no_struct starts (about_expr (expr.Range start inclusive (Some x))) (Expr-F.Range told inclusive (Some last)) most begun rest
+      let form : Form = Part last.form Done in
+      let ended = before_deeper last.tail last.form no_struct need most at rest (omega arith)
+      (tail_held (plain 2 no_struct) budget last need at rest e.0) in
+      made_before no_struct starts (about_expr (expr.Range start inclusive (Some x))) (Expr-F.Range told inclusive (Some last)) most begun rest
       (expr_range_is start inclusive (Some x))
-      (start_spelled start first_need most form begun ts rest (omega arith) k
-      (at, o, (rest, raise last.form need most at rest (omega arith) e.0.1, refl)))
+      (start_spelled last.tail start first_need most (Piece (dots inclusive) form) begun ts rest (omega arith) k
+      (piece_made last.tail no_struct most (dots inclusive) form ts at rest o (last_made last.tail no_struct most last.form at rest ended)))
       (and_from (start_placed told no_struct starts) (end_placed (Some last) inclusive no_struct)
       (start_good start first_need begun ts k)
       (and_from (placed last (plain 2 no_struct)) (begins_free no_struct last) e.0.2 e.1))
-      (tail_held (plain 2 no_struct) budget last need at rest e.0)
 
   range_by_sound : (start : Option Expr) (need : ℕ) (inclusive : Bool) (begun ts at : Tokens) → StartHeld start need begun ts
       → AreBits (dots inclusive) ts at → InText at → (x : Expr × ℕ) (rest : Tokens)

@@ -6,13 +6,13 @@ use Rattle.std.proofs.lemmas.Bool.{and_parts, and_from, eqb-true, leb-true, or_c
 use Rattle.lay_piece.specs.declared.kind.Delim.TheVariants.{Paren, Bracket}
 use Rattle.lay_form.specs.BracedEnds.{EndsBraced}
 use Rattle.lay_form.specs.Form.{Bit, Blank, Fixed, Operator, Semicolons, Form, Done, Piece, Leaf, Listed, ListedDoc, Brk, LastComma, Group, Part, Deeper, Optional, Docs, Body, comma}
-use Rattle.lay_form.specs.Spelled.{AreBits, IsListed, IsComment, Spells, Then, cost}
+use Rattle.lay_form.specs.Spelled.{AreBits, Spells, Then, cost}
 use Rattle.lay_form.proofs.BracedEnds.{spelled, deeper as braced_deeper}
-use Rattle.lay_form.proofs.FormLaws.{behind_end, bits_end, closes_end, comment_end, deeper as raise, doc_end, listed_end, may_be_end, opens_end, semicolons_end, shorter}
+use Rattle.lay_form.proofs.FormLaws.{behind_end, bits_end, closes_end, deeper as raise, doc_end, may_be_end, opens_end, shorter}
 use Rattle.lay_node.specs.Ahead.{Tokens, first, is_keyword, opens}
 use Rattle.lay_node.specs.nodes.Types.{is_there}
 use Rattle.lay_node.proofs.Fronts.{end_shorter, one_shorter, op_shorter}
-use Rattle.lay_code.specs.Operators.{begins_step, binary, is_dot_or_try, strength, strength_by}
+use Rattle.lay_code.specs.Operators.{binary, is_dot_or_try, strength, strength_by}
 use Rattle.lay_code.specs.nodes.Exprs.{ExprFacts, Followed, Tail, follows, root_follows, tail_follows}
 use Rattle.lay_code.specs.nodes.Places.{is_whole}
 use Rattle.lay_code.specs.declared.exprs.Place.{Place}
