@@ -4,13 +4,13 @@ use Rattle.std.proofs.lemmas.Bool.{not-true}
 use Rattle.lay_piece.specs.declared.kind.Delim.TheVariants.{Brace}
 use Rattle.lay_form.specs.Form.{Blank, Operator, Form, Done, Part, Piece, closer, comma}
 use Rattle.lay_form.specs.Notation.{I0, when}
-use Rattle.lay_form.specs.Spelled.{Closes, IsBit, IsOperator, Opens, Spells, cost}
+use Rattle.lay_form.specs.Spelled.{Closes, IsOperator, Opens, Spells, cost}
 use Rattle.lay_node.specs.Ahead.{Tokens}
 use Rattle.lay_node.specs.nodes.Attr.{are_attrs, attr_form}
 use Rattle.lay_node.specs.nodes.Patterns.{about_pat, pat_form, pat_good}
 use Rattle.lay_node.specs.reader.Attr.{attributes}
 use Rattle.lay_node.specs.declared.patterns.PatPlace.TheVariants.{Alternatives}
-use Rattle.lay_node.proofs.Parts.{Closed, before_blank, behind_attrs_rows, behind_blank, bit_alone, bit_piece, piece_bit}
+use Rattle.lay_node.proofs.Parts.{before_blank, behind_attrs_rows, behind_blank, bit_piece, piece_bit}
 use Rattle.lay_node.proofs.reader.Attr.{attrs_rows}
 use Rattle.lay_node.proofs.reader.AttrRead.{attributes_complete}
 use Rattle.lay_node.proofs.reader.TypesCompleteKinds.{inner_of}
