@@ -92,7 +92,7 @@ fn failures(rt: HostRuntime) -> Result<(), Fail> {
     Ok(())
 }
 
-// The body of an arm is as deep as it is with its braces, whether it has them or not; and so is what was laid out.
+// The body of an arm or of a closure is as deep as it is with its braces, whether it has them or not; and so is what was laid out.
 #[test]
 fn depths_of_bodies(rt: HostRuntime) -> Result<(), Fail> {
     let rows = "→fn f(){·127×match x{A=>·b·127×}·}⇒Done§\
@@ -105,8 +105,12 @@ fn depths_of_bodies(rt: HostRuntime) -> Result<(), Fail> {
         →fn f(){·255×if a{·b·255×}·}⇒Refused(NoItem { at: 0 })§\
         →fn f(){·254×loop{·b·254×}·}⇒Done§\
         →fn f(){·255×loop{·b·255×}·}⇒Refused(NoItem { at: 0 })§\
-        →fn f(){·254×||·b·}⇒Done§\
-        →fn f(){·255×||·b·}⇒Refused(NoItem { at: 0 })§\
+        →fn f(){·127×||·b·}⇒Done§\
+        →fn f(){·128×||·b·}⇒Refused(NoItem { at: 0 })§\
+        →fn f(){·127×||{·b·127×}·}⇒Done§\
+        →fn f(){·128×||{·b·128×}·}⇒Refused(NoItem { at: 0 })§\
+        →fn f(){·84×||{{·b·84×}}·}⇒Done§\
+        →fn f(){·85×||{{·b·85×}}·}⇒Refused(NoItem { at: 0 })§\
         →fn f(){·254×let A=a else{·b·254×};·}⇒Done§\
         →fn f(){·255×let A=a else{·b·255×};·}⇒Refused(NoItem { at: 0 })§\
         →fn f(){·254×fn g(){·b·254×}·}⇒Done§\

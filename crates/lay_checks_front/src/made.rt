@@ -89,7 +89,7 @@ fn name(alloc: Global, text: &str) -> Option<Name> {
 }
 
 /// The expression in which what a text stands for has this place: itself, or a part of `a * _`, `if a {}`, `while a {}`,
-/// `{ let _ = a else {}; }`, or `match _ { _ => a }`.
+/// `{ let _ = a else {}; }`, `match _ { _ => a }`, or `|| a`.
 fn value(alloc: Global, place: &str, text: &str) -> Option<Boxed<Expr>> {
     match place {
         "if a {}" | "while a {}" => Boxed::new(alloc, decided(alloc, place, text)?).ok(),
@@ -133,6 +133,12 @@ fn valued(alloc: Global, place: &str, text: &str) -> Option<Boxed<Expr>> {
             )?,
             scrutinee: underscore(alloc)?,
             attrs: List::new(alloc),
+        },
+        "|| a" => Expr::Closure {
+            is_async: false,
+            moves: false,
+            params: List::new(alloc),
+            body: node,
         },
         _ => return Some(node),
     };

@@ -61,6 +61,10 @@ const ROWS: &str = "name→no keyword→a→fn¶true¶self¶crate¶Self¶dyn§\
     _ => a→no braces around one expression→a→{a}¶{{a}}¶{match a{}}¶{return}¶{S{}}§\
     _ => a→no braces around one expression, but a statement→{a;}→{a}§\
     _ => a→no braces around one expression, but with a label→'b:{a}→{a}§\
+    || a→no braces around one expression→a→{a}¶{{a}}¶{match a{}}¶{return}¶{S{}}¶{||a}§\
+    || a→no braces around one expression, but a statement→{a;}→{a}¶{{a;}}§\
+    || a→no braces around one expression, but with a label→'b:{a}→{a}¶{'b:{a}}§\
+    || a→no braces around one expression, but a macro call→{m!()}→{{m!()}}§\
     _ => a→no block-like expression at its front→(match a{})+b→match a{}+b¶m!{}-a¶{}()";
 
 /// Of two texts in a place: whether the file of the second can be written, and whether it is that of the first. Nothing is told where

@@ -86,6 +86,9 @@ fn texts(rt: HostRuntime) -> Result<(), Fail> {
     let rows = format!(in alloc;
         "⇒§struct A;struct B;⇒struct A;\nstruct B;\n§{GENERATED}⇒{LAID}§{LAID}⇒{LAID}\
          §const A:B=async move|c|d+async||e;⇒const A: B = async move |c| d + async || e;\n\
+         §fn f(){{h(|x|{{;a+1}});h(|xyz|g(ccccccccccccccccccccccccccccccccccccccccccccccccccccccccccccccccccccccccc));if |x||y|{{A{{}}}}{{}}|x|{{{{a}}.b}}}}⇒\
+         fn f() {{\n    h(|x| a + 1);\n    h(\n        |xyz| {{\n            g(ccccccccccccccccccccccccccccccccccccccccccccccccccccccccccccccccccccccccc)\n        }},\n    );\n\
+         \x20   if |x| |y| {{\n        A {{}}\n    }} {{}}\n    |x| {{\n        {{\n            a\n        }}.b\n    }}\n}}\n\
          §fn f(){{if let A=b&&c{{}}}}⇒fn f() {{\n    if let A = b && c {{}}\n}}\n\
          §fn f(){{if a{{}}else if b&&c&&let D|E=g{{h}}}}⇒fn f() {{\n    if a {{}} else if b && c && let D | E = g {{ h }}\n}}\n\
          §fn f(){{'a:while let B=c&&let D=e{{}}}}⇒fn f() {{\n    'a: while let B = c && let D = e {{}}\n}}\n\
@@ -236,8 +239,10 @@ fn depths_of_texts(rt: HostRuntime) -> Result<(), Fail> {
         const A:B=-&*c;⇒3 Some(3) None§\
         const A:B=c.d(e)[f]?;⇒3 Some(3) None§\
         const A:B=C{d:e,..f};⇒3 Some(3) None§\
-        const A:B=|c:D|e=f=g;⇒4 Some(4) None§\
-        const A:B=async|c:D|e=f=g;⇒4 Some(4) None";
+        const A:B=|c:D|e=f=g;⇒5 Some(5) None§\
+        const A:B=async|c:D|e=f=g;⇒5 Some(5) None§\
+        const A:B=|c|{d};⇒4 Some(4) None§\
+        const A:B=|c|{d;};⇒5 Some(5) None";
     each_is_told(&rt, rt.alloc(), rows, depths)?;
     Ok(())
 }

@@ -4,6 +4,7 @@ pub mod Item
 pub mod Exprs
 pub mod ExprHeads
 pub mod Blocks
+pub mod Closures
 pub mod BlocksRead
 pub mod Conditions
 pub mod ConditionsRead

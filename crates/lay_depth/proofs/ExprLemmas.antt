@@ -2,7 +2,7 @@
 use Rattle.std.proofs.Common.{◌≡◌, ◌∙◌, ◌⊎◌, inl, inr, ℕ, ◌+◌, nat_le, max, Bool, true, false, not, ◌&&◌, ◌||◌, List, [], ◌∷◌, ◌++◌, map, option_map, Option, Some, None, is_some, refl, ap, arith, codes}
 use Rattle.lay_piece.specs.declared.kind.Delim.TheVariants.{Bracket, Paren}
 use Rattle.lay_form.specs.Depth.{least_depth}
-use Rattle.lay_form.specs.Form.{Blank, Form, Done, Part, Piece, keyword, opener, closer}
+use Rattle.lay_form.specs.Form.{Bare, Blank, Braces, Form, Done, Marked, Part, Piece, Unseen, keyword, opener, closer}
 use Rattle.lay_node.specs.nodes.Attr.{attr_form}
 use Rattle.lay_node.specs.nodes.Facts.{Facts, forms}
 use Rattle.lay_node.specs.nodes.Functions.{self_type}
@@ -20,7 +20,7 @@ use Rattle.lay_node.specs.declared.types.Path.{Path}
 use Rattle.lay_node.specs.declared.types.PathStyle.TheVariants.{Code, Kind}
 use Rattle.lay_node.specs.declared.types.Ty.{Ty}
 use Rattle.lay_code.specs.nodes.Code.{about_arm, about_block, about_branch, about_condition, about_expr, about_field_expr, about_step}
-use Rattle.lay_code.specs.nodes.Exprs.{ExprFacts, ExprLayer, StepFacts, args_form, arm_forms, bar, base_form, break_if, closure_head, closure_param, else_branch_form, end_form, expr_facts, expr_forms, generics_form, group_if, inside, is_method, label_form, labelled, methods, operand_form, operands_form, postfix_form, prefixes_form, steps_form, targets_form, tuple_form, types_form}
+use Rattle.lay_code.specs.nodes.Exprs.{ExprFacts, ExprLayer, StepFacts, args_form, arm_forms, bar, base_form, body_braces, break_if, closure_body, closure_head, closure_param, else_branch_form, end_form, expr_facts, expr_forms, generics_form, group_if, inside, is_method, label_form, labelled, methods, operand_form, operands_form, postfix_form, prefixes_form, steps_form, targets_form, tuple_form, types_form}
 use Rattle.lay_code.specs.declared.blocks.Arm.{Arm}
 use Rattle.lay_code.specs.declared.blocks.Block.{Block}
 use Rattle.lay_code.specs.declared.blocks.Branch.{Branch}
@@ -290,12 +290,18 @@ for_is x label pat iterated body is =
     ∙ ap (λ (n : ℕ). n + 1) (labelled_is label _)
     ∙ omega arith
 
+-- The body of a closure stands a level deeper.
+closure_body_is : (b : Braces) (f : Form) → least_depth (closure_body b f) ≡ least_depth f + 1
+closure_body_is Bare f = omega arith
+closure_body_is Unseen f = omega arith
+closure_body_is Marked f = omega arith
+
 pub closure_is : (x : Expr) (is_async moves : Bool) (params : List ClosureParam) (body : Expr) → x ≡ expr.Closure is_async moves params body
-    → least_depth (about_expr x).form ≡ max (greatest (map closure_param params)) (least_depth (about_expr body).form) + 1
+    → least_depth (about_expr x).form ≡ max (greatest (map closure_param params)) (least_depth (about_expr body).form + 1) + 1
 closure_is x is_async moves params body is =
     one_more x (expr.Closure is_async moves params body) (Expr-F.Closure is_async moves params (about_expr body)) is (laws.expr_closure_is is_async moves params body)
     ∙ ap (λ (n : ℕ). n + 1) (closure_head_is is_async moves params _)
-    ∙ omega arith
+    ∙ (let m = closure_body_is (body_braces (about_expr body)) (about_expr body).form in omega (arith, m))
 
 pub typed_closure_is : (x : Expr) (is_async moves : Bool) (params : List ClosureParam) (output : Ty) (body : Block)
     → x ≡ expr.TypedClosure is_async moves params output body

@@ -15,7 +15,7 @@ use lay_depth_nodes::{
 };
 use lay_node::Boxed;
 
-/// The depth of an expression.
+/// The depth of an expression. The body of a closure stands one level deeper.
 #[cycle(code)]
 pub(crate) fn expr_depth(expr: &Expr) -> u32
     ensures { result ≡ counted (least_depth (about_expr expr.now).form) }
@@ -75,7 +75,7 @@ pub(crate) fn expr_depth(expr: &Expr) -> u32
             deeper(head.max(block_depth(body)))
         },
         Expr::Closure { params, body, .. } => {
-            deeper(params_depth(params.as_slice()).max(expr_depth(body.get())))
+            deeper(params_depth(params.as_slice()).max(deeper(expr_depth(body.get()))))
         },
         Expr::TypedClosure {
             params,

@@ -1,11 +1,12 @@
 //! What is told of blocks, statements and items by their roots.
 ghost use Rattle.std.specs.Prelude.{◌≡◌, ◌&&◌, not, is_some};
 ghost use Rattle.lay_ops.specs.RootFacts.{lone_in};
-ghost use Rattle.lay_code.specs.nodes.Bodies.{is_lone_body, is_macro};
+ghost use Rattle.lay_code.specs.nodes.Bodies.{is_lone_body, is_macro, sheds};
 ghost use Rattle.lay_code.specs.nodes.Blocks.{is_plain};
 ghost use Rattle.lay_code.specs.nodes.Code.{about_block, about_expr, about_stmt, told_of_item};
 
 use crate::roots::{is_block_like, is_macro};
+use crate::structs::is_structless;
 use lay_code::{Attr, Block, Expr, Item, ItemKind, Lifetime, Stmt};
 
 /// Whether another statement may stand behind it.
@@ -56,7 +57,7 @@ fn is_lone(block: &Block) -> bool
 }
 
 /// Whether there is no label.
-fn is_unlabelled(label: &Option<Lifetime>) -> bool
+pub(crate) fn is_unlabelled(label: &Option<Lifetime>) -> bool
     ensures { result ≡ not (is_some label.now) }
 {
     match label {
@@ -73,6 +74,44 @@ pub fn is_lone_body(expr: &Expr) -> bool
     match expr {
         Expr::Block { label, body } => is_unlabelled(label) && is_lone(body),
         _ => false,
+    }
+}
+
+/// Whether it is a block whose braces are dropped where it is the body of a closure. The flag says that no struct literal may
+/// stand there.
+#[tactic(auto, using(crate::proofs::BodyFacts::sheds_is))]
+pub fn sheds(expr: &Expr, no_struct: bool) -> bool
+    ensures { result ≡ sheds (about_expr expr.now).kind no_struct }
+{
+    match expr {
+        Expr::Block { label, body } => {
+            is_unlabelled(label) && is_lone(body) && (!no_struct || is_block_structless(body))
+        },
+        _ => false,
+    }
+}
+
+/// Whether no expression of a block's statements holds a struct literal outside delimiters.
+#[tactic(auto, using(crate::proofs::BodyFacts::structless_is))]
+fn is_block_structless(block: &Block) -> bool
+    ensures { result ≡ (about_block block.now).structless }
+{
+    for stmt in block.stmts.as_slice() {
+        if !is_stmt_structless(stmt) {
+            return false;
+        }
+    }
+    true
+}
+
+/// Whether a statement is no expression that holds one.
+#[tactic(auto, using(crate::proofs::BodyFacts::structless_stmt_is))]
+fn is_stmt_structless(stmt: &Stmt) -> bool
+    ensures { result ≡ (about_stmt stmt.now).structless }
+{
+    match stmt {
+        Stmt::Expr { expr, .. } => is_structless(expr.get()),
+        _ => true,
     }
 }
 

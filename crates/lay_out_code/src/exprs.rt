@@ -4,7 +4,7 @@ ghost use Rattle.lay_stream.specs.Fed.{Did};
 ghost use Rattle.lay_form.specs.Form.{Done};
 ghost use Rattle.lay_form.specs.Stream.{fed, stream_of};
 ghost use Rattle.lay_code.specs.nodes.Code.{about_expr};
-ghost use Rattle.lay_code.specs.nodes.Exprs.{end_form, operand_form, tuple_form};
+ghost use Rattle.lay_code.specs.nodes.Exprs.{body_braces, closure_body, end_form, operand_form, tuple_form};
 ghost use Rattle.lay_out_exprs.specs.Parts.{expr_told};
 ghost use Rattle.lay_out_types.specs.Calls.{Adds};
 ghost use Rattle.lay_out_types.specs.Rows.{comma_between, list_closed, list_opened, row};
@@ -16,6 +16,7 @@ use crate::operands::{add_base, add_fields, add_operands, add_steps, add_targets
 use lay_code::{Boxed, Expr, PathStyle};
 use lay_out_exprs::add_closure_head;
 use lay_out_exprs::blocks::add_labelled;
+use lay_out_exprs::bodies::{close_closure, closure_braces, open_closure};
 use lay_out_exprs::flags::both;
 use lay_out_exprs::operators::{add_casts, add_label, add_prefixes};
 use lay_out_exprs::points::{ends_in_point, operand_ends_in_point};
@@ -187,7 +188,7 @@ pub fn add_expr<E: Emit>(
         } => {
             let head = add_closure_head(out, before, *is_async, *moves, params.as_slice());
             let blank = add_text(out, head, b" ");
-            add_expr(out, blank, false, body.get())
+            add_closure_body(out, blank, body.get())
         },
         Expr::TypedClosure {
             is_async,
@@ -268,6 +269,22 @@ pub fn add_optional<E: Emit>(
         None => before,
         Some(node) => add_expr(out, before, point, node.get()),
     }
+}
+
+/// The body of a closure, in braces where it is broken and may stand in them.
+#[cycle(code)]
+fn add_closure_body<E: Emit>(
+    out: &mut E,
+    before: Result<(), E::Fault>,
+    body: &Expr,
+) -> Result<(), E::Fault>
+    ensures { let told = about_expr body.now in
+        Adds E.meanings before out.old (stream_of (closure_body (body_braces told) told.form)) result out.new }
+{
+    let braces = closure_braces(body);
+    let opened = open_closure(out, before, braces);
+    let inner = add_expr(out, opened, false, body);
+    close_closure(out, inner, braces)
 }
 
 /// The operand of a `return` or a `break` behind its blank, if there is one.

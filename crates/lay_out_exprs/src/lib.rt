@@ -8,8 +8,8 @@
 //! stands before its part, and the module `points` tells which expressions end in one.
 #![tactic(auto)]
 
-pub mod arms;
 pub mod blocks;
+pub mod bodies;
 mod closures;
 pub mod flags;
 mod generics;

@@ -1,14 +1,20 @@
 //! Closures.
-ghost use Rattle.std.specs.Prelude.{◌≡◌, ◌+◌, ◌≤◌, codes, IfOk};
+ghost use Rattle.std.specs.Prelude.{ℕ, ◌≡◌, ◌+◌, ◌^◌, ◌<◌, ◌≤◌, codes, IfOk};
 ghost use Rattle.lay_node.specs.Ahead.{is_mark};
 ghost use Rattle.lay_node.specs.reader.Loops.{elements};
+ghost use Rattle.lay_code.specs.nodes.Bodies.{sheds};
+ghost use Rattle.lay_code.specs.nodes.Code.{about_expr};
+ghost use Rattle.lay_code.specs.reader.Blocks.{body_need};
 ghost use Rattle.lay_code.specs.reader.Exprs as exprs;
+ghost use Rattle.lay_ends.specs.Bodies.{IsShed};
 ghost use Rattle.lay_read_tokens.specs.Answers.{AreFound, IsFound, IsHeld};
 ghost use Rattle.lay_read_shared.specs.Code.{code_within};
-ghost use Rattle.lay_read_blocks.specs.Answers.{AreCode, typed_closure};
+ghost use Rattle.lay_read_blocks.specs.Answers.{AreCode, fits, typed_closure};
 
 use crate::rules::BlockRules;
 use lay_code::{Block, Boxed, ClosureParam, Expr, Item, PatPlace, Place, Site, TypePlace};
+use lay_ends::shed;
+use lay_ops::sheds;
 use lay_read_parts::joins::{both, refused};
 use lay_read_parts::loops::{Closer, Part, read_elements};
 use lay_read_pats::pat_ahead;
@@ -22,6 +28,23 @@ use lay_read_tokens::{Ahead, Found, ReadNone};
 use lay_read_types::type_ahead;
 use lay_token::List;
 use std::alloc::Global;
+
+/// The body of a closure, and the need of it: within braces that aren't in the tree it needs as much as they do.
+fn closure_body_of(found: Found<Boxed<Expr>>, no_struct: bool) -> Found<Boxed<Expr>>
+    requires { found.need + 1 < 2 ^ 32 }
+    ensures node { (turns : ℕ) × IsShed no_struct turns found.node result.node }
+    ensures need { result.need ≡ body_need (sheds (about_expr found.node).kind no_struct) found.need }
+{
+    let need = if sheds(found.node.get(), no_struct) {
+        found.need
+    } else {
+        found.need + 1
+    };
+    Found {
+        node: shed(found.node, no_struct),
+        need,
+    }
+}
 
 /// Parameters of a closure, as elements of a list.
 pub struct Params;
@@ -78,7 +101,7 @@ impl<
         )
     }
 
-    /// A closure.
+    /// A closure, unless it is deeper than may be.
     #[tactic(auto, unfolding(lay_code::specs::reader::Exprs::closure_expr))]
     #[inline(never)]
     pub fn closure_expr(
@@ -87,7 +110,7 @@ impl<
         no_struct: bool,
     ) -> Result<Found<Boxed<Expr>>, ReadNone>
         requires { AreCode self.now.depth (P.pre self.now.exprs) (P.post self.now.exprs) (B.pre self.now.blocks) (B.post self.now.blocks) (I.pre self.now.items) (I.post self.now.items) }
-        ensures read { IsFound (exprs.closure_expr (code_within self.now.depth) no_struct at.old) result at.new }
+        ensures read { IsFound (fits (self.now.depth + 1) (exprs.closure_expr (code_within self.now.depth) no_struct at.old)) result at.new }
         ensures within { IfOk result (λ found. found.need ≤ self.now.depth + 1) }
     {
         let is_async = takes_keyword(at, b"async");
@@ -99,7 +122,7 @@ impl<
         self.closure_body(at, no_struct, is_async, moves, params)
     }
 
-    /// What stands behind the parameters of a closure.
+    /// What stands behind the parameters of a closure, unless they are too deep together.
     #[inline(never)]
     fn closure_body(
         &self,
@@ -111,13 +134,17 @@ impl<
     ) -> Result<Found<Boxed<Expr>>, ReadNone>
         requires code { AreCode self.now.depth (P.pre self.now.exprs) (P.post self.now.exprs) (B.pre self.now.blocks) (B.post self.now.blocks) (I.pre self.now.items) (I.post self.now.items) }
         requires within { params.need ≤ self.now.depth }
-        ensures read { IsFound (exprs.closure_body (code_within self.now.depth) no_struct is_async moves params.node params.need at.old) result at.new }
+        ensures read { IsFound (fits (self.now.depth + 1) (exprs.closure_body (code_within self.now.depth) no_struct is_async moves params.node params.need at.old)) result at.new }
         ensures within { IfOk result (λ found. found.need ≤ self.now.depth + 1) }
     {
         if at.op_is(b"->") {
             return self.typed_closure(at, is_async, moves, params);
         }
-        let (params, body) = both(params, self.expr(at, plain(0, no_struct)))?;
+        let (params, found) = both(params, self.expr(at, plain(0, no_struct)))?;
+        let body = closure_body_of(found, no_struct);
+        if body.need > self.depth {
+            return refused((params, body));
+        }
         boxed_found(
             self.alloc,
             Expr::Closure {

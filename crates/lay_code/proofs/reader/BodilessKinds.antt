@@ -1,14 +1,12 @@
 -- Kinds of expressions that end in no body, so not within braces that aren't in the tree: paths, casts, steps, branches, and those
 -- of which the last operand is left out.
-use Rattle.std.proofs.Common.{◌≡◌, Bool, true, false, ◌&&◌, ◌||◌, nat_le, List, [], ◌∷◌, ◌++◌, map, codes, Option, option_map, Some, None, if◌then◌else◌, refl, sym, subst}
+use Rattle.std.proofs.Common.{◌≡◌, Bool, true, false, ◌&&◌, ◌||◌, nat_le, List, [], ◌∷◌, ◌++◌, map, Option, Some, None, if◌then◌else◌, refl, sym, subst}
 use Rattle.std.proofs.lemmas.Bool.{and_from, or_left}
-use Rattle.lay_piece.specs.declared.kind.Delim.TheVariants.{Paren}
-use Rattle.lay_form.specs.Form.{Form, Done, Part, Piece, closer, opener}
+use Rattle.lay_form.specs.Form.{Form, Done, Part}
 use Rattle.lay_form.specs.Notation.{I0, body, soft}
 use Rattle.lay_node.specs.nodes.Attr.{attr_form}
 use Rattle.lay_node.specs.nodes.Facts.{forms}
 use Rattle.lay_node.specs.nodes.Fields.{blank_if}
-use Rattle.lay_node.specs.nodes.Patterns.{dots}
 use Rattle.lay_node.specs.nodes.Types.{about_arg, about_type, angle_form}
 use Rattle.lay_node.specs.declared.attr.Attr.{Attr}
 use Rattle.lay_node.specs.declared.token.Lifetime.{Lifetime}
@@ -16,15 +14,13 @@ use Rattle.lay_node.specs.declared.types.Arg.{Arg}
 use Rattle.lay_node.specs.declared.types.PathStyle.TheVariants.{Code}
 use Rattle.lay_node.specs.declared.types.Ty.{Ty}
 use Rattle.lay_code.specs.nodes.Blocks.{attrs_before, block_form, dropped_if, is_plain, soft_form, stmt_form}
-use Rattle.lay_code.specs.nodes.Code.{about_block, about_branch, about_expr, about_step, about_stmt}
+use Rattle.lay_code.specs.nodes.Code.{about_branch, about_expr, about_step, about_stmt}
 use Rattle.lay_code.specs.nodes.CodeFacts.{BlockFacts, BranchFacts, StmtFacts}
-use Rattle.lay_code.specs.nodes.Exprs.{ExprFacts, ExprLayer, StepFacts, args_form, branch_head, branches_form, break_if, expr_facts, expr_forms, generics_form, group_if, inside, is_method, is_raw_path, methods, more_branches, postfix_form, step_facts, steps_form, types_form}
-use Rattle.lay_code.specs.declared.blocks.Block.{Block}
+use Rattle.lay_code.specs.nodes.Exprs.{ExprFacts, ExprLayer, StepFacts, args_form, branch_head, break_if, expr_facts, expr_forms, generics_form, group_if, inside, is_method, is_raw_path, methods, more_branches, steps_form, types_form}
 use Rattle.lay_code.specs.declared.blocks.Branch.{Branch}
-use Rattle.lay_code.specs.declared.blocks.Stmt.TheOpen.{Expr-F, Step-F}
+use Rattle.lay_code.specs.declared.blocks.Stmt.TheOpen.{Expr-F}
 use Rattle.lay_code.specs.declared.exprs.Expr.{Expr}
 use Rattle.lay_code.specs.declared.exprs.Step.{Step}
-use Rattle.lay_code.specs.declared.exprs.Step.TheVariants as step
 use Rattle.lay_code.proofs.nodes.BlocksLaws.{block_is, branch_is}
 use Rattle.lay_code.proofs.nodes.ExprsLaws.{StepView, IsFieldStep, IsTupleIndexStep, IsMethodStep, IsApplyStep, IsIndexStep, IsTryStep, IsAwaitStep, step_view, step_field_is, step_tuple_index_is, step_method_is, step_apply_is, step_index_is, step_try_is, step_await_is}
 use Rattle.lay_code.proofs.reader.BodilessTypes.{EndsBare, angles_bare, behind_bare, leaf_bare, parens_bare, part_bare, path_bare, type_bare}

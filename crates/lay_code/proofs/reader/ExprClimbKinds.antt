@@ -12,7 +12,7 @@ use Rattle.lay_node.specs.declared.types.Ty.{Ty}
 use Rattle.lay_node.proofs.Parts.{bit_alone}
 use Rattle.lay_code.specs.Operators.{op_level, angle_by, is_angle, is_angle_op, is_dot_or_try, strength}
 use Rattle.lay_code.specs.nodes.Code.{about_expr, about_step}
-use Rattle.lay_code.specs.nodes.Exprs.{ExprFacts, Tail, placed, tail_follows, operands_form, end_form, is_chain_level, level_of_chain, may_chain, operands_placed, targets_placed, end_placed, is_tuple_index, is_dotted, are_steps, types_good, tail_of_end, tail_of_steps, inside, tail_of, expr_facts, ExprLayer}
+use Rattle.lay_code.specs.nodes.Exprs.{ExprFacts, placed, tail_follows, end_form, is_chain_level, level_of_chain, may_chain, operands_placed, targets_placed, end_placed, is_tuple_index, is_dotted, are_steps, types_good, tail_of_end, tail_of_steps, inside, tail_of, expr_facts, ExprLayer}
 use Rattle.lay_code.specs.nodes.Places.{plain, begins, part_if, before_op}
 use Rattle.lay_code.specs.reader.Exprs.{operands, chain_expr, assign_expr, one_type, cast_expr, stage}
 use Rattle.lay_code.specs.reader.Within.{ExprWithin}

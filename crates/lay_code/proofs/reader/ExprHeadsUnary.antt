@@ -8,7 +8,7 @@ use Rattle.lay_form.specs.Spelled.{IsOne, AreBits, Spells, Then}
 use Rattle.lay_node.specs.Ahead.{Tokens, first, tail, is_keyword}
 use Rattle.lay_node.specs.nodes.Types.{is_there}
 use Rattle.lay_node.proofs.Fronts.{one_front, one_shorter}
-use Rattle.lay_node.proofs.Parts.{Rows, bit_alone, behind_blank, before_blank, part_alone}
+use Rattle.lay_node.proofs.Parts.{Rows, bit_alone, behind_blank, before_blank}
 use Rattle.lay_node.proofs.reader.Exact.{IsRead}
 use Rattle.lay_node.proofs.reader.Loops.{Turn, repeat_complete}
 use Rattle.lay_node.proofs.reader.TypesCompleteParts.{none_left, none_right}

@@ -22,13 +22,15 @@ use Rattle.lay_node.proofs.samples.Patterns.{lone}
 use Rattle.lay_node.proofs.samples.Trees.{a, b, closes, mark, opens, token, word}
 use Rattle.lay_code.specs.Operands.{expr_lead_at}
 use Rattle.lay_code.specs.Operators.{binary, strength}
+use Rattle.lay_code.specs.nodes.Exprs.{expr_facts}
 use Rattle.lay_code.specs.nodes.Places.{FREE, plain, statement}
 use Rattle.lay_code.specs.reader.Blocks.{arm_by, block_by, branch_by, expr_stmt, let_stmt, stmt_by, stmt_in_block, undressed}
 use Rattle.lay_code.specs.reader.Code.{code_in, expr_at, item_at}
 use Rattle.lay_code.specs.reader.Conditions.{condition_by, condition_of, further_links, one_link}
-use Rattle.lay_code.specs.reader.Exprs.{block_word_expr, climb, climb_by, closure_expr, closure_param, expr_by, for_expr, head_by, if_expr, label_expr, match_expr, path_expr, while_expr}
+use Rattle.lay_code.specs.reader.Exprs.{block_word_expr, climb, climb_by, closure_expr, closure_param, expr_by, for_expr, head_by, if_expr, label_expr, match_expr, path_expr, return_expr, shed, while_expr}
 use Rattle.lay_code.specs.reader.Item.{function_by, item_by, kind_at}
 use Rattle.lay_code.specs.reader.ItemLeads.{item_lead}
+use Rattle.lay_code.specs.declared.blocks.Stmt.TheOpen.{Expr-F}
 use Rattle.lay_code.specs.declared.blocks.Stmt.TheVariants as stmt
 use Rattle.lay_code.specs.declared.blocks.Stmt.TheViews as views
 use Rattle.lay_code.specs.declared.exprs.Expr.TheVariants as expr
@@ -37,8 +39,9 @@ use Rattle.lay_code.proofs.nodes.BlocksLaws as blocks
 use Rattle.lay_code.proofs.nodes.ExprsLaws as exprs
 use Rattle.lay_code.proofs.nodes.ItemLaws as items
 use Rattle.lay_code.proofs.samples.Blocks.{alone_is, alone_of, arm_of, block_of, branch_of, ended_then, name_link, of_links, pair_is, param_named}
+use Rattle.lay_code.proofs.samples.Closures.{braced, braced_facts, braced_is, closure}
 use Rattle.lay_code.proofs.samples.ExprHeads.{at_level, reads}
-use Rattle.lay_code.proofs.samples.Exprs.{name, name_is, named_type, tick_a}
+use Rattle.lay_code.proofs.samples.Exprs.{name, name_facts, name_is, named_type, tick_a}
 use Rattle.lay_code.proofs.samples.Heads.{fn_of, name_pat, unseen}
 use Rattle.lay_code.proofs.samples.ItemTrees.{no_wheres}
 
@@ -348,24 +351,149 @@ body_b = rw (name_is b) refl
 closure_begun : head_by (at_level 1) false
     (expr_lead_at (word (codes "move") ∷ mark (codes "|") ∷ word a ∷ mark (codes "|") ∷ word b ∷ []))
     (word (codes "move") ∷ mark (codes "|") ∷ word a ∷ mark (codes "|") ∷ word b ∷ [])
-    ≡ Some ((expr.Closure false true (param_named a None ∷ []) (name b), 2), [])
-unfolding expr_lead_at closure_expr closure_param elements elements_from attributes repeat repeat_from op_at
-closure_begun = rw (param_a (word b ∷ []), body_b) refl
+    ≡ Some ((expr.Closure false true (param_named a None ∷ []) (name b), 3), [])
+unfolding expr_lead_at closure_expr closure_param elements elements_from attributes repeat repeat_from op_at shed
+closure_begun = rw (param_a (word b ∷ []), body_b, name_is b) refl
 
 -- `async|a|b` and `async move|a|b`
 async_closure_begun : head_by (at_level 1) false
     (expr_lead_at (word (codes "async") ∷ mark (codes "|") ∷ word a ∷ mark (codes "|") ∷ word b ∷ []))
     (word (codes "async") ∷ mark (codes "|") ∷ word a ∷ mark (codes "|") ∷ word b ∷ [])
-    ≡ Some ((expr.Closure true false (param_named a None ∷ []) (name b), 2), [])
-unfolding expr_lead_at closure_expr closure_param elements elements_from attributes repeat repeat_from op_at
-async_closure_begun = rw (param_a (word b ∷ []), body_b) refl
+    ≡ Some ((expr.Closure true false (param_named a None ∷ []) (name b), 3), [])
+unfolding expr_lead_at closure_expr closure_param elements elements_from attributes repeat repeat_from op_at shed
+async_closure_begun = rw (param_a (word b ∷ []), body_b, name_is b) refl
 
 async_move_begun : head_by (at_level 1) false
     (expr_lead_at (word (codes "async") ∷ word (codes "move") ∷ mark (codes "|") ∷ word a ∷ mark (codes "|") ∷ word b ∷ []))
     (word (codes "async") ∷ word (codes "move") ∷ mark (codes "|") ∷ word a ∷ mark (codes "|") ∷ word b ∷ [])
-    ≡ Some ((expr.Closure true true (param_named a None ∷ []) (name b), 2), [])
-unfolding expr_lead_at closure_expr closure_param elements elements_from attributes repeat repeat_from op_at
-async_move_begun = rw (param_a (word b ∷ []), body_b) refl
+    ≡ Some ((expr.Closure true true (param_named a None ∷ []) (name b), 3), [])
+unfolding expr_lead_at closure_expr closure_param elements elements_from attributes repeat repeat_from op_at shed
+async_move_begun = rw (param_a (word b ∷ []), body_b, name_is b) refl
+
+-- ---- the braces of their bodies
+
+abbrev bars : Tokens → Tokens
+bars ts = mark (codes "|") ∷ mark (codes "|") ∷ ts
+
+-- `{a}` as the body of a closure
+pair_a_begun : head_by (at_level 1) false (expr_lead_at (in_braces (word a) [])) (in_braces (word a) []) ≡ Some ((braced (name a), 2), [])
+unfolding expr_lead_at
+pair_a_begun = rw (block_a []) refl
+
+pair_a : expr_at FREE 2 (in_braces (word a) []) ≡ Some ((braced (name a), 2), [])
+unfolding binary strength climb op_at
+pair_a = reads 1 FREE (in_braces (word a) []) (braced (name a), 2) (braced (name a), 2) [] [] _ pair_a_begun refl (exprs.expr_block_is None (alone_of (name a))) refl
+
+shed_a : (turns : ℕ) → shed false (suc (suc turns)) (braced (name a)) ≡ name a
+unfolding shed
+shed_a turns =
+    rw (
+      braced_is (name a) (name_facts a) (name_is a),
+      views.outs-Block None (alone_of (name a)),
+      views.outs-Stmt::Expr [] (name a) false,
+      name_is a,
+    )
+    refl
+
+-- `||{a}` is read as `||a` is, and as deep.
+one_pair : head_by (at_level 2) false (expr_lead_at (bars (in_braces (word a) []))) (bars (in_braces (word a) [])) ≡ Some ((closure (name a), 3), [])
+unfolding expr_lead_at closure_expr elements elements_from repeat repeat_from op_at
+one_pair = rw (pair_a, shed_a 1, braced_is (name a) (name_facts a) (name_is a)) refl
+
+-- `{;{a}}`
+stmt_pair : stmt_in_block (at_level 2) (in_braces (word a) (closes Brace ∷ [])) ≡ Some ((stmt.Expr [] (braced (name a)) false, 2), closes Brace ∷ [])
+unfolding stmt_by expr_stmt attributes repeat repeat_from
+stmt_pair = rw (lone_block, blocks.stmt_expr_is [] (braced (name a)) false, exprs.expr_block_is None (alone_of (name a))) refl
+
+abbrev two_pairs : Tokens
+two_pairs = opens Brace ∷ semicolon ∷ in_braces (word a) (closes Brace ∷ [])
+
+block_of_pair : block_by (at_level 2) two_pairs ≡ Some ((alone_of (braced (name a)), 2), [])
+unfolding block_by attributes repeat repeat_from
+block_of_pair = rw (stmt_pair) refl
+
+two_pairs_begun : head_by (at_level 2) false (expr_lead_at two_pairs) two_pairs ≡ Some ((braced (braced (name a)), 3), [])
+unfolding expr_lead_at
+two_pairs_begun = rw (block_of_pair) refl
+
+two_pairs_read : expr_at FREE 3 two_pairs ≡ Some ((braced (braced (name a)), 3), [])
+unfolding binary strength climb op_at
+two_pairs_read =
+    reads 2 FREE two_pairs (braced (braced (name a)), 3) (braced (braced (name a)), 3) [] [] _ two_pairs_begun refl
+    (exprs.expr_block_is None (alone_of (braced (name a)))) refl
+
+shed_two : shed false 6 (braced (braced (name a))) ≡ name a
+unfolding shed
+shed_two =
+    rw (
+      braced_is (braced (name a)) (braced_facts (name_facts a)) (braced_is (name a) (name_facts a) (name_is a)),
+      views.outs-Block None (alone_of (braced (name a))),
+      views.outs-Stmt::Expr [] (braced (name a)) false,
+    )
+    (shed_a 3)
+
+-- `||{;{a}}` needs one level more.
+one_more : head_by (at_level 3) false (expr_lead_at (bars two_pairs)) (bars two_pairs) ≡ Some ((closure (name a), 4), [])
+unfolding expr_lead_at closure_expr elements elements_from repeat repeat_from op_at
+one_more =
+    rw (
+      two_pairs_read,
+      shed_two,
+      braced_is (braced (name a)) (braced_facts (name_facts a)) (braced_is (name a) (name_facts a) (name_is a)),
+    )
+    refl
+
+-- Of `||{return}a` the closure is read, and `a` is left: it isn't the operand.
+abbrev return_word : Token
+return_word = word (codes "return")
+
+last_return : (ts : Tokens) → expr_at statement 1 (return_word ∷ closes Brace ∷ ts) ≡ Some ((expr.Return None, 1), closes Brace ∷ ts)
+unfolding code_in expr_by expr_lead_at return_expr binary strength climb op_at
+last_return ts = rw (exprs.expr_return_is None, exprs.expr_return_is None) refl
+
+stmt_return : (ts : Tokens) → stmt_in_block (at_level 1) (return_word ∷ closes Brace ∷ ts)
+    ≡ Some ((stmt.Expr [] (expr.Return None) false, 1), closes Brace ∷ ts)
+unfolding stmt_by expr_stmt attributes repeat repeat_from
+stmt_return ts = rw (last_return ts, blocks.stmt_expr_is [] (expr.Return None) false, exprs.expr_return_is None) refl
+
+pair_return_begun : (ts : Tokens) → head_by (at_level 1) false (expr_lead_at (in_braces return_word ts)) (in_braces return_word ts)
+    ≡ Some ((braced (expr.Return None), 2), ts)
+unfolding expr_lead_at block_by attributes repeat repeat_from
+pair_return_begun ts = rw (stmt_return ts) refl
+
+pair_return : expr_at FREE 2 (in_braces return_word (word a ∷ [])) ≡ Some ((braced (expr.Return None), 2), word a ∷ [])
+unfolding binary strength climb op_at
+pair_return =
+    reads 1 FREE (in_braces return_word (word a ∷ [])) (braced (expr.Return None), 2) (braced (expr.Return None), 2) (word a ∷ []) (word a ∷ []) _
+    (pair_return_begun (word a ∷ [])) refl (exprs.expr_block_is None (alone_of (expr.Return None))) refl
+
+shed_return : shed false 4 (braced (expr.Return None)) ≡ expr.Return None
+unfolding shed
+shed_return =
+    rw (
+      braced_is (expr.Return None) (expr_facts (Expr-F.Return None)) (exprs.expr_return_is None),
+      views.outs-Block None (alone_of (expr.Return None)),
+      views.outs-Stmt::Expr [] (expr.Return None) false,
+      exprs.expr_return_is None,
+    )
+    refl
+
+return_begun : head_by (at_level 2) false (expr_lead_at (bars (in_braces return_word (word a ∷ [])))) (bars (in_braces return_word (word a ∷ [])))
+    ≡ Some ((closure (expr.Return None), 3), word a ∷ [])
+unfolding expr_lead_at closure_expr elements elements_from repeat repeat_from op_at
+return_begun =
+    rw (
+      pair_return,
+      shed_return,
+      braced_is (expr.Return None) (expr_facts (Expr-F.Return None)) (exprs.expr_return_is None),
+    )
+    refl
+
+name_left : expr_at FREE 3 (bars (in_braces return_word (word a ∷ []))) ≡ Some ((closure (expr.Return None), 3), word a ∷ [])
+unfolding binary strength climb op_at
+name_left =
+    reads 2 FREE (bars (in_braces return_word (word a ∷ []))) (closure (expr.Return None), 3) (closure (expr.Return None), 3) (word a ∷ []) (word a ∷ [])
+    _ return_begun refl (exprs.expr_closure_is false false [] (expr.Return None)) refl
 
 -- `|a|->u8{b}`
 typed_begun : head_by (at_level 1) false

@@ -113,6 +113,9 @@ path_facts path p = record {
   kind = OtherBody;
   is_raw = is_raw_word (lone_word path);
   is_number = false;
+  starts = true;
+  tight = true;
+  structless = true;
   within = λ no_struct first. (p Code).good;
 }
 

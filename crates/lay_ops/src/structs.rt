@@ -1,0 +1,79 @@
+//! Struct literals outside delimiters.
+ghost use Rattle.std.specs.Prelude.{◌≡◌, option_map};
+ghost use Rattle.lay_code.specs.nodes.Code.{about_expr};
+ghost use Rattle.lay_code.specs.nodes.Exprs.{structless_end, structless_operand};
+ghost use Rattle.lay_ops.specs.Edges.{structless_operands, structless_targets};
+
+use crate::edges::begins_with_brace;
+use lay_code::{Boxed, Expr, Op};
+
+/// Whether an expression holds no struct literal outside delimiters.
+#[cycle(structless)]
+pub(crate) fn is_structless(expr: &Expr) -> bool
+    ensures { result ≡ (about_expr expr.now).structless }
+{
+    match expr {
+        Expr::Struct { .. } => false,
+        Expr::Chain { first, rest } => {
+            is_structless(first.get()) && are_operands_structless(rest.as_slice())
+        },
+        Expr::Assign { targets, value } => {
+            are_targets_structless(targets.as_slice()) && is_structless(value.get())
+        },
+        Expr::Range { start, end, .. } => is_start_structless(start) && is_end_structless(end),
+        Expr::Cast { operand: part, .. }
+        | Expr::Unary { operand: part, .. }
+        | Expr::Postfix { base: part, .. }
+        | Expr::Closure { body: part, .. } => is_structless(part.get()),
+        Expr::Return { operand } | Expr::Break { operand, .. } => is_end_structless(operand),
+        _ => true,
+    }
+}
+
+/// Whether none of the operands behind operators holds one.
+#[cycle(structless)]
+fn are_operands_structless(operands: &[(Op, Boxed<Expr>)]) -> bool
+    ensures { result ≡ structless_operands operands.now }
+{
+    for (_, operand) in operands {
+        if !is_structless(operand.get()) {
+            return false;
+        }
+    }
+    true
+}
+
+/// Whether none of the targets of an assignment holds one.
+#[cycle(structless)]
+fn are_targets_structless(targets: &[(Boxed<Expr>, Op)]) -> bool
+    ensures { result ≡ structless_targets targets.now }
+{
+    for (target, _) in targets {
+        if !is_structless(target.get()) {
+            return false;
+        }
+    }
+    true
+}
+
+/// Whether the start of a range holds none, if it has one.
+#[cycle(structless)]
+fn is_start_structless(start: &Option<Boxed<Expr>>) -> bool
+    ensures { result ≡ structless_operand (option_map about_expr start.now) }
+{
+    match start {
+        Some(start) => is_structless(start.get()),
+        None => true,
+    }
+}
+
+/// Whether an operand that may be left out holds none and begins with no `{`.
+#[cycle(structless)]
+fn is_end_structless(end: &Option<Boxed<Expr>>) -> bool
+    ensures { result ≡ structless_end (option_map about_expr end.now) }
+{
+    match end {
+        Some(end) => is_structless(end.get()) && !begins_with_brace(end.get()),
+        None => true,
+    }
+}
