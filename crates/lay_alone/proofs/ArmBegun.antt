@@ -31,22 +31,26 @@ use Rattle.lay_code.specs.nodes.Bodies.{braces_of, is_lone_body, is_macro}
 use Rattle.lay_code.specs.nodes.Blocks.{guard_form, is_free}
 use Rattle.lay_code.specs.nodes.Code.{about_arm, about_expr}
 use Rattle.lay_code.specs.nodes.CodeFacts.{ArmFacts}
-use Rattle.lay_code.specs.nodes.Exprs.{ExprFacts, follows, placed, value_placed}
+use Rattle.lay_code.specs.nodes.Exprs.{ExprFacts, Followed, follows, placed, value_placed}
 use Rattle.lay_code.specs.nodes.Places.{FREE, statement}
 use Rattle.lay_code.specs.reader.Blocks.{arm_body, arm_by, arm_end, body_need, undressed}
 use Rattle.lay_code.specs.reader.Within.{ExprWithin}
 use Rattle.lay_code.specs.declared.blocks.Arm.{Arm}
 use Rattle.lay_code.specs.declared.exprs.Expr.{Expr}
 use Rattle.lay_code.proofs.nodes.BlocksLaws.{arm_is}
-use Rattle.lay_code.proofs.reader.ArmsSoundBodies.{Peeled, is_alone, peel}
+use Rattle.lay_code.proofs.reader.ArmsComplete.{undress_dressed}
+use Rattle.lay_code.proofs.reader.ArmsSoundBodies.{Peeled, peel}
+use Rattle.lay_code.proofs.reader.Dressed.{alone_is_free, alone_is_lone, braced_no_macro, dress, dressed, dressed_no_macro, dressed_placed, is_alone, opens_take}
 use Rattle.lay_code.proofs.reader.ExprQuiet.{comma_ends_expr, ends_follow}
 use Rattle.lay_code.proofs.reader.ExprReads.{ExprReads}
 use Rattle.lay_code.proofs.reader.ExprSoundLevel.{SoundExprWithin}
+use Rattle.lay_code.proofs.reader.Followed.{root_of}
 use Rattle.lay_code.proofs.reader.FrontsHeld.{fronts}
 use Rattle.lay_code.proofs.reader.PatternEnds.{arrow_follows, if_follows}
 use Rattle.lay_alone.specs.ArmFronts.{alone_end, arm_alone, arm_begun, arm_follows, arm_shape, body_begun, in_braces, levels}
-use Rattle.lay_alone.proofs.ArmBlocks.{alone_follows, alone_is_free, alone_is_lone, braced_no_macro, dress, dressed, dressed_no_macro, dressed_placed, lone_no_dot, opens_take, undress_dressed}
+use Rattle.lay_alone.proofs.ArmBlocks.{alone_follows, lone_no_dot}
 use Rattle.lay_alone.proofs.ArmShapes.{ShapeParts, Within, braces_spelled, levels_spelled, shape_parts}
+use Rattle.lay_alone.proofs.Settled.{settled}
 
 -- ---- an arm of a match is an arm up to its comma, and its end
 
@@ -119,20 +123,27 @@ cost_is : (k : ℕ) → 1 ≤ k → cost k ≡ k
 cost_is zero le = absurd (omega (arith, le))
 cost_is (suc k) le = refl
 
-bare_follows : (y : Expr) (z : Tokens) → follows (about_expr y) statement z ≡ true → Follows 0 (is_free (about_expr y)) y z
-bare_follows y z f c e =
-    let fits = follows (about_expr y) statement z in
+bare_follows : (y : Expr) (m : ℕ) (ts z : Tokens) → placed (about_expr y) statement ≡ true → Followed (about_expr y) statement m ts z
+    → Follows 0 (is_free (about_expr y)) y z
+bare_follows y m ts z w f c e =
+    let told = about_expr y in
+    let fits = follows told statement z in
     let none = not (first (is_mark (codes ",")) z) in
-    and_from (none && fits) (is_free (about_expr y) || at_end z) (and_from none fits (ap not c) f) e
+    let ends : (told.block_like || at_end z) ≡ true = by told.block_like (not (is_macro told.kind)) (at_end z) e in
+    and_from (none && fits) (is_free told || at_end z) (and_from none fits (ap not c) (settled y m ts z w f ends)) e
+  where
+    by : (a b end : Bool) → ((a && b) || end) ≡ true → (a || end) ≡ true
+    by true b end h = refl
+    by false b end h = h
 
 braced_follows : (k : ℕ) (free : Bool) (y : Expr) (z : Tokens) → 1 ≤ k → not (is_dot_or_try z) ≡ true → Follows k free y z
 braced_follows zero free y z le d c e = absurd (omega (arith, le))
 braced_follows (suc k) free y z le d c e = and_from (not (first (is_mark (codes ",")) z)) (not (is_dot_or_try z)) (ap not c) d
 
 -- A body that is read stands there, at the depth that it needs.
-body_by : (x y : Expr) (m : ℕ) (ts z : Tokens) → Peeled x y m ts z → follows (about_expr x) statement z ≡ true
-    → BodyHeld ((y, is_free (about_expr x)), body_need (is_lone_body (about_expr x).kind) m) ts z
-body_by x y m ts z p f = by (is_lone_body (about_expr x).kind) refl
+body_by : (x y : Expr) (m : ℕ) (ts z : Tokens) → Peeled x y m ts z → placed (about_expr x) statement ≡ true
+    → Followed (about_expr x) statement m ts z → BodyHeld ((y, is_free (about_expr x)), body_need (is_lone_body (about_expr x).kind) m) ts z
+body_by x y m ts z p w f = by (is_lone_body (about_expr x).kind) refl
   where
     shape : (n : ℕ) → cost p.pairs ≤ n → m - p.pairs ≡ n - cost p.pairs
         → Spells (levels (cost p.pairs) (in_braces p.pairs (about_expr y).form)) n ts z
@@ -151,13 +162,13 @@ body_by x y m ts z p f = by (is_lone_body (about_expr x).kind) refl
           form = shape m (omega (arith, c, p.le)) (omega (arith, c));
           stands = p.stands;
           bare = p.bare;
-          behind = braced_follows p.pairs (is_free (about_expr x)) y z one (lone_no_dot x (is_alone x h) z f);
+          behind = braced_follows p.pairs (is_free (about_expr x)) y z one (lone_no_dot x (is_alone x h) z (root_of (about_expr x) statement m ts z f));
         }
     by false h =
         let none = p.none h in
         let c : cost p.pairs ≡ 1 = ap cost none.0 in
         let there : Follows 0 (is_free (about_expr x)) y z =
-        subst (λ v. Follows 0 (is_free (about_expr x)) v z) (sym none.1) (bare_follows x z f) in
+        subst (λ v. Follows 0 (is_free (about_expr x)) v z) (sym none.1) (bare_follows x m ts z w f) in
         record {
           pairs = p.pairs;
           may = p.may;
@@ -187,7 +198,7 @@ module _ (budget : ℕ) (within : ExprWithin) (sound : SoundExprWithin budget wi
       let y = undressed (length ts) inner in
       let p = peel (length ts) e.0.0.1 inner ts e.0.1 (omega arith) s.0.1 s.0.2 in
       same_some (Out BodyHeld ts) (((y, is_free (about_expr inner)), body_need (is_lone_body (about_expr inner).kind) e.0.0.1), e.0.1) (x, rest) e.2
-      (body_by inner y e.0.0.1 ts e.0.1 p s.0.3, s.1)
+      (body_by inner y e.0.0.1 ts e.0.1 p s.0.2 s.0.3, s.1)
 
   -- a guard, if there is one
   abbrev GuardHeld : Option Expr × ℕ → Tokens → Tokens → Type 0
@@ -298,7 +309,7 @@ module _ (depth : ℕ) (within : ExprWithin) (reads : (least : ℕ) → least �
       let is = dressed k (depth - cost k) y ts w.at w.end rest w.opens w.form w.closes in
       let turns : k ≤ length ts = omega (arith, opens_take k ts w.at w.opens) in
       let bare = undress_dressed k (length ts) y turns lone no_macro in
-      let r = (reads ((depth - cost k) + k) (depth_bound k le)).exprs statement x ts rest is (dressed_placed k y p) f in
+      let r = (reads ((depth - cost k) + k) (depth_bound k le)).exprs statement x ts rest is (dressed_placed k y ∙ p) (inl f) in
       (body_need (is_lone_body (about_expr x).kind) r.0, need_is k y r.0 lone no_macro r.1 le, body_made x y r.0 ts rest r.2 bare)
 
   -- ---- what stands before the `=>`
@@ -310,7 +321,7 @@ module _ (depth : ℕ) (within : ExprWithin) (reads : (least : ℕ) → least �
   guard_read (Some x) ts rest s g a =
       let o = guard_word ts s.0 s.1 in
       let x_spelled = part_alone (about_expr x).form depth s.0 rest s.2 in
-      let r = here.exprs FREE x s.0 rest x_spelled g (ends_follow (about_expr x) FREE rest (fronts.arrows rest a)) in
+      let r = here.exprs FREE x s.0 rest x_spelled g (inl (ends_follow (about_expr x) FREE rest (fronts.arrows rest a))) in
       (r.0, r.1, rw (keyword_there (codes "if") ts s.0 o, one_left Ident (codes "if") ts s.0 o, r.2) refl)
 
   pat_fits : (a : Arm) (ts rest : Tokens) → Spells (guard_form (option_map about_expr a.guard)) depth ts rest → is_op (codes "=>") rest ≡ true

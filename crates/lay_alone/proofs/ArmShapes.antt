@@ -4,13 +4,13 @@ use Rattle.std.proofs.lemmas.Bool.{not-true}
 use Rattle.lay_piece.specs.declared.kind.Delim.TheVariants.{Brace}
 use Rattle.lay_form.specs.Form.{Blank, Operator, Form, Done, Part, Piece, closer, comma}
 use Rattle.lay_form.specs.Notation.{I0, when}
-use Rattle.lay_form.specs.Spelled.{Closes, IsBit, IsOperator, Opens, Spells, cost}
+use Rattle.lay_form.specs.Spelled.{Closes, IsOperator, Opens, Spells, cost}
 use Rattle.lay_node.specs.Ahead.{Tokens}
 use Rattle.lay_node.specs.nodes.Attr.{are_attrs, attr_form}
 use Rattle.lay_node.specs.nodes.Patterns.{about_pat, pat_form, pat_good}
 use Rattle.lay_node.specs.reader.Attr.{attributes}
 use Rattle.lay_node.specs.declared.patterns.PatPlace.TheVariants.{Alternatives}
-use Rattle.lay_node.proofs.Parts.{Closed, before_blank, behind_attrs_rows, behind_blank, bit_alone, bit_piece, piece_bit}
+use Rattle.lay_node.proofs.Parts.{before_blank, behind_attrs_rows, behind_blank, bit_piece, piece_bit}
 use Rattle.lay_node.proofs.reader.Attr.{attrs_rows}
 use Rattle.lay_node.proofs.reader.AttrRead.{attributes_complete}
 use Rattle.lay_node.proofs.reader.TypesCompleteKinds.{inner_of}
@@ -22,6 +22,7 @@ use Rattle.lay_code.specs.nodes.Exprs.{placed, value_placed}
 use Rattle.lay_code.specs.nodes.Places.{statement}
 use Rattle.lay_code.specs.declared.blocks.Arm.{Arm}
 use Rattle.lay_code.proofs.nodes.BlocksLaws.{arm_is}
+use Rattle.lay_code.proofs.reader.Dressed.{closes_last, closes_split}
 use Rattle.lay_code.proofs.reader.FrontsHeld.{fronts}
 use Rattle.lay_alone.specs.ArmFronts.{arm_shape, in_braces, levels}
 
@@ -45,15 +46,6 @@ levels_parts (suc k) (suc depth) f ts rest s =
     (omega (arith, p.0), subst (λ n. Spells f n ts rest) less p.1)
 
 -- ---- within braces
-
-pub closes_split : (k : ℕ) (ts rest : Tokens) → Closes (suc k) ts rest → (mid : Tokens) × Closes k ts mid × Closed Brace mid rest
-closes_split zero ts rest s =
-    let c : Closed Brace ts s.0 = bit_alone (closer Brace) ts s.0 s.1 in (ts, refl, subst (λ us. Closed Brace ts us) s.2 c)
-closes_split (suc k) ts rest s = let r = closes_split k s.0 rest s.2 in (r.0, (s.0, s.1, r.1), r.2)
-
-closes_last : (k : ℕ) (b mid rest : Tokens) → Closes k b mid → IsBit (closer Brace) mid rest → Closes (suc k) b rest
-closes_last zero b mid rest s c = let here : IsBit (closer Brace) b rest = rw s c in (rest, (rest, here, refl), refl)
-closes_last (suc k) b mid rest s c = (s.0, s.1, closes_last k s.0 mid rest s.2 c)
 
 pub braces_spelled : (k depth : ℕ) (f : Form) (ts a b rest : Tokens) → Opens k ts a → Spells f depth a b → Closes k b rest
     → Spells (in_braces k f) depth ts rest

@@ -1,4 +1,5 @@
 pub mod Alone
+pub mod Settled
 pub mod StmtAlone
 pub mod Fronts
 pub mod ArmShapes

@@ -44,6 +44,7 @@ use Rattle.lay_code.proofs.reader.FrontsHeld.{fronts}
 use Rattle.lay_code.proofs.reader.StmtsComplete.{ends_by_itself, stmt_read}
 use Rattle.lay_alone.specs.Fronts.{follows_in, stmt_alone, stmt_follows, stmt_told}
 use Rattle.lay_alone.proofs.Alone.{CompleteNode, SoundNode}
+use Rattle.lay_alone.proofs.Settled.{settled}
 
 -- An expression without its `;` ends by itself where it is block-like.
 unended_ends : (attrs : List Attr) (x : Expr) → (about_stmt (stmt.Expr attrs x false)).ends ≡ (about_expr x).block_like
@@ -98,11 +99,11 @@ module _ (budget : ℕ) (within : ExprWithin) (sound : SoundExprWithin budget wi
         | inr g ↦ same_some Followed ((stmt.Item i.0.0.0, i.0.0.1), i.0.1) (x, rest) g.1 (λ e. item_follows i.0.0.0 i.0.1)
       ]
 
-  expr_followed : (attrs : List Attr) (ts : Tokens) → InText ts → (x : Stmt × ℕ) (rest : Tokens) → expr_stmt within attrs ts ≡ Some (x, rest) → Followed (x, rest)
+  expr_followed : (attrs : List Attr) (at : Tokens) → InText at → (x : Stmt × ℕ) (rest : Tokens) → expr_stmt within attrs at ≡ Some (x, rest) → Followed (x, rest)
   unfolding expr_stmt
-  expr_followed attrs ts t x rest h =
-      let y = bind_some (within.exprs statement ts) _ _ h in
-      let s = sound.exprs statement ts y.0.0 y.0.1 t y.1 in
+  expr_followed attrs at t x rest h =
+      let y = bind_some (within.exprs statement at) _ _ h in
+      let s = sound.exprs statement at y.0.0 y.0.1 t y.1 in
       let one = y.0.0.0 in
       let mid = y.0.1 in
       let fits = follows (about_expr one) statement mid in
@@ -112,7 +113,7 @@ module _ (budget : ℕ) (within : ExprWithin) (sound : SoundExprWithin budget wi
         | inr g ↦ same_some Followed ((stmt.Expr attrs one false, y.0.0.1), mid) (x, rest) g.1 (λ e.
             let last : ((about_expr one).block_like || at_end mid) ≡ true = subst (λ (b : Bool). (b || at_end mid) ≡ true) (unended_ends attrs one) e in
             unended_follows attrs one mid
-            ∙ and_from (fits && none) ((about_expr one).block_like || at_end mid) (and_from fits none s.0.3 (ap not g.0)) last)
+            ∙ and_from (fits && none) ((about_expr one).block_like || at_end mid) (and_from fits none (settled one y.0.0.1 at mid s.0.2 s.0.3 last) (ap not g.0)) last)
       ]
 
   stmt_followed : (ts : Tokens) (x : Stmt × ℕ) (rest : Tokens) → InText ts → stmt_by within ts ≡ Some (x, rest) → Followed (x, rest)
@@ -164,7 +165,7 @@ module _ (depth : ℕ) (within : ExprWithin) (reads : ExprReads depth within) wh
       let p = expr_parts attrs x false depth ts rest s g
       (λ e. none_no_item rest (subst (λ (b : Bool). (b || at_end rest) ≡ true) (sym (unended_ends attrs x) ∙ e) last)) in
       let here : Spells (about_expr x).form depth p.seen rest = subst (λ us. Spells (about_expr x).form depth p.seen us) p.last p.spelled in
-      let r = reads.exprs statement x p.seen rest here p.placed_there fits in
+      let r = reads.exprs statement x p.seen rest here p.placed_there (inl fits) in
       let all = attributes_complete false attrs depth ts p.seen p.attrs_there p.start.outer in
       (r.0, r.1, rw (all, p.other, p.item) (unended_made attrs x r.0 p.seen rest r.2 mark))
 

@@ -14,7 +14,6 @@ use Rattle.lay_code.specs.declared.blocks.Block.{Block}
 use Rattle.lay_code.specs.declared.blocks.Stmt.{Stmt}
 use Rattle.lay_code.specs.declared.blocks.Stmt.TheOpen.{Stmt-F}
 use Rattle.lay_code.specs.declared.blocks.Stmt.TheViews.{out-Stmt}
-use Rattle.lay_code.specs.declared.exprs.Expr.{Expr}
 
 -- A block may be followed by any token.
 abbrev pub block_told : Block → Told

@@ -45,7 +45,7 @@ branch_pass x b k l = record {
 -- ---- arms
 
 abbrev is_block_body : BodyKind → Bool
-is_block_body (BlockBody lone) = true
+is_block_body (BlockBody lone structless) = true
 is_block_body _ = false
 
 -- Behind a block as the body of an arm its comma may be left out.
@@ -62,7 +62,7 @@ arm_body_passes : (kind : BodyKind) (last free : Bool) {f : Form} → not (is_bl
     → From plain f ends_expr → From plain (Body (braces_of kind) (ArmComma last free) f Done) ends_stmt
 unfolding tables
 arm_body_passes MacroBody last free h k = bare_arm plain ends_expr refl k refl (ends refl)
-arm_body_passes (BlockBody lone) last free h k =
+arm_body_passes (BlockBody lone structless) last free h k =
     unseen_arm plain ends_expr (may_lack_comma last free h) refl k (ends refl)
 arm_body_passes OtherBody last free h k = marked_arm plain ends_expr refl k (ends refl)
 

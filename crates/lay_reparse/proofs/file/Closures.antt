@@ -1,9 +1,9 @@
 -- Closures pass, given that their bodies pass: the bars round their parameters are tokens of one character.
-use Rattle.std.proofs.Common.{◌≡◌, List, [], ◌∷◌, Bool, true, false, ◌&&◌, refl, codes, map, Option, Some, None}
+use Rattle.std.proofs.Common.{◌≡◌, nat_le, List, [], ◌∷◌, Bool, true, false, not, ◌&&◌, refl, codes, map, Option, Some, None}
 use Rattle.std.specs.List.{list_all}
 use Rattle.std.proofs.lemmas.Bool.{and_parts}
 use Rattle.lay_form.specs.Form as form
-use Rattle.lay_form.specs.Form.{Bit, Blank, Operator, Form, Done, Piece, keyword}
+use Rattle.lay_form.specs.Form.{Bit, Blank, Operator, Braces, Bare, Unseen, Marked, Form, Done, Piece, keyword}
 use Rattle.lay_form.specs.Notation.{comma_list}
 use Rattle.lay_form.specs.Pieces.{are_pieces}
 use Rattle.lay_node.specs.nodes.Attr.{are_attrs}
@@ -13,23 +13,24 @@ use Rattle.lay_node.specs.nodes.Types.{about_type, good_at}
 use Rattle.lay_node.specs.declared.patterns.PatPlace.TheVariants.{Single}
 use Rattle.lay_node.specs.declared.types.Ty.{Ty}
 use Rattle.lay_node.specs.declared.types.TypePlace.TheVariants.{NoBounds}
+use Rattle.lay_code.specs.nodes.Bodies.{sheds}
 use Rattle.lay_code.specs.nodes.CodeFacts.{BlockFacts}
-use Rattle.lay_code.specs.nodes.Exprs.{ExprFacts, placed, expr_facts, bar, behind_async, closure_param, is_closure_param, closure_head}
+use Rattle.lay_code.specs.nodes.Exprs.{ExprFacts, placed, expr_facts, bar, behind_async, body_braces, closure_body, closure_param, is_closure_param, closure_head}
 use Rattle.lay_code.specs.nodes.Places as place
 use Rattle.lay_code.specs.declared.blocks.Stmt.TheOpen.{Expr-F}
 use Rattle.lay_code.specs.declared.exprs.ClosureParam.{ClosureParam}
 use Rattle.lay_reparse.proofs.borders.Border.{Border, beyond}
 use Rattle.lay_reparse.proofs.borders.Move.{under}
 use Rattle.lay_reparse.proofs.forms.Fields.{type_ends}
-use Rattle.lay_reparse.proofs.forms.Passes.{plain}
-use Rattle.lay_reparse.proofs.forms.Rules.{tables, From, All, under-refl, wider, ends, simple, fixed, part, list}
+use Rattle.lay_reparse.proofs.forms.Passes.{plain, loosened}
+use Rattle.lay_reparse.proofs.forms.Rules.{tables, From, All, under-refl, wider, ends, simple, fixed, breaks, part, bare_body, unseen_body, body_fits_both, marked_body, list}
 use Rattle.lay_reparse.proofs.file.Nodes.{list_pieces}
 use Rattle.lay_reparse.proofs.file.TypeParts.{ends_type, param_attrs_pass, param_attrs_pieces}
 use Rattle.lay_reparse.proofs.file.TypeKinds.{deep_pieces}
 use Rattle.lay_reparse.proofs.file.Types.{type_passes}
 use Rattle.lay_reparse.proofs.file.PatternParts.{ends_pat}
 use Rattle.lay_reparse.proofs.file.Patterns.{pat_passes_at}
-use Rattle.lay_reparse.proofs.file.ExprParts.{ends_operand, ends_wide, always, deep, gap, begins_bars, head_word, BeginsCode}
+use Rattle.lay_reparse.proofs.file.ExprParts.{ends_operand, ends_by, ends_wide, always, deep, gap, begins_bars, head_word, BeginsCode}
 use Rattle.lay_reparse.proofs.file.ExprPlaces.{ExprPasses, inner_expr}
 use Rattle.lay_reparse.proofs.file.ExprKinds.{starting}
 use Rattle.lay_reparse.proofs.file.BlockKinds.{BlockPasses}
@@ -112,21 +113,47 @@ head_passes b s false false ps g {f} w k =
 
 -- ---- closures
 
--- behind the bars a blank, and the body
-body_behind : {f : Form} {h : Border} → From plain f h → From plain (Piece gap (form.Part f Done)) h
+-- What may follow an expression may follow it behind a newline too, or behind a closing brace.
+body_fits : (bare base : Bool) → body_fits_both plain plain (ends_by bare base) ≡ true
 unfolding tables
-body_behind {f} {h} k = fixed refl (part plain h (under-refl plain) k (ends (under-refl h)))
+body_fits true base = refl
+body_fits false true = refl
+body_fits false false = refl
+
+loosened_ends : (bare base : Bool) → under (loosened (ends_by bare base)) (ends_by bare base) ≡ true
+unfolding tables
+loosened_ends true base = refl
+loosened_ends false true = refl
+loosened_ends false false = refl
+
+-- behind the bars a blank, and the body: as it stands, in braces that are its own, or in braces where it is broken
+body_behind : (b : Braces) (bare base : Bool) {f : Form} → From plain f (ends_by bare base)
+    → From plain (Piece gap (closure_body b f)) (ends_by bare base)
+unfolding tables
+body_behind Bare bare base k =
+    let h = ends_by bare base in fixed refl (bare_body plain h (under-refl plain) k (ends (under-refl h)))
+body_behind Unseen bare base k =
+    let h = ends_by bare base in fixed refl (unseen_body plain h (under-refl plain) k (ends (under-refl h)))
+body_behind Marked bare base k =
+    fixed refl (breaks refl (marked_body plain (ends_by bare base) (body_fits bare base) k (ends (loosened_ends bare base))))
+
+body_pieces : (b : Braces) (f : Form) → are_pieces (closure_body b f) ≡ true → are_pieces f ≡ true
+body_pieces Bare f w = (and_parts (are_pieces f) true w).0
+body_pieces Unseen f w = (and_parts (are_pieces f) true w).0
+body_pieces Marked f w = (and_parts (are_pieces f) true w).0
 
 pub closure_pass : (is_async moves : Bool) (ps : List ClosureParam) (x : ExprFacts) → ExprPasses x
     → ExprPasses (expr_facts (Expr-F.Closure is_async moves ps x))
 closure_pass is_async moves ps x k = record {
   go = λ v b h no_struct first g w.
-      let e = Piece gap (form.Part x.form Done) in
-      let n = and_parts (list_all is_closure_param ps) (placed x (place.plain 0 no_struct)) g in
+      let base = nat_le 14 x.level && not x.is_number in
+      let e = Piece gap (closure_body (body_braces x) x.form) in
+      let n1 = and_parts (list_all is_closure_param ps && placed x (place.plain 0 no_struct)) (not (sheds x.kind no_struct)) g in
+      let n = and_parts (list_all is_closure_param ps) (placed x (place.plain 0 no_struct)) n1.0 in
       let p = deep_pieces (closure_head is_async moves ps e) w in
-      let q = (and_parts (are_pieces x.form) true (head_pieces is_async moves ps e p).1).0 in
-      deep (ends_wide x.tail.bare _) (always (head_passes b (starting v 12 b h).code is_async moves ps n.0 p
-      (body_behind (inner_expr x k (place.plain 0 no_struct) n.1 q))));
+      let q = body_pieces (body_braces x) x.form (head_pieces is_async moves ps e p).1 in
+      deep (ends_wide x.tail.bare base) (always (head_passes b (starting v 12 b h).code is_async moves ps n.0 p
+      (body_behind (body_braces x) x.tail.bare base (inner_expr x k (place.plain 0 no_struct) n.1 q))));
 }
 
 arrow_passes : (output : Ty) (x : BlockFacts) → BlockPasses x → good_at NoBounds (about_type output) ≡ true
