@@ -271,7 +271,7 @@ module _ (no_struct starts : Bool) where
     -- ---- jumps
 
     -- Behind an operand that is read at level 0 no operator follows.
-    pub none_follows : (x : Expr × ℕ) (ts rest : Tokens) → ExprHeld (plain 0 no_struct) budget x ts rest → strength rest ≡ 0
+    none_follows : (x : Expr × ℕ) (ts rest : Tokens) → ExprHeld (plain 0 no_struct) budget x ts rest → strength rest ≡ 0
     none_follows x ts rest s =
         let root = root_held (plain 0 no_struct) budget (about_expr x.0) x.1 ts rest s in
         omega (arith, leb-true (strength rest) 0 root)

@@ -13,7 +13,7 @@ use Rattle.lay_node.specs.Ahead.{Tokens, first, is_keyword, opens}
 use Rattle.lay_node.specs.nodes.Types.{is_there}
 use Rattle.lay_node.proofs.Fronts.{end_shorter, one_shorter, op_shorter}
 use Rattle.lay_code.specs.Operators.{binary, is_dot_or_try, strength, strength_by}
-use Rattle.lay_code.specs.nodes.Exprs.{ExprFacts, Followed, Tail, follows, root_follows, tail_follows}
+use Rattle.lay_code.specs.nodes.Exprs.{ExprFacts, Followed, Tail, root_follows, tail_follows}
 use Rattle.lay_code.specs.nodes.Places.{is_whole}
 use Rattle.lay_code.specs.declared.exprs.Place.{Place}
 use Rattle.lay_code.specs.declared.operators.Op.{Op}
@@ -66,7 +66,7 @@ bits_taken (b ∷ bs) h ts rest s = elim (or_cases (takes_bit b) (takes_bits bs)
 ]
 
 -- Fewer tokens are left behind it.
-pub taken : (f : Form) → takes f ≡ true → (depth : ℕ) (ts rest : Tokens) → Spells f depth ts rest → length rest < length ts
+taken : (f : Form) → takes f ≡ true → (depth : ℕ) (ts rest : Tokens) → Spells f depth ts rest → length rest < length ts
 taken Done h depth ts rest s = absurd (cc h)
 taken (Piece bits f) h depth ts rest s = elim (or_cases (takes_bits bits) (takes f) h) [
   | inl g ↦ omega (arith, bits_taken bits g ts s.0 s.1, shorter f depth s.0 rest s.2)
@@ -253,12 +253,7 @@ before_deeper t f no_struct depth more ts rest le (s, inl h) = (raise f depth mo
 before_deeper t f no_struct depth more ts rest le (s, inr h) =
     (raise f depth more ts rest le s, inr (braced_deeper f depth more ts rest le h.0, h.1))
 
--- Where an operator follows it doesn't end so, nor where it ends in no body.
-pub operator_tail : (t : Tail) (f : Form) (no_struct : Bool) (depth : ℕ) (ts rest : Tokens) → (strength rest ≡ 0 → ⊥)
-    → Ended t f no_struct depth ts rest → tail_follows t no_struct rest ≡ true
-operator_tail t f no_struct depth ts rest n (inl h) = h
-operator_tail t f no_struct depth ts rest n (inr h) = absurd (n (eqb-true (strength rest) 0 h.1))
-
+-- What ends in no body doesn't end so.
 pub bodiless_tail : (t : Tail) (f : Form) (no_struct : Bool) (depth : ℕ) (ts rest : Tokens) → bodiless f ≡ true
     → Ended t f no_struct depth ts rest → tail_follows t no_struct rest ≡ true
 bodiless_tail t f no_struct depth ts rest n (inl h) = h
@@ -267,7 +262,7 @@ bodiless_tail t f no_struct depth ts rest n (inr h) = absurd (no_braced_end f n 
 -- ---- what follows an expression
 
 -- Where nothing goes on, neither `.` nor `?` stands.
-pub weak_no_dot : (ts : Tokens) → strength ts ≡ 0 → is_dot_or_try ts ≡ false
+weak_no_dot : (ts : Tokens) → strength ts ≡ 0 → is_dot_or_try ts ≡ false
 unfolding strength
 weak_no_dot ts h = by (binary ts) h
   where
@@ -315,24 +310,3 @@ module _ (x : ExprFacts) (place : Place) where
           → strength rest ≤ place.level
       by true n l = absurd (cc n)
       by false n l = leb-true (strength rest) place.level l
-
-  -- Where an operator follows, it doesn't end so.
-  pub operator_follows : (depth : ℕ) (ts rest : Tokens) → (strength rest ≡ 0 → ⊥) → Followed x place depth ts rest
-      → follows x place rest ≡ true
-  operator_follows depth ts rest n (inl h) = h
-  operator_follows depth ts rest n (inr h) = absurd (n (eqb-true (strength rest) 0 h.1))
-
-  -- Neither does what ends in no body.
-  pub bodiless_follows : (depth : ℕ) (ts rest : Tokens) → bodiless x.form ≡ true → Followed x place depth ts rest
-      → follows x place rest ≡ true
-  bodiless_follows depth ts rest n (inl h) = h
-  bodiless_follows depth ts rest n (inr h) = absurd (no_braced_end x.form n depth ts rest h.0)
-
-  pub followed_deeper : (depth more : ℕ) (ts rest : Tokens) → depth ≤ more → Followed x place depth ts rest
-      → Followed x place more ts rest
-  followed_deeper depth more ts rest le (inl h) = inl h
-  followed_deeper depth more ts rest le (inr h) = inr (braced_deeper x.form depth more ts rest le h.0, h.1)
-
-  -- what ends so is spelled
-  pub spelled_of : (depth : ℕ) (ts rest : Tokens) → EndsBraced x.form depth ts rest → Spells x.form depth ts rest
-  spelled_of depth ts rest w = spelled x.form depth ts rest w
