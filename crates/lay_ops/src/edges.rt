@@ -49,7 +49,10 @@ fn starting_edge(expr: &Expr) -> Edge<'_>
     match expr {
         Expr::Chain { first: part, .. }
         | Expr::Cast { operand: part, .. }
-        | Expr::Range { start: Some(part), .. } => part_of(part.get()),
+        | Expr::Range {
+            start: Some(part),
+            ..
+        } => part_of(part.get()),
         Expr::Assign { targets, .. } => match targets.as_slice() {
             [(target, _), ..] => part_of(target.get()),
             [] => Edge::Told(true),
@@ -154,7 +157,10 @@ fn leading_edge(expr: &Expr) -> Edge<'_>
     match expr {
         Expr::Chain { first: part, .. }
         | Expr::Cast { operand: part, .. }
-        | Expr::Range { start: Some(part), .. }
+        | Expr::Range {
+            start: Some(part),
+            ..
+        }
         | Expr::Postfix { base: part, .. } => Edge::In(part.get()),
         Expr::Assign { targets, value } => match targets.as_slice() {
             [(target, _), ..] => Edge::In(target.get()),

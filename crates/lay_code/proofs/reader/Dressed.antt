@@ -341,7 +341,7 @@ module _ (drops : BodyKind → Bool) (strip : ℕ → Expr → Expr) (strips : S
       let found : Turned drops (suc n) (alone z) (strip n z) = record {
         pairs = suc r.pairs;
         around = ap alone r.around;
-        last = elim r.last [ | inl e ↦ inl e | inr e ↦ inr (ap suc e) ];
+        last = elim r.last [ inl e ↦ inl e | inr e ↦ inr (ap suc e) ];
         outer = λ g. h;
         inner = λ g. inner_by r.pairs (strip n z) z r.around r.inner h;
       } in

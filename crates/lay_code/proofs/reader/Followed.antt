@@ -310,3 +310,9 @@ module _ (x : ExprFacts) (place : Place) where
           → strength rest ≤ place.level
       by true n l = absurd (cc n)
       by false n l = leb-true (strength rest) place.level l
+
+  -- What follows it at a depth follows it at each greater one.
+  pub followed_deeper : (depth more : ℕ) (ts rest : Tokens) → depth ≤ more → Followed x place depth ts rest
+      → Followed x place more ts rest
+  followed_deeper depth more ts rest le (inl h) = inl h
+  followed_deeper depth more ts rest le (inr h) = inr (braced_deeper x.form depth more ts rest le h.0, h.1)

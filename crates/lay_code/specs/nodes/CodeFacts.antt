@@ -10,7 +10,7 @@ pub record BlockFacts : Type 0 where
   pub soft : Form
   pub good : Bool
   -- It holds an expression that is no macro call, without attributes and without a `;`, and nothing else. So it isn't the
-  -- body of an arm: there its braces are dropped.
+  -- body of an arm, nor that of a closure in whose place the expression may stand: there its braces are dropped.
   pub lone : Bool
   -- That expression holds no struct literal outside delimiters.
   pub structless : Bool

@@ -444,7 +444,7 @@ closure_head is_async moves params f = when is_async (keyword (codes "async") �
 abbrev pub body_braces : ExprFacts → Braces
 body_braces x = if x.starts && x.tight then braces_of x.kind else Bare
 
--- The body of a closure. One that gets braces where it is broken stands deeper.
+-- The body of a closure. One that gets braces where it is broken stands behind a break that is never a newline.
 abbrev pub closure_body : Braces → Form → Form
 closure_body Marked x = N (Body Marked Nothing x Done)
 closure_body braces x = Body braces Nothing x Done
