@@ -344,6 +344,20 @@ fn codes(rt: HostRuntime) -> Result<(), Fail> {
         expr→9→if a||b&&let C=d{}⇒no§\
         expr→9→match x{A=>{b}C=>c,}⇒match x {\n    A => b,\n    C => c,\n}§\
         expr→9→S{a:1,b,..c}⇒S { a: 1, b, ..c }§\
+        expr→2→||a⇒no§\
+        expr→3→||a⇒|| a§\
+        expr→3→||{a}⇒|| a§\
+        expr→3→||{{a}}⇒no§\
+        expr→4→||{{a}}⇒|| a§\
+        expr→3→||{a;}⇒no§\
+        expr→4→||{a;}⇒|| {\n    a;\n}§\
+        expr→9→||{return}a⇒|| return→1§\
+        expr→9→||return a⇒|| return a§\
+        expr→9→||{a}.b⇒|| {\n    {\n        a\n    }.b\n}§\
+        expr→9→||{a}+b⇒|| {\n        a\n    } + b§\
+        condition→9→||{a}⇒|| a§\
+        condition→9→||{S{}}⇒|| {\n    S {}\n}§\
+        condition→9→||S{}⇒|| S→2§\
         condition→9→S{a:1}⇒S→5§\
         condition→9→a&&let B=c⇒no§\
         condition→9→let A=b⇒no§\
@@ -438,6 +452,8 @@ fn equal_nodes(rt: HostRuntime) -> Result<(), Fail> {
         expr→1→0x1⇒false§\
         expr→(a)→a⇒false§\
         expr→f(a,)→f(a)⇒true§\
+        expr→||{{a}}→||a⇒true§\
+        expr→||{a}→||{a;}⇒false§\
         block→{;a}→{a}⇒true§\
         block→{a}→{a;}⇒false§\
         stmt→let a=b;→let a = b;⇒true§\

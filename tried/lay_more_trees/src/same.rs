@@ -67,6 +67,11 @@ fn spellings(rt: HostRuntime) {
         fn f(){match a{b=>{c}}}→fn f(){match a{b=>c,}}§\
         fn f(){match a{b=>{{c}}d=>{e}}}→fn f(){match a{b=>c,d=>e}}§\
         fn f(){match a{b=>{},}}→fn f(){match a{b=>{}}}§\
+        const A:B=||{c};→const A:B=||c;§\
+        const A:B=|c|{{;|d|{e}}};→const A:B=|c||d|e;§\
+        const A:B=||{S{}};→const A:B=||S{};§\
+        fn f(){if||{a}{}}→fn f(){if||a{}}§\
+        fn f(){if||{{S{}}}{}}→fn f(){if||{S{}}{}}§\
         fn f(){a(b,)}→fn f(){a(b)}";
     let gaps = "struct/* a */A /**/;// b→struct A;§\
         \u{feff}struct A;\r\n→struct A;§\
@@ -276,7 +281,8 @@ fn blocks(rt: HostRuntime) {
     let closures =
         "||a→move||a§||a→||b§|a|b→||b§|a|b→|c|b§|a:b|c→|a|c§|a:b|c→|a:d|c§|#[a]b|c→|b|c§||->a{}→||{}§||->a{}→||->b{}§||->a{}→||->a{b}§\
         move||->a{}→||->a{}§|a|->b{}→||->b{}§|a,b|c→|b,a|c§async||a→||a§async||a→move||a§async move||a→async||a§async||->a{}→||->a{}§\
-        async||{}→async{}";
+        async||{}→async{}§||{a}→||{a;}§||{a}→||'b:{a}§||{}→||{a}§||{#[b]a}→||{a}§||{m!()}→||m!()§||{a}→||b§||{a}+b→||{a+b}§\
+        if||{S{}}{}→if||{(S{})}{}§if||{S{}}{}→if||{T{}}{}";
     for rows in [blocks, branches, matches, loops, closures] {
         each_differs(&rt, rt.alloc(), "const A:B=", rows, ";");
     }

@@ -106,7 +106,8 @@ fn values(rt: HostRuntime) {
     let blocks =
         "{}§'a:{b}§unsafe{}§const{a}§async{a}§async move{}§if a{}§if a{b}else if let C|D=e{}else{f}§if let A=b&&c{}§if a&&let B=c{}else if d==e&&let F=g&&return{}§match a{}§match a{#![b]#[c]D|E if f=>g,_=>{}}§\
         'a:loop{}§while a{}§'a:while let b=c{}§while let A=b&&let C=d{}§for a in b{}§match a{b=>{m!()}c=>{{d}}e=>{f;}}§if(S{}).a{}§match(S{}){}";
-    let closures = "||a§move|a,b:C,|d§|(b,c)|->D{e}§|#[x]b|c§|_|{b}§a(|b|c,d)§|a|b+c§|&a|a§||||a§async||a§async move|a|->B{c}";
+    let closures = "||a§move|a,b:C,|d§|(b,c)|->D{e}§|#[x]b|c§|_|{b}§|_|{b;}§||{}§||{{a}}§||{m!()}§||{m!{}}§||'a:{b}§||{#[c]b}§||{#![c]b}§||{a}+b§||{{a}.b}§||{||a}§||{a}.b§||{S{}}§\
+        if||{a}{}§if||{S{}}{}§if||{||S{}}{}§if||||{S{}}{}§if||{return{}}{}§if||{a..{}}{}§if a+||{S{}}{}§||{return}..a§a(|b|c,d)§|a|b+c§|&a|a§||||a§async||a§async move|a|->B{c}";
     for texts in [
         chains, casts, others, steps, structs, groups, blocks, closures,
     ] {

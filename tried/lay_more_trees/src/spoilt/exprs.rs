@@ -1,8 +1,8 @@
-//! Expressions: their steps, conditions, jumps, and fields.
+//! Expressions: their steps, conditions, closures, jumps, and fields.
 
 use super::each_spoils;
 use crate::trees::{
-    boxed, boxed_expr, bytes, empty_block, file_of_expr, file_of_tail, name, one, pat,
+    boxed, boxed_expr, bytes, empty_block, expr, file_of_expr, file_of_tail, name, one, pat,
     path_of_words, written,
 };
 use lay_token::List;
@@ -263,6 +263,70 @@ fn conditions(rt: HostRuntime) {
         "one branch at least→a b→§one branch at least→a→",
         branches,
     );
+}
+
+// ---- closures
+
+/// `|| a`
+fn closure_of(alloc: Global, body: Expr) -> Option<Expr> {
+    Some(Expr::Closure {
+        is_async: false,
+        moves: false,
+        params: List::new(alloc),
+        body: boxed(alloc, body)?,
+    })
+}
+
+/// `const _: _ = || a;`
+fn closure(alloc: Global, text: &str) -> Option<File> {
+    file_of_expr(alloc, closure_of(alloc, expr(alloc, text)?)?)
+}
+
+/// `if || a {}`
+fn closure_in_condition(alloc: Global, text: &str) -> Option<File> {
+    decided(alloc, closure_of(alloc, expr(alloc, text)?)?)
+}
+
+/// `if || || a {}`
+fn two_in_condition(alloc: Global, text: &str) -> Option<File> {
+    let inner = closure_of(alloc, expr(alloc, text)?)?;
+    decided(alloc, closure_of(alloc, inner)?)
+}
+
+/// An `if` whose condition is an expression.
+fn decided(alloc: Global, node: Expr) -> Option<File> {
+    let link = Link::Expr {
+        expr: boxed(alloc, node)?,
+    };
+    let condition = Condition {
+        links: one(alloc, link)?,
+    };
+    let body = empty_block(alloc);
+    file_of_branches(alloc, one(alloc, Branch { condition, body })?)
+}
+
+#[test]
+fn bodies_of_closures(rt: HostRuntime) {
+    let alloc = rt.alloc();
+    let rows = "no braces around one expression→a→{a}¶{{a}}¶{{}}¶{match a{}}¶{return}¶{return{}}¶{S{}}¶{||a}¶{{a;}}§\
+        no braces around one expression, but a statement→{a;}→{a}§\
+        no braces around one expression, but two→{m!{}a}→{a}§\
+        no braces around one expression, but one with an attribute→{#[b]a}→{a}§\
+        no braces around one expression, but with an inner attribute→{#![b]a}→{a}§\
+        no braces around one expression, but with a label→'b:{a}→{a}¶{'b:{a}}§\
+        no braces around one expression, but a macro call→{m!()}→{a}§\
+        no braces around one expression, but a macro call→{m!{}}→{m!{}.a}§\
+        any at its front→match a{}+b→{a}§any at its front→{}()→{{}.b}§any at its front→m!{}-a→{m![]-a}";
+    each_spoils(&rt, alloc, rows, closure);
+    let conditions = "no struct literal→(S{})→S{}¶a==S{}¶-S{}§\
+        braces around a struct literal→{S{}}→S{}¶{a}¶{{S{}}}¶{(S{})}¶{f(S{})}§\
+        braces around what holds a struct literal→{a+S{}}→a+S{}¶{a+(S{})}§\
+        braces around what holds a struct literal→{||S{}}→||S{}¶{||a}¶{||(S{})}§\
+        braces around a jump before a block→{return{}}→return{}¶{return}¶{return a}¶{return({})}¶{break}§\
+        braces around a range before a block→{a..{}}→a..{}¶{a..}¶{a..b}¶{..b}§\
+        braces around a statement→{S{};}→S{}¶{a}§a block at its front→{a}+b→{a}¶{a+b}§a block within→a+{}→{a+{}}";
+    each_spoils(&rt, alloc, conditions, closure_in_condition);
+    each_spoils(&rt, alloc, conditions, two_in_condition);
 }
 
 // ---- jumps
