@@ -16,6 +16,7 @@ AMPLE, STEP = 256 << 20, 16 * KIB
 ENOUGH, ANY = 1000, 10_000
 
 BODY, VALUE, TYPE, PATTERN, FILE, USE = ("fn f(){", "}"), ("const A:T=", ";"), ("type A=", ";"), ("fn f(){let ", "=a;}"), ("", ""), ("use ", ";")
+CONDITION = ("fn f(){if ", "{}}")
 
 # The item around, what stands before and behind in each level, and what stands within.
 KINDS = {
@@ -52,12 +53,22 @@ KINDS = {
     "link of a condition": (BODY, "if let A=", "&&b{}", "c"),
     "last link of a condition": (BODY, "if a&&let B=", "{}", "c"),
     "link of a condition of a while": (BODY, "while let A=", "&&b{}", "c"),
+    "closure as a condition": (CONDITION, "||", "", "b"),
+    "closure in braces as a condition": (CONDITION, "||{", "}", "b"),
+    "condition in a closure": (BODY, "if ||", "{}", "b"),
+    "condition in a closure in braces": (BODY, "if ||{", "}{}", "b"),
     "what a match is of": (BODY, "match ", "{}", "b"),
     "what a for goes over": (BODY, "for a in ", "{}", "b"),
     # values
     "closure": (BODY, "||", "", "b"),
     "closure with a block": (BODY, "||{c;", "}", "b"),
     "closure with parameters": (VALUE, "|a:B|", "", "1"),
+    "closure with a type": (VALUE, "||->T{", "}", "1"),
+    "closure in braces": (VALUE, "||{", "}", "1"),
+    "closure in two pairs of braces": (VALUE, "||{{", "}}", "1"),
+    "operator in a closure": (VALUE, "||-", "", "1"),
+    "operator in a closure in braces": (VALUE, "||{-", "}", "1"),
+    "closure in an arm": (BODY, "match a{B=>||", "}", "b"),
     "parentheses": (VALUE, "(", ")", "1"),
     "tuple": (VALUE, "(", ",)", "1"),
     "array": (VALUE, "[", "]", "1"),
