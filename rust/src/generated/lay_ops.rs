@@ -8,14 +8,17 @@
 //! along its right edge by a loop, so that a deep one needs no deep stack.
 pub mod ahead;
 mod bodies;
+mod edges;
 mod expr_ends;
 mod numbers;
 pub mod operands;
 pub mod operators;
 mod places;
 mod roots;
+mod structs;
 mod type_ends;
-pub use bodies::{ends, is_call, is_lone_body};
+pub use bodies::{ends, is_call, is_lone_body, sheds};
+pub use edges::may_wear_braces;
 pub use numbers::is_number;
 pub use operands::begins_operand;
 pub use operators::{binary, prefix};

@@ -8,8 +8,8 @@
 //! Where a text that begins with a point would stand directly behind the point of a number, as in `1. .a`, or behind
 //! `..`, it begins with a blank. That text may stand deep within an expression, so a function is told whether a point
 //! stands before its part, and the module `points` tells which expressions end in one.
-pub mod arms;
 pub mod blocks;
+pub mod bodies;
 mod closures;
 pub mod flags;
 mod generics;

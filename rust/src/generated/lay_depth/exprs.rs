@@ -19,7 +19,7 @@ use crate::generated::lay_depth_nodes::{
     types_depth,
 };
 use crate::generated::lay_node::Boxed;
-/// The depth of an expression.
+/// The depth of an expression. The body of a closure stands one level deeper.
 pub(crate) fn expr_depth(expr: &Expr) -> u32 {
     match expr {
         Expr::Lit { .. } | Expr::Underscore | Expr::Call { .. }
@@ -69,7 +69,7 @@ pub(crate) fn expr_depth(expr: &Expr) -> u32 {
             deeper(head.max(block_depth(body)))
         }
         Expr::Closure { params, body, .. } => {
-            deeper(params_depth(params.as_slice()).max(expr_depth(body.get())))
+            deeper(params_depth(params.as_slice()).max(deeper(expr_depth(body.get()))))
         }
         Expr::TypedClosure { params, output, body, .. } => {
             let head = params_depth(params.as_slice()).max(type_depth(output));

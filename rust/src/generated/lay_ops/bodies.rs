@@ -2,6 +2,7 @@
 //!
 //! What is told of blocks, statements and items by their roots.
 use crate::generated::lay_ops::roots::{is_block_like, is_macro};
+use crate::generated::lay_ops::structs::is_structless;
 use crate::generated::lay_code::{Attr, Block, Expr, Item, ItemKind, Lifetime, Stmt};
 /// Whether another statement may stand behind it.
 pub fn ends(stmt: &Stmt) -> bool {
@@ -35,7 +36,7 @@ fn is_lone(block: &Block) -> bool {
     block.attrs.as_slice().is_empty() && is_lone_list(block.stmts.as_slice())
 }
 /// Whether there is no label.
-fn is_unlabelled(label: &Option<Lifetime>) -> bool {
+pub(crate) fn is_unlabelled(label: &Option<Lifetime>) -> bool {
     match label {
         Some(_) => false,
         None => true,
@@ -46,6 +47,33 @@ pub fn is_lone_body(expr: &Expr) -> bool {
     match expr {
         Expr::Block { label, body } => is_unlabelled(label) && is_lone(body),
         _ => false,
+    }
+}
+/// Whether it is a block whose braces are dropped where it is the body of a closure. The flag says that no struct literal may
+/// stand there.
+pub fn sheds(expr: &Expr, no_struct: bool) -> bool {
+    match expr {
+        Expr::Block { label, body } => {
+            is_unlabelled(label) && is_lone(body)
+                && (!no_struct || is_block_structless(body))
+        }
+        _ => false,
+    }
+}
+/// Whether no expression of a block's statements holds a struct literal outside delimiters.
+fn is_block_structless(block: &Block) -> bool {
+    for stmt in block.stmts.as_slice() {
+        if !is_stmt_structless(stmt) {
+            return false;
+        }
+    }
+    true
+}
+/// Whether a statement is no expression that holds one.
+fn is_stmt_structless(stmt: &Stmt) -> bool {
+    match stmt {
+        Stmt::Expr { expr, .. } => is_structless(expr.get()),
+        _ => true,
     }
 }
 /// Whether an item is a macro call.

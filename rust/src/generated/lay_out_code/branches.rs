@@ -6,8 +6,8 @@ use crate::generated::lay_out_code::conditions::add_condition;
 use crate::generated::lay_out_code::exprs::add_expr;
 use crate::generated::lay_out_code::items::add_inner_attrs;
 use crate::generated::lay_code::{Arm, Attr, Block, Boxed, Branch, Expr};
-use crate::generated::lay_out_exprs::arms::{arm_body, close_arm, open_arm};
 use crate::generated::lay_out_exprs::blocks::{add_condition_lead, add_else_word};
+use crate::generated::lay_out_exprs::bodies::{arm_braces, close_arm, open_arm};
 use crate::generated::lay_out_exprs::flags::both;
 use crate::generated::lay_out_heads::calls::add_break;
 use crate::generated::lay_out_heads::loops::{close_body, open_body};
@@ -100,10 +100,10 @@ fn add_arm<
     let head = add_end(out, guard);
     let arrow = add_text(out, head, b" => ");
     let never = add_break(out, arrow, NEVER_BREAK);
-    let kind = arm_body(arm.body.get());
-    let opened = open_arm(out, never, kind);
+    let braces = arm_braces(arm.body.get());
+    let opened = open_arm(out, never, braces);
     let inner = add_expr(out, opened, false, arm.body.get());
-    close_arm(out, inner, kind)
+    close_arm(out, inner, braces)
 }
 /// The guard of an arm, if it has one, behind its `if`.
 fn add_guard<

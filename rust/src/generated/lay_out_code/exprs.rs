@@ -19,6 +19,11 @@ use crate::generated::lay_out_code::operands::{
 use crate::generated::lay_code::{Boxed, Expr, PathStyle};
 use crate::generated::lay_out_exprs::add_closure_head;
 use crate::generated::lay_out_exprs::blocks::add_labelled;
+use crate::generated::lay_out_exprs::bodies::{
+    close_closure,
+    closure_braces,
+    open_closure,
+};
 use crate::generated::lay_out_exprs::flags::both;
 use crate::generated::lay_out_exprs::operators::{add_casts, add_label, add_prefixes};
 use crate::generated::lay_out_exprs::points::{ends_in_point, operand_ends_in_point};
@@ -186,7 +191,7 @@ pub fn add_expr<
                 params.as_slice(),
             );
             let blank = add_text(out, head, b" ");
-            add_expr(out, blank, false, body.get())
+            add_closure_body(out, blank, body.get())
         }
         Expr::TypedClosure { is_async, moves, params, output, body } => {
             let head = add_closure_head(
@@ -256,6 +261,15 @@ pub fn add_optional<
         None => before,
         Some(node) => add_expr(out, before, point, node.get()),
     }
+}
+/// The body of a closure, in braces where it is broken and may stand in them.
+fn add_closure_body<
+    E: Emit,
+>(out: &mut E, before: Result<(), E::Fault>, body: &Expr) -> Result<(), E::Fault> {
+    let braces = closure_braces(body);
+    let opened = open_closure(out, before, braces);
+    let inner = add_expr(out, opened, false, body);
+    close_closure(out, inner, braces)
 }
 /// The operand of a `return` or a `break` behind its blank, if there is one.
 fn add_operand<

@@ -13,6 +13,8 @@ use crate::generated::lay_code::{
     Site,
     TypePlace,
 };
+use crate::generated::lay_ends::shed;
+use crate::generated::lay_ops::sheds;
 use crate::generated::lay_read_parts::joins::{both, refused};
 use crate::generated::lay_read_parts::loops::{Closer, Part, read_elements};
 use crate::generated::lay_read_pats::pat_ahead;
@@ -26,6 +28,13 @@ use crate::generated::lay_read_tokens::{Ahead, Found, ReadNone};
 use crate::generated::lay_read_types::type_ahead;
 use crate::generated::lay_token::List;
 use crate::shims::Global;
+/// The body of a closure, and the need of it: within braces that aren't in the tree it needs as much as they do.
+fn closure_body_of(found: Found<Boxed<Expr>>, no_struct: bool) -> Found<Boxed<Expr>> {
+    let need = if sheds(found.node.get(), no_struct) { found.need } else {
+        found.need + 1
+    };
+    Found { node: shed(found.node, no_struct), need }
+}
 /// Parameters of a closure, as elements of a list.
 pub struct Params;
 impl Part<ClosureParam, ()> for Params {}
@@ -68,7 +77,7 @@ impl<
             _,
         >(self.alloc, at, self.depth, Closer::Bar, self, BlockRules::closure_param, ())
     }
-    /// A closure.
+    /// A closure, unless it is deeper than may be.
     #[inline(never)]
     pub fn closure_expr(
         &self,
@@ -83,7 +92,7 @@ impl<
         let params = self.params(at)?;
         self.closure_body(at, no_struct, is_async, moves, params)
     }
-    /// What stands behind the parameters of a closure.
+    /// What stands behind the parameters of a closure, unless they are too deep together.
     #[inline(never)]
     fn closure_body(
         &self,
@@ -96,7 +105,11 @@ impl<
         if at.op_is(b"->") {
             return self.typed_closure(at, is_async, moves, params);
         }
-        let (params, body) = both(params, self.expr(at, plain(0, no_struct)))?;
+        let (params, found) = both(params, self.expr(at, plain(0, no_struct)))?;
+        let body = closure_body_of(found, no_struct);
+        if body.need > self.depth {
+            return refused((params, body));
+        }
         boxed_found(
             self.alloc,
             Expr::Closure { is_async, moves, params: params.node, body: body.node },

@@ -1,0 +1,117 @@
+//! Made by scripts/rust.sh from crates/lay_out_exprs/src/bodies.rt, which is proved: change that.
+//!
+//! What stands round the bodies of arms and of closures.
+use crate::generated::lay_code::Expr;
+use crate::generated::lay_layout::{Break, Mark};
+use crate::generated::lay_ops::may_wear_braces;
+use crate::generated::lay_out_heads::calls::{add_break, add_inside};
+use crate::generated::lay_out_tokens::notation::{
+    CLOSING_SOFT_BREAK,
+    NEVER_BREAK,
+    SOFT_BREAK,
+};
+use crate::generated::lay_out_types::calls::add_text;
+use crate::generated::lay_out_types::lists::add_end;
+use crate::generated::lay_stream::Emit;
+/// How the body of an arm or of a closure is laid out.
+#[derive(Clone, Copy,)]
+pub enum BodyBraces {
+    /// As it stands, and with a comma behind it that of an arm.
+    Bare,
+    /// As it stands.
+    Unseen,
+    /// In braces where it is broken, and else with a comma behind it that of an arm.
+    Marked,
+}
+/// The break before a body, with a `{` before its newline.
+const OPENING_BRACE_BREAK: Break = Break { before: Mark::OpenBrace, ..SOFT_BREAK };
+/// The break behind a body, with a `}` behind its newline.
+const CLOSING_BRACE_BREAK: Break = Break {
+    after: Mark::CloseBrace,
+    ..CLOSING_SOFT_BREAK
+};
+/// The same behind the body of an arm, with a `,` where it is no newline.
+const CLOSING_ARM_BREAK: Break = Break { instead: Mark::Comma, ..CLOSING_BRACE_BREAK };
+/// How the body of an arm is laid out: a macro call as it stands, so too a block without a label, and all else in braces.
+pub fn arm_braces(body: &Expr) -> BodyBraces {
+    match body {
+        Expr::Call { .. } => BodyBraces::Bare,
+        Expr::Block { label, .. } => {
+            match label {
+                None => BodyBraces::Unseen,
+                Some(_) => BodyBraces::Marked,
+            }
+        }
+        _ => BodyBraces::Marked,
+    }
+}
+/// How the body of a closure is laid out: as that of an arm, or as it stands where no braces may stand round it.
+pub fn closure_braces(body: &Expr) -> BodyBraces {
+    if may_wear_braces(body) { arm_braces(body) } else { BodyBraces::Bare }
+}
+/// What opens the body of an arm.
+pub fn open_arm<
+    E: Emit,
+>(
+    out: &mut E,
+    before: Result<(), E::Fault>,
+    braces: BodyBraces,
+) -> Result<(), E::Fault> {
+    match braces {
+        BodyBraces::Marked => {
+            let group = add_inside(out, before);
+            add_break(out, group, OPENING_BRACE_BREAK)
+        }
+        _ => before,
+    }
+}
+/// What closes the body of an arm.
+pub fn close_arm<
+    E: Emit,
+>(
+    out: &mut E,
+    before: Result<(), E::Fault>,
+    braces: BodyBraces,
+) -> Result<(), E::Fault> {
+    match braces {
+        BodyBraces::Bare => add_text(out, before, b","),
+        BodyBraces::Unseen => before,
+        BodyBraces::Marked => {
+            let line = add_break(out, before, CLOSING_ARM_BREAK);
+            add_end(out, line)
+        }
+    }
+}
+/// What opens the body of a closure.
+pub fn open_closure<
+    E: Emit,
+>(
+    out: &mut E,
+    before: Result<(), E::Fault>,
+    braces: BodyBraces,
+) -> Result<(), E::Fault> {
+    match braces {
+        BodyBraces::Marked => {
+            let never = add_break(out, before, NEVER_BREAK);
+            let group = add_inside(out, never);
+            add_break(out, group, OPENING_BRACE_BREAK)
+        }
+        _ => before,
+    }
+}
+/// What closes the body of a closure.
+pub fn close_closure<
+    E: Emit,
+>(
+    out: &mut E,
+    before: Result<(), E::Fault>,
+    braces: BodyBraces,
+) -> Result<(), E::Fault> {
+    match braces {
+        BodyBraces::Marked => {
+            let line = add_break(out, before, CLOSING_BRACE_BREAK);
+            add_end(out, line)
+        }
+        _ => before,
+    }
+}
