@@ -9,8 +9,8 @@ use Rattle.lay_code.proofs.reader.ClosureBodies.{lone_sheds, shed_alone}
 use Rattle.lay_ends.proofs.OnePair.{layers, one_layer}
 use Rattle.lay_ends.proofs.bodies.shed.Goals as goal
 
-pub requires-held : goal.requires-held
-requires-held c =
+pub held-requires : goal.held-requires
+held-requires c =
     let goes = rw c.get.ensures at c.loop-body-test.ensures in lone_sheds c.args.no_struct (about_expr c.loop-body.body).kind (sym goes)
 
 pub loop-body-smaller : goal.loop-body-smaller
