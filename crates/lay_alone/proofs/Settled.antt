@@ -14,7 +14,7 @@ use Rattle.lay_code.proofs.nodes.Layers.{expr_is, expr_told}
 use Rattle.lay_code.proofs.reader.BodilessKinds.{if_bare}
 use Rattle.lay_code.proofs.reader.ExprQuiet.{ends_follow, nothing_ends_expr}
 use Rattle.lay_code.proofs.reader.ExprSoundLevel.{within_held}
-use Rattle.lay_code.proofs.reader.Followed.{bodiless_follows, root_of}
+use Rattle.lay_code.proofs.reader.Followed.{bodiless, no_braced_end, root_of}
 
 -- Where it is block-like, what follows it may follow its root and what it ends in.
 abbrev Settles : ExprFacts → Type 0
@@ -26,14 +26,18 @@ shut_settles : (x : ExprFacts) → ((rest : Tokens) → tail_follows x.tail stat
 shut_settles x tail b w depth ts rest f =
     and_from (root_follows x statement rest) (tail_follows x.tail statement.no_struct rest) (root_of x statement depth ts rest f) (tail rest)
 
+-- What ends in no body ends in no braces that aren't in the tree.
+bodiless_settles : (x : ExprFacts) → bodiless x.form ≡ true → Settles x
+bodiless_settles x n b w depth ts rest (inl h) = h
+bodiless_settles x n b w depth ts rest (inr h) = absurd (no_braced_end x.form n depth ts rest h.0)
+
 node_settles : (y : ExprNode) → Settles (expr_facts (expr_told y))
 node_settles (Expr-F.Expr::Call call) = shut_settles (expr_facts (expr_told (Expr-F.Expr::Call call))) (λ rest. refl)
 node_settles (Expr-F.Block label b) = shut_settles (expr_facts (expr_told (Expr-F.Block label b))) (λ rest. refl)
 node_settles (Expr-F.Unsafe b) = shut_settles (expr_facts (expr_told (Expr-F.Unsafe b))) (λ rest. refl)
 node_settles (Expr-F.ConstBlock b) = shut_settles (expr_facts (expr_told (Expr-F.ConstBlock b))) (λ rest. refl)
 node_settles (Expr-F.If [] o) = λ b w. absurd (cc (within_held (expr_facts (expr_told (Expr-F.If [] o))) statement w))
-node_settles (Expr-F.If (c ∷ more) None) = λ b w depth ts rest f.
-    bodiless_follows (expr_facts (expr_told (Expr-F.If (c ∷ more) None))) statement depth ts rest (if_bare c more) f
+node_settles (Expr-F.If (c ∷ more) None) = bodiless_settles (expr_facts (expr_told (Expr-F.If (c ∷ more) None))) (if_bare c more)
 node_settles (Expr-F.If (c ∷ more) (Some o)) = shut_settles (expr_facts (expr_told (Expr-F.If (c ∷ more) (Some o)))) (λ rest. refl)
 node_settles (Expr-F.Match x attrs arms) = shut_settles (expr_facts (expr_told (Expr-F.Match x attrs arms))) (λ rest. refl)
 node_settles (Expr-F.Loop label b) = shut_settles (expr_facts (expr_told (Expr-F.Loop label b))) (λ rest. refl)

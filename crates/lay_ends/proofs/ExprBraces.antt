@@ -3,7 +3,7 @@ use Rattle.std.proofs.Common.{◌≡◌, ℕ, ◌-◌, ◌&&◌, ◌||◌, Bool,
 use Rattle.std.specs.Prelude.{slice_get, nat_le, ◌==◌}
 use Rattle.std.proofs.lemmas.Bool.{eqb-true}
 use Rattle.lay_piece.specs.declared.kind.Delim.TheVariants.{Paren}
-use Rattle.lay_form.specs.Form.{Blank, Operator, Form, Done, Piece, Part, keyword, opener, closer}
+use Rattle.lay_form.specs.Form.{Blank, Operator, Braces, Bare, Unseen, Marked, Form, Done, Piece, Part, keyword, opener, closer}
 use Rattle.lay_form.specs.Notation.{I0, body, braces}
 use Rattle.lay_node.specs.Words.{leaf_of}
 use Rattle.lay_node.specs.nodes.Attr.{attr_form}
@@ -22,7 +22,7 @@ use Rattle.lay_code.specs.nodes.Blocks.{attrs_before, dropped_if, is_plain, stmt
 use Rattle.lay_code.specs.nodes.Code.{about_arm, about_block, about_branch, about_condition, about_expr, about_field_expr, about_step, about_stmt}
 use Rattle.lay_code.specs.nodes.CodeFacts.{BlockFacts, BranchFacts}
 use Rattle.lay_code.specs.nodes.Ends.{brace_bits, brace_behind, ends_in_brace, is_brace_kind}
-use Rattle.lay_code.specs.nodes.Exprs.{ExprFacts, StepFacts, args_form, arm_forms, bar, base_form, break_if, closure_head, closure_param, else_branch_form, end_form, expr_forms, generics_form, group_if, is_brace, is_field, is_method, labelled, methods, more_branches, operands_form, prefix_bits, prefixes_form, steps_form, tail_of_operands, tail_of_steps, targets_form, types_form}
+use Rattle.lay_code.specs.nodes.Exprs.{ExprFacts, StepFacts, args_form, arm_forms, bar, base_form, body_braces, break_if, closure_body, closure_head, closure_param, else_branch_form, end_form, expr_forms, generics_form, group_if, is_brace, is_field, is_method, labelled, methods, more_branches, operands_form, prefix_bits, prefixes_form, steps_form, tail_of_operands, tail_of_steps, targets_form, types_form}
 use Rattle.lay_code.specs.nodes.Layers.{ExprNode}
 use Rattle.lay_code.specs.declared.blocks.Block.{Block}
 use Rattle.lay_code.specs.declared.blocks.Branch.{Branch}
@@ -156,6 +156,12 @@ targets_end : (ts : List (ExprFacts × Op)) (f : Form) → ends_in_brace (target
 targets_end [] f = refl
 targets_end (x ∷ more) f = targets_end more f
 
+-- Braces that aren't in the tree end no body.
+unseen_ends : (b : Braces) (f : Form) (before : Bool) → brace_behind before (closure_body b f) ≡ brace_behind before f
+unseen_ends Bare f before = refl
+unseen_ends Unseen f before = refl
+unseen_ends Marked f before = refl
+
 -- What stands behind the parameters of a closure ends it.
 closure_ends : (is_async moves : Bool) (params : List ClosureParam) (f : Form) → ends_in_brace (closure_head is_async moves params f) ≡ ends_in_brace f
 closure_ends true true params f =
@@ -281,7 +287,8 @@ brace_by _ (laws.IsFor label pat x b) =
     rw (laws.expr_for_is label pat x b, views.outs-For label pat x b) (labelled_ends label f (λ c. block_ends b true _) false)
 brace_by _ (laws.IsClosure is_async moves params x) =
     rw (laws.expr_closure_is is_async moves params x, views.outs-Closure is_async moves params x)
-    (closure_ends is_async moves params (Piece (Blank ∷ []) (Part (about_expr x).form Done)))
+    (closure_ends is_async moves params (Piece (Blank ∷ []) (closure_body (body_braces (about_expr x)) (about_expr x).form))
+    ∙ unseen_ends (body_braces (about_expr x)) (about_expr x).form _)
 brace_by _ (laws.IsTypedClosure is_async moves params output b) =
     rw (laws.expr_typed_closure_is is_async moves params output b, views.outs-TypedClosure is_async moves params output b)
     (closure_ends is_async moves params

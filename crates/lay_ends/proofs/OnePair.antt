@@ -1,9 +1,8 @@
--- A pair of braces around the body of an arm that isn't in the tree.
+-- A pair of braces around a body that isn't in the tree.
 use Rattle.std.proofs.Common.{◌≡◌, ℕ, zero, suc, true, false, List, [], ◌∷◌, ◌++◌, length, map, Some, None, refl, sym, ap, ◌∙◌}
 use Rattle.lay_code.specs.nodes.Bodies.{is_lone_body}
 use Rattle.lay_code.specs.nodes.Code.{about_expr}
 use Rattle.lay_code.specs.nodes.Parts.{block_of, expr_of}
-use Rattle.lay_code.specs.reader.Blocks.{block_held, bare_by, undressed}
 use Rattle.lay_code.specs.declared.blocks.Block.{Block}
 use Rattle.lay_code.specs.declared.blocks.Stmt.{Stmt}
 use Rattle.lay_code.specs.declared.blocks.Stmt.TheFolds.{fold_out-Block, fold-roll-Expr, fold-roll-Stmt}
@@ -87,13 +86,6 @@ pub one_layer : (x : Expr) → layers (alone x) ≡ suc (layers x)
 one_layer x = in_block (alone_block x) ∙ ap suc (in_stmts (alone_block x) ∙ in_stmt x)
 
 -- ---- what is within them
-
--- A pair of braces less is a turn less.
-pub one_turn : (n : ℕ) (x : Expr) → is_lone_body (about_expr (alone x)).kind ≡ true → undressed (suc n) (alone x) ≡ undressed n x
-unfolding undressed
-one_turn n x h =
-    rw h (ap (block_held (undressed n) (alone x)) (views.outs-Block None (alone_block x))
-    ∙ ap (bare_by (undressed n) (alone x)) (views.outs-Stmt::Expr [] x false))
 
 pub block_alone : (x : Expr) → block_of (alone x) ≡ Some (alone_block x)
 block_alone x = rw (views.outs-Block None (alone_block x)) refl

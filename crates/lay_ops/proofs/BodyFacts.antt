@@ -2,10 +2,10 @@
 use Rattle.std.proofs.Common.{◌≡◌, ◌&&◌, ◌||◌, Bool, true, false, not, List, [], ◌∷◌, map, Option, Some, None, is_some, refl, sym, ap, ◌∙◌}
 use Rattle.lay_node.specs.declared.attr.Attr.{Attr}
 use Rattle.lay_node.specs.declared.token.Lifetime.{Lifetime}
-use Rattle.lay_code.specs.nodes.Bodies.{BlockBody, BodyKind, MacroBody, OtherBody, is_lone_body, is_macro}
-use Rattle.lay_code.specs.nodes.Blocks.{is_lone, is_plain}
+use Rattle.lay_code.specs.nodes.Bodies.{BlockBody, BodyKind, MacroBody, OtherBody, is_lone_body, is_macro, sheds}
+use Rattle.lay_code.specs.nodes.Blocks.{is_lone, is_plain, stmts_structless}
 use Rattle.lay_code.specs.nodes.Code.{about_block, about_expr, about_stmt, told_of_item, told_of_kind}
-use Rattle.lay_code.specs.nodes.CodeFacts.{ItemFacts}
+use Rattle.lay_code.specs.nodes.CodeFacts.{BlockFacts, ItemFacts}
 use Rattle.lay_code.specs.nodes.Layers.{ExprNode, KindNode, StmtNode}
 use Rattle.lay_code.specs.declared.blocks.Block.{Block}
 use Rattle.lay_code.specs.declared.blocks.Stmt.{Stmt}
@@ -18,7 +18,7 @@ use Rattle.lay_code.specs.declared.item.ItemKind.{ItemKind}
 use Rattle.lay_code.specs.declared.blocks.Stmt.TheOpen.{Stmt-F, ItemKind-F}
 use Rattle.lay_code.specs.declared.blocks.Stmt.TheVariants as stmt
 use Rattle.lay_code.specs.declared.item.ItemKind.TheVariants as kind
-use Rattle.lay_ops.specs.RootFacts.{lone_in}
+use Rattle.lay_ops.specs.RootFacts.{lone_in, structless_in}
 use Rattle.lay_code.proofs.nodes.BlocksLaws as blocks
 use Rattle.lay_code.proofs.nodes.ExprsLaws as laws
 use Rattle.lay_code.proofs.nodes.ItemLaws as items
@@ -26,7 +26,7 @@ use Rattle.lay_code.proofs.nodes.ItemLaws as items
 -- which body of an arm it is
 abbrev pub kind_in : ExprNode → BodyKind
 kind_in (Expr-F.Expr::Call call) = MacroBody
-kind_in (Expr-F.Block None b) = BlockBody (about_block b).lone
+kind_in (Expr-F.Block None b) = BlockBody (about_block b).lone (about_block b).structless
 kind_in _ = OtherBody
 
 kind_by : (x : Expr) → laws.ExprView x → (about_expr x).kind ≡ kind_in (views.out-Expr x)
@@ -89,6 +89,21 @@ lone_body_by _ = refl
 pub lone_body_is : (x : Expr) → is_lone_body (about_expr x).kind ≡ lone_body_in (views.out-Expr x)
 lone_body_is x = ap is_lone_body (kind_is x) ∙ lone_body_by (views.out-Expr x)
 
+-- whether it is one whose expression may stand in the place of a closure's body
+abbrev pub sheds_in : ExprNode → Bool → Bool
+sheds_in (Expr-F.Block label b) no_struct =
+    not (is_some label) && ((about_block b).lone && (not no_struct || (about_block b).structless))
+sheds_in _ no_struct = false
+
+sheds_by : (x : ExprNode) (no_struct : Bool) → sheds (kind_in x) no_struct ≡ sheds_in x no_struct
+sheds_by (Expr-F.Expr::Call call) no_struct = refl
+sheds_by (Expr-F.Block None b) no_struct = refl
+sheds_by (Expr-F.Block (Some l) b) no_struct = refl
+sheds_by _ no_struct = refl
+
+pub sheds_is : (x : Expr) (no_struct : Bool) → sheds (about_expr x).kind no_struct ≡ sheds_in (views.out-Expr x) no_struct
+sheds_is x no_struct = ap (λ k. sheds k no_struct) (kind_is x) ∙ sheds_by (views.out-Expr x) no_struct
+
 -- ---- statements
 
 -- another statement may stand behind it
@@ -128,6 +143,26 @@ lone_by (a ∷ others) (s ∷ t ∷ more) = refl
 
 pub lone_is : (b : Block) → (about_block b).lone ≡ (is_plain b.attrs && lone_in b.stmts)
 lone_is b = rw (blocks.block_is b) (lone_by b.attrs b.stmts)
+
+structless_by : (stmts : List Stmt) → stmts_structless (map about_stmt stmts) ≡ structless_in stmts
+structless_by [] = refl
+structless_by (s ∷ more) = ap (λ b. (about_stmt s).structless && b) (structless_by more)
+
+pub structless_is : (b : Block) → (about_block b).structless ≡ structless_in b.stmts
+structless_is b = ap (λ (F : BlockFacts). F.structless) (blocks.block_is b) ∙ structless_by b.stmts
+
+-- a statement that is no expression with a struct literal outside delimiters
+abbrev pub structless_stmt_in : StmtNode → Bool
+structless_stmt_in (Stmt-F.Stmt::Expr attrs x ended) = (about_expr x).structless
+structless_stmt_in _ = true
+
+pub structless_stmt_is : (s : Stmt) → (about_stmt s).structless ≡ structless_stmt_in (views.out-Stmt s)
+structless_stmt_is s = by s (blocks.stmt_view s)
+  where
+    by : (s : Stmt) → blocks.StmtView s → (about_stmt s).structless ≡ structless_stmt_in (views.out-Stmt s)
+    by _ (blocks.IsLet attrs pat ty value otherwise) = rw (blocks.stmt_let_is attrs pat ty value otherwise, views.outs-Stmt::Let attrs pat ty value otherwise) refl
+    by _ (blocks.IsItem item) = rw (blocks.stmt_item_is item, views.outs-Item item) refl
+    by _ (blocks.IsExpr attrs x ended) = rw (blocks.stmt_expr_is attrs x ended, views.outs-Stmt::Expr attrs x ended) refl
 
 -- ---- items
 
@@ -171,3 +206,12 @@ of_block x (Some l) b is = rw (is, laws.expr_block_is (Some l) b) refl
 pub of_lone : (s : Stmt) (attrs slice : List Attr) (x : Expr) (ended : Bool) → s ≡ stmt.Expr attrs x ended → slice ≡ attrs
     → ((is_plain slice && not ended) && not (is_macro (about_expr x).kind)) ≡ ((about_stmt s).bare && not (about_stmt s).call)
 of_lone s attrs slice x ended is same = rw (is, same, blocks.stmt_expr_is attrs x ended) refl
+
+pub of_shed : (x : Expr) (label : Option Lifetime) (b : Block) (no_struct : Bool) → x ≡ expr.Block label b
+    → (not (is_some label) && ((about_block b).lone && (not no_struct || (about_block b).structless))) ≡ sheds (about_expr x).kind no_struct
+of_shed x None b no_struct is = rw (is, laws.expr_block_is None b) refl
+of_shed x (Some l) b no_struct is = rw (is, laws.expr_block_is (Some l) b) refl
+
+pub of_structless : (s : Stmt) (attrs : List Attr) (x : Expr) (ended : Bool) → s ≡ stmt.Expr attrs x ended
+    → (about_expr x).structless ≡ (about_stmt s).structless
+of_structless s attrs x ended is = rw (is, blocks.stmt_expr_is attrs x ended) refl

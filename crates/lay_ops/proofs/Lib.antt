@@ -1,6 +1,7 @@
 pub mod BareNumbers
 pub mod Behind
 pub mod BodyFacts
+pub mod EdgeFacts
 pub mod ExprEnds
 pub mod FirstCharacter
 pub mod Last

@@ -1,5 +1,6 @@
 -- What is told of an expression by its root, in code.
 use Rattle.std.specs.Prelude.{ℕ, ◌&&◌, not, Bool, false, List, [], ◌∷◌}
+use Rattle.std.specs.List.{list_all}
 use Rattle.lay_code.specs.Operators.{op_level}
 use Rattle.lay_code.specs.nodes.Code.{about_stmt}
 use Rattle.lay_code.specs.declared.blocks.Stmt.{Stmt}
@@ -15,3 +16,10 @@ first_level (x ∷ more) = op_level x.0
 abbrev pub lone_in : List Stmt → Bool
 lone_in (s ∷ []) = (about_stmt s).bare && not (about_stmt s).call
 lone_in _ = false
+
+-- statements of which none is an expression that holds a struct literal outside delimiters
+abbrev pub is_structless_stmt : Stmt → Bool
+is_structless_stmt s = (about_stmt s).structless
+
+abbrev pub structless_in : List Stmt → Bool
+structless_in stmts = list_all is_structless_stmt stmts

@@ -1,6 +1,6 @@
 //! What is told of blocks, statements and items by their roots.
-ghost use Rattle.std.specs.Prelude.{◌≡◌, ◌&&◌, not, is_some};
-ghost use Rattle.lay_ops.specs.RootFacts.{lone_in};
+ghost use Rattle.std.specs.Prelude.{◌≡◌, ◌&&◌, ◌||◌, not, is_some};
+ghost use Rattle.lay_ops.specs.RootFacts.{lone_in, structless_in};
 ghost use Rattle.lay_code.specs.nodes.Bodies.{is_lone_body, is_macro, sheds};
 ghost use Rattle.lay_code.specs.nodes.Blocks.{is_plain};
 ghost use Rattle.lay_code.specs.nodes.Code.{about_block, about_expr, about_stmt, told_of_item};
@@ -84,11 +84,16 @@ pub fn sheds(expr: &Expr, no_struct: bool) -> bool
     ensures { result ≡ sheds (about_expr expr.now).kind no_struct }
 {
     match expr {
-        Expr::Block { label, body } => {
-            is_unlabelled(label) && is_lone(body) && (!no_struct || is_block_structless(body))
-        },
+        Expr::Block { label, body } => is_unlabelled(label) && is_shed(body, no_struct),
         _ => false,
     }
+}
+
+/// Whether such a block without a label is one.
+fn is_shed(block: &Block, no_struct: bool) -> bool
+    ensures { result ≡ ((about_block block.now).lone && (not no_struct || (about_block block.now).structless)) }
+{
+    is_lone(block) && (!no_struct || is_block_structless(block))
 }
 
 /// Whether no expression of a block's statements holds a struct literal outside delimiters.
@@ -96,7 +101,14 @@ pub fn sheds(expr: &Expr, no_struct: bool) -> bool
 fn is_block_structless(block: &Block) -> bool
     ensures { result ≡ (about_block block.now).structless }
 {
-    for stmt in block.stmts.as_slice() {
+    are_stmts_structless(block.stmts.as_slice())
+}
+
+/// Whether none of the statements is such an expression.
+fn are_stmts_structless(stmts: &[Stmt]) -> bool
+    ensures { result ≡ structless_in stmts.now }
+{
+    for stmt in stmts {
         if !is_stmt_structless(stmt) {
             return false;
         }

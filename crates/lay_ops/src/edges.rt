@@ -1,7 +1,7 @@
 //! What stands at the edges of the body of a closure: what decides whether it gets braces where it is broken.
 ghost use Rattle.std.specs.Prelude.{◌≡◌, ◌<◌, ◌&&◌};
-ghost use Rattle.lay_code.specs.nodes.Code.{about_expr};
-ghost use Rattle.lay_code.specs.nodes.Exprs.{begins_part, is_brace_lead};
+ghost use Rattle.lay_code.specs.nodes.Code.{about_expr, about_step};
+ghost use Rattle.lay_code.specs.nodes.Exprs.{is_brace_lead, is_dotted};
 ghost use Rattle.lay_code.specs.declared.exprs.Expr.{size-Expr};
 ghost use Rattle.lay_ops.specs.Edges.{IfPart, braced_at, dotted_first, starts_at, tight_at};
 
@@ -35,48 +35,41 @@ fn starts(expr: &Expr) -> bool
     loop {
         match starting_edge(first) {
             Edge::Told(answer) => return answer,
-            Edge::In(part) => first = part,
+            Edge::In(part) => {
+                if is_block_like(part) {
+                    return false;
+                }
+                first = part;
+            },
         }
     }
 }
 
-/// Whether what begins an expression may begin a statement.
-#[tactic(auto, using(crate::proofs::Edges::starts_is))]
+/// Whether what begins an expression may begin a statement. An operand that would end a statement by itself begins none.
+#[tactic(auto, using(crate::proofs::EdgeFacts::starts_is))]
 fn starting_edge(expr: &Expr) -> Edge<'_>
     ensures told { starts_at result ≡ (about_expr expr.now).starts }
     ensures smaller { IfPart result (λ part. size-Expr part < size-Expr expr.now) }
 {
     match expr {
-        Expr::Chain { first: part, .. }
-        | Expr::Cast { operand: part, .. }
-        | Expr::Range {
-            start: Some(part),
+        Expr::Chain { first, .. } => Edge::In(first.get()),
+        Expr::Cast { operand, .. } => Edge::In(operand.get()),
+        Expr::Range {
+            start: Some(start),
             ..
-        } => part_of(part.get()),
+        } => Edge::In(start.get()),
         Expr::Assign { targets, .. } => match targets.as_slice() {
-            [(target, _), ..] => part_of(target.get()),
+            [(target, _), ..] => Edge::In(target.get()),
             [] => Edge::Told(true),
         },
         Expr::Postfix { base, steps } => {
             if begins_dotted(steps.as_slice()) {
                 Edge::Told(true)
             } else {
-                part_of(base.get())
+                Edge::In(base.get())
             }
         },
         _ => Edge::Told(true),
-    }
-}
-
-/// An operand that begins an expression: one that would end a statement by itself may not begin one with it.
-fn part_of(part: &Expr) -> Edge<'_>
-    ensures told { starts_at result ≡ begins_part (about_expr part.now) }
-    ensures smaller { IfPart result (λ other. other ≡ part.now) }
-{
-    if is_block_like(part) {
-        Edge::Told(false)
-    } else {
-        Edge::In(part)
     }
 }
 
@@ -85,9 +78,17 @@ fn begins_dotted(steps: &[Step]) -> bool
     ensures { result ≡ dotted_first steps.now }
 {
     match steps {
-        [Step::Apply { .. } | Step::Index { .. }, ..] | [] => false,
-        [_, ..] => true,
+        [step, ..] => is_dotted(step),
+        [] => false,
     }
+}
+
+/// Whether a step begins with `.` or is `?`.
+#[tactic(auto, using(crate::proofs::EdgeFacts::dotted_is))]
+fn is_dotted(step: &Step) -> bool
+    ensures { result ≡ is_dotted (about_step step.now).kind }
+{
+    !matches!(step, Step::Apply { .. } | Step::Index { .. })
 }
 
 /// Whether no closure ends where it ends whose body keeps braces only since no struct literal may stand there.
@@ -104,7 +105,7 @@ fn is_tight(expr: &Expr) -> bool
 }
 
 /// Whether what ends an expression is no such closure.
-#[tactic(auto, using(crate::proofs::Edges::tight_is))]
+#[tactic(auto, using(crate::proofs::EdgeFacts::tight_is))]
 fn closing_edge(expr: &Expr) -> Edge<'_>
     ensures told { tight_at result ≡ (about_expr expr.now).tight }
     ensures smaller { IfPart result (λ operand. size-Expr operand < size-Expr expr.now) }
@@ -149,19 +150,19 @@ pub(crate) fn begins_with_brace(expr: &Expr) -> bool
 }
 
 /// Whether what begins an expression is a `{`.
-#[tactic(auto, using(crate::proofs::Edges::braced_is))]
+#[tactic(auto, using(crate::proofs::EdgeFacts::braced_is))]
 fn leading_edge(expr: &Expr) -> Edge<'_>
     ensures told { braced_at result ≡ is_brace_lead (about_expr expr.now).lead }
     ensures smaller { IfPart result (λ part. size-Expr part < size-Expr expr.now) }
 {
     match expr {
-        Expr::Chain { first: part, .. }
-        | Expr::Cast { operand: part, .. }
-        | Expr::Range {
-            start: Some(part),
+        Expr::Chain { first, .. } => Edge::In(first.get()),
+        Expr::Cast { operand, .. } => Edge::In(operand.get()),
+        Expr::Range {
+            start: Some(start),
             ..
-        }
-        | Expr::Postfix { base: part, .. } => Edge::In(part.get()),
+        } => Edge::In(start.get()),
+        Expr::Postfix { base, .. } => Edge::In(base.get()),
         Expr::Assign { targets, value } => match targets.as_slice() {
             [(target, _), ..] => Edge::In(target.get()),
             [] => Edge::In(value.get()),

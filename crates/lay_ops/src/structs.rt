@@ -9,6 +9,7 @@ use lay_code::{Boxed, Expr, Op};
 
 /// Whether an expression holds no struct literal outside delimiters.
 #[cycle(structless)]
+#[tactic(auto, using(crate::proofs::EdgeFacts::structless_is))]
 pub(crate) fn is_structless(expr: &Expr) -> bool
     ensures { result ≡ (about_expr expr.now).structless }
 {

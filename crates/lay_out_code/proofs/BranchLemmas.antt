@@ -21,7 +21,7 @@ use Rattle.lay_code.specs.nodes.Bodies.{braces_of}
 use Rattle.lay_code.specs.nodes.Blocks.{guard_form, is_free}
 use Rattle.lay_code.specs.nodes.Code.{about_arm, about_block, about_branch, about_condition, about_expr}
 use Rattle.lay_code.specs.nodes.CodeFacts.{ArmFacts, BlockFacts, BranchFacts}
-use Rattle.lay_code.specs.nodes.Exprs.{ExprFacts, arm_forms, bar, behind_async, branches_form, closure_head, closure_param, else_branch_form, labelled, more_branches}
+use Rattle.lay_code.specs.nodes.Exprs.{ExprFacts, arm_forms, bar, behind_async, body_braces, branches_form, closure_body, closure_head, closure_param, else_branch_form, labelled, more_branches}
 use Rattle.lay_code.specs.declared.blocks.Arm.{Arm}
 use Rattle.lay_code.specs.declared.blocks.Block.{Block}
 use Rattle.lay_code.specs.declared.blocks.Branch.{Branch}
@@ -39,7 +39,7 @@ use Rattle.lay_out_pats.proofs.FieldLemmas.{lines_more}
 use Rattle.lay_out_types.proofs.FormRows.{level_form, one_open, part_more}
 use Rattle.lay_out_heads.specs.FieldRows.{line}
 use Rattle.lay_out_heads.proofs.Steady.{Steady}
-use Rattle.lay_out_exprs.specs.Arms.{arm_closed, arm_opened}
+use Rattle.lay_out_exprs.specs.Bodies.{arm_closed, arm_opened, closure_closed, closure_opened}
 use Rattle.lay_out_exprs.specs.Blocks.{else_between, lead_row}
 use Rattle.lay_out_exprs.proofs.ExprLemmas.{told, told_is}
 use Rattle.lay_out_code.specs.Parts.{arm_told, branch_told, head_end, no_forms}
@@ -343,14 +343,28 @@ head_more false true moves params f any =
     ap (λ (s : List Tok). tok.Text (codes "async ") ∷ s) (behind_more false moves params f any)
 head_more q false moves params f any = behind_more q moves params f any
 
+-- the body of a closure in its braces, or without them
+closure_fed : (braces : Braces) (f : Form)
+    → closure_opened braces ++ (stream_of f ++ closure_closed braces) ≡ stream_of (closure_body braces f)
+closure_fed Bare f = sym (fed_more false f [])
+closure_fed Unseen f = sym (fed_more false f [])
+closure_fed Marked f = ap (λ (s : List Tok). closure_opened Marked ++ s) (sym (fed_more false f (closure_closed Marked)))
+
+pub closure_parts : (x : Expr) (braces : Braces) → braces ≡ body_braces (about_expr x)
+    → closure_opened braces ++ (stream_of (about_expr x).form ++ closure_closed braces)
+    ≡ stream_of (closure_body (body_braces (about_expr x)) (about_expr x).form)
+closure_parts x braces is = rw is (closure_fed (body_braces (about_expr x)) (about_expr x).form)
+
 pub closure_expr : (q : Bool) (x : Expr) (is_async moves : Bool) (params ps : List ClosureParam) (inner put : Expr)
     → x ≡ expr.Closure is_async moves params inner → ps ≡ params → put ≡ inner
-    → stream_of (closure_head is_async moves ps Done) ++ (tok.Text (codes " ") ∷ stream_of (about_expr put).form) ≡ told q x
+    → stream_of (closure_head is_async moves ps Done)
+    ++ (tok.Text (codes " ") ∷ stream_of (closure_body (body_braces (about_expr put)) (about_expr put).form)) ≡ told q x
 closure_expr q x is_async moves params ps inner put is same e =
-    rw (same, e) (head_more q is_async moves params (Piece (Blank ∷ []) (Part (about_expr inner).form Done)) any
+    let braced = closure_body (body_braces (about_expr inner)) (about_expr inner).form in
+    rw (same, e) (head_more q is_async moves params (Piece (Blank ∷ []) braced) any
     ∙ told_is q x (expr.Closure is_async moves params inner) _ is (expr_closure_is is_async moves params inner))
   where
-    any : Steady (Piece (Blank ∷ []) (Part (about_expr inner).form Done))
+    any : Steady (Piece (Blank ∷ []) (closure_body (body_braces (about_expr inner)) (about_expr inner).form))
     any true = refl
     any false = refl
 
@@ -399,3 +413,13 @@ arm_nested Marked f n k e = one_open n (e ∙ level_form f (suc n))
 pub may_close_arm : {S F T : Type 0} {m : Meanings S F} {a b : S} {p q : Result T F} (braces : Braces) (f : Form)
     → Adds m p a (arm_opened braces ++ stream_of f) q b → OnOk q (IsNested (m.groups b) (arm_closed braces))
 may_close_arm {p} {q} braces f h = on_ok q (λ x is. arm_nested braces f _ _ (level_behind p q x h is))
+
+closure_nested : (braces : Braces) (f : Form) (n k : ℕ) → k ≡ opened (closure_opened braces ++ stream_of f) n
+    → IsNested k (closure_closed braces)
+closure_nested Bare f n k e = tt
+closure_nested Unseen f n k e = tt
+closure_nested Marked f n k e = one_open n (e ∙ level_form f (suc n))
+
+pub may_close_closure : {S F T : Type 0} {m : Meanings S F} {a b : S} {p q : Result T F} (braces : Braces) (f : Form)
+    → Adds m p a (closure_opened braces ++ stream_of f) q b → OnOk q (IsNested (m.groups b) (closure_closed braces))
+may_close_closure {p} {q} braces f h = on_ok q (λ x is. closure_nested braces f _ _ (level_behind p q x h is))

@@ -1,10 +1,11 @@
--- The streams of what stands before blocks and in the heads of closures, and of what stands round the bodies of arms.
-use Rattle.std.proofs.Common.{◌≡◌, not, ℕ, ◌==◌, ◌&&◌, ◌≢◌, ◌≤◌, ◌<◌, Bool, true, false, cond, List, [], ◌∷◌, ◌++◌, map, length, get_or, codes, pos, Option, Some, None, refl, sym, ap, ◌∙◌, arith}
+-- The streams of what stands before blocks and in the heads of closures, and of what stands round the bodies of arms and of
+-- closures.
+use Rattle.std.proofs.Common.{◌≡◌, not, ℕ, ◌==◌, ◌&&◌, ◌≢◌, ◌≤◌, ◌<◌, Bool, true, false, cond, if◌then◌else◌, List, [], ◌∷◌, ◌++◌, map, length, get_or, codes, pos, Option, Some, None, refl, sym, ap, ◌∙◌, arith}
 use Rattle.std.proofs.Math.Dec.{eqb-suc-zero}
 use Rattle.lay_layout.specs.declared.layout.Tok.{Tok}
 use Rattle.lay_layout.specs.declared.layout.Tok.TheVariants as tok
-use Rattle.lay_form.specs.Form.{ArmComma, Bare, Done, Form, Marked, Part, Unseen}
-use Rattle.lay_form.specs.Layout.{closing_break, opening_break}
+use Rattle.lay_form.specs.Form.{ArmComma, Bare, Done, Form, Marked, Never, Nothing, Part, Unseen}
+use Rattle.lay_form.specs.Layout.{break_of, closing_break, opening_break}
 use Rattle.lay_form.specs.Notation.{comma_list, piece}
 use Rattle.lay_form.specs.Stream.{fed, stream_of}
 use Rattle.lay_node.specs.nodes.Functions.{self_type}
@@ -18,7 +19,7 @@ use Rattle.lay_code.specs.nodes.Bodies.{braces_of}
 use Rattle.lay_code.specs.nodes.Blocks.{is_plain, is_single}
 use Rattle.lay_code.specs.nodes.Code.{about_expr, about_stmt}
 use Rattle.lay_code.specs.nodes.CodeFacts.{StmtFacts}
-use Rattle.lay_code.specs.nodes.Exprs.{ExprFacts, bar, behind_async, closure_head, closure_param, labelled}
+use Rattle.lay_code.specs.nodes.Exprs.{ExprFacts, bar, behind_async, body_braces, closure_head, closure_param, labelled}
 use Rattle.lay_code.specs.declared.blocks.Block.{Block}
 use Rattle.lay_code.specs.declared.blocks.Stmt.{Stmt}
 use Rattle.lay_code.specs.declared.blocks.Stmt.TheVariants as stmt
@@ -30,9 +31,9 @@ use Rattle.lay_code.proofs.nodes.ExprsLaws.{ExprView, IsArray, IsAssign, IsAsync
 use Rattle.lay_out_types.specs.Rows.{comma_between, list_closed, list_opened, row}
 use Rattle.lay_out_types.proofs.FormRows.{are_none, list_is, part_more}
 use Rattle.lay_out_types.proofs.PartLemmas.{attrs_more}
-use Rattle.lay_out_exprs.specs.Arms.{arm_closed, arm_opened, seen_as}
-use Rattle.lay_out_exprs.specs.declared.arms.ArmBody.{ArmBody}
-use Rattle.lay_out_exprs.specs.declared.arms.ArmBody.TheVariants as arm
+use Rattle.lay_out_exprs.specs.Bodies.{arm_closed, arm_opened, closure_closed, closure_opened, seen_as}
+use Rattle.lay_out_exprs.specs.declared.bodies.BodyBraces.{BodyBraces}
+use Rattle.lay_out_exprs.specs.declared.bodies.BodyBraces.TheVariants as body
 
 -- ---- labels
 
@@ -135,7 +136,7 @@ other_count [] [] none h = refl
 other_count [] (s ∷ []) none h = absurd (h refl)
 other_count [] (s ∷ t ∷ more) none h = refl
 
--- ---- the bodies of arms
+-- ---- the bodies of arms and of closures
 
 -- how a body of this kind is laid out
 braces_from : (x : Expr) {facts : ExprFacts} → about_expr x ≡ facts → braces_of facts.kind ≡ braces_of (about_expr x).kind
@@ -195,11 +196,32 @@ pub other_braces : (x : Expr) → ((call : MacroCall) → x ≡ expr.Call call �
     → ((label : Option Lifetime) (b : Block) → x ≡ expr.Block label b → ⊥) → Marked ≡ braces_of (about_expr x).kind
 other_braces x no_call no_block = other_by x (expr_view x) no_call no_block
 
--- what opens and closes a body in braces
-pub marked_opened : (body : ArmBody) → body ≡ arm.Marked
-    → tok.Begin true (pos 4) ∷ tok.Break opening_break ∷ [] ≡ arm_opened (seen_as body)
-marked_opened body is = rw is refl
+-- the body of a closure, which may stand in braces or not
+worn_by : (x : ExprFacts) (worn : Bool) → (x.starts && x.tight) ≡ worn → (if worn then braces_of x.kind else Bare) ≡ body_braces x
+worn_by x worn is = sym (ap (λ (b : Bool). if b then braces_of x.kind else Bare) is)
 
-pub marked_closed : (body : ArmBody) → body ≡ arm.Marked
-    → tok.Break (closing_break (ArmComma true true)) ∷ tok.End ∷ [] ≡ arm_closed (seen_as body)
-marked_closed body is = rw is refl
+pub worn_braces : (x : Expr) (worn : Bool) → worn ≡ ((about_expr x).starts && (about_expr x).tight) → worn ≡ true
+    → braces_of (about_expr x).kind ≡ body_braces (about_expr x)
+worn_braces x worn is e = worn_by (about_expr x) true (sym is ∙ e)
+
+pub bare_braces : (x : Expr) (worn : Bool) → worn ≡ ((about_expr x).starts && (about_expr x).tight) → worn ≡ false
+    → Bare ≡ body_braces (about_expr x)
+bare_braces x worn is e = worn_by (about_expr x) false (sym is ∙ e)
+
+-- what opens and closes the body of an arm in braces
+pub arm_marked_opened : (braces : BodyBraces) → braces ≡ body.Marked
+    → tok.Begin true (pos 4) ∷ tok.Break opening_break ∷ [] ≡ arm_opened (seen_as braces)
+arm_marked_opened braces is = rw is refl
+
+pub arm_marked_closed : (braces : BodyBraces) → braces ≡ body.Marked
+    → tok.Break (closing_break (ArmComma true true)) ∷ tok.End ∷ [] ≡ arm_closed (seen_as braces)
+arm_marked_closed braces is = rw is refl
+
+-- the same of a closure
+pub closure_marked_opened : (braces : BodyBraces) → braces ≡ body.Marked
+    → tok.Break (break_of Never) ∷ tok.Begin true (pos 4) ∷ tok.Break opening_break ∷ [] ≡ closure_opened (seen_as braces)
+closure_marked_opened braces is = rw is refl
+
+pub closure_marked_closed : (braces : BodyBraces) → braces ≡ body.Marked
+    → tok.Break (closing_break Nothing) ∷ tok.End ∷ [] ≡ closure_closed (seen_as braces)
+closure_marked_closed braces is = rw is refl

@@ -3,7 +3,7 @@ use Rattle.std.proofs.Common.{◌≡◌, if◌then◌else◌, ℕ, suc, ◌-◌,
 use Rattle.std.proofs.Math.Dec.{eqb-suc-zero}
 use Rattle.lay_piece.specs.declared.kind.Delim.{Delim}
 use Rattle.lay_piece.specs.declared.kind.Delim.TheVariants.{Paren, Bracket, Brace}
-use Rattle.lay_form.specs.Form.{Bit, Blank, Form, Done, Part, Piece, keyword, opener, closer}
+use Rattle.lay_form.specs.Form.{Bare, Bit, Blank, Braces, Form, Done, Marked, Part, Piece, Unseen, keyword, opener, closer}
 use Rattle.lay_form.specs.Layout.{bits_end_in_point, ends_behind_point, token_ends_in_point}
 use Rattle.lay_form.specs.Notation.{body, braces, comma_list, soft, when}
 use Rattle.lay_node.specs.Words.{leaf_of}
@@ -33,7 +33,7 @@ use Rattle.lay_node.proofs.nodes.TypesLaws.{IsGlobal, IsLocal, IsQualified, Path
 use Rattle.lay_code.specs.nodes.Blocks.{attrs_before, block_form, dropped_if, is_plain, soft_form, stmt_form}
 use Rattle.lay_code.specs.nodes.Code.{about_arm, about_block, about_branch, about_expr, about_field_expr, about_step, about_stmt}
 use Rattle.lay_code.specs.nodes.CodeFacts.{BlockFacts, BranchFacts, StmtFacts}
-use Rattle.lay_code.specs.nodes.Exprs.{ExprFacts, arm_forms, base_form, branches_form, break_if, closure_head, else_branch_form, end_form, expr_forms, group_if, is_method, label_form, labelled, methods, more_branches, operand_form, operands_form, prefix_bits, prefixes_form, steps_form, targets_form, tuple_form, types_form}
+use Rattle.lay_code.specs.nodes.Exprs.{ExprFacts, arm_forms, base_form, body_braces, branches_form, break_if, closure_body, closure_head, else_branch_form, end_form, expr_forms, group_if, is_method, label_form, labelled, methods, more_branches, operand_form, operands_form, prefix_bits, prefixes_form, steps_form, targets_form, tuple_form, types_form}
 use Rattle.lay_code.specs.declared.blocks.Block.{Block}
 use Rattle.lay_code.specs.declared.blocks.Branch.{Branch}
 use Rattle.lay_code.specs.declared.exprs.ClosureParam.{ClosureParam}
@@ -404,9 +404,14 @@ else_point q x branches otherwise b is some =
     ∙ ends_is q x (expr.If branches (Some b)) _ (is ∙ ap (λ (o : Option Block). expr.If branches o) some)
     (expr_if_is branches (Some b))
 
--- a closure
+-- a closure, whose body may stand in braces
+body_point : (q : Bool) (b : Braces) (f : Form) → ends_behind_point q f ≡ ends_behind_point q (closure_body b f)
+body_point q Bare f = refl
+body_point q Unseen f = refl
+body_point q Marked f = refl
+
 closure_by : (q is_async moves : Bool) (params : List ClosureParam) (f : Form)
-    → ends_behind_point false f ≡ ends_behind_point q (closure_head is_async moves params (Piece (Blank ∷ []) (Part f Done)))
+    → ends_behind_point false f ≡ ends_behind_point q (closure_head is_async moves params (Piece (Blank ∷ []) f))
 closure_by q true true params f = refl
 closure_by q true false params f = refl
 closure_by q false true params f = refl
@@ -415,7 +420,9 @@ closure_by q false false params f = refl
 pub closure_point : (q : Bool) (x : Expr) (is_async moves : Bool) (params : List ClosureParam) (inner put : Expr) (b : Bool)
     → x ≡ expr.Closure is_async moves params inner → put ≡ inner → b ≡ ends false put → b ≡ ends q x
 closure_point q x is_async moves params inner put b is same h =
-    h ∙ ap (ends false) same ∙ closure_by q is_async moves params (expr_told inner)
+    let braces = body_braces (about_expr inner) in
+    h ∙ ap (ends false) same ∙ body_point false braces (expr_told inner)
+    ∙ closure_by q is_async moves params (closure_body braces (expr_told inner))
     ∙ ends_is q x (expr.Closure is_async moves params inner) _ is (expr_closure_is is_async moves params inner)
 
 head_shuts : (q is_async moves : Bool) (params : List ClosureParam) (bits : List Bit) (f : Form)

@@ -1,5 +1,5 @@
 -- What a rule gives, from what each of its steps gives.
-use Rattle.std.proofs.Common.{◌≡◌, ◌≤◌, ℕ, suc, Bool, true, false, List, ◌∷◌, drop, codes, Option, Some, None, is_some, Result, Ok, Err, IfOk, refl, ap, ◌∙◌, if◌then◌else◌, arith}
+use Rattle.std.proofs.Common.{◌≡◌, ◌≤◌, ℕ, suc, Bool, true, false, List, ◌∷◌, length, drop, codes, Option, Some, None, is_some, Result, Ok, Err, IfOk, refl, ap, ◌∙◌, if◌then◌else◌, arith}
 use Rattle.std.specs.Prelude.{max}
 use Rattle.lay_token.specs.Operators.{is_op}
 use Rattle.lay_piece.specs.declared.kind.Delim.TheVariants.{Brace}
@@ -14,10 +14,12 @@ use Rattle.lay_node.specs.declared.patterns.PatPlace.TheVariants.{Single}
 use Rattle.lay_node.specs.declared.token.Lifetime.{Lifetime}
 use Rattle.lay_node.specs.declared.types.Ty.{Ty}
 use Rattle.lay_node.specs.declared.types.TypePlace.TheVariants.{Bounds}
-use Rattle.lay_code.specs.nodes.Places.{FREE}
-use Rattle.lay_code.specs.reader.Blocks.{behind_semicolons, block_by, branch_by, else_stands, let_stmt, stmt_in_block}
+use Rattle.lay_code.specs.nodes.Bodies.{sheds}
+use Rattle.lay_code.specs.nodes.Code.{about_expr}
+use Rattle.lay_code.specs.nodes.Places.{FREE, plain}
+use Rattle.lay_code.specs.reader.Blocks.{behind_semicolons, block_by, body_need, branch_by, else_stands, let_stmt, stmt_in_block}
 use Rattle.lay_code.specs.reader.Conditions.{condition_by}
-use Rattle.lay_code.specs.reader.Exprs.{begins_else_if, closure_body, closure_expr, closure_param, if_expr, label_expr, labelled_expr, while_expr}
+use Rattle.lay_code.specs.reader.Exprs.{begins_else_if, closure_body, closure_expr, closure_param, if_expr, label_expr, labelled_expr, shed, while_expr}
 use Rattle.lay_code.specs.reader.Within.{ExprWithin}
 use Rattle.lay_code.specs.declared.blocks.Block.{Block}
 use Rattle.lay_code.specs.declared.blocks.Branch.{Branch}
@@ -145,6 +147,12 @@ module _ (within : ExprWithin) (ts : Tokens) where
       → closure_expr within no_struct ts ≡ closure_body within no_struct is_async moves (nodes params) (deepest params) left
   unfolding closure_expr
   closure_is no_struct is_async moves behind mid params left a t m i b p = rw (a, t, m, i, b, p) refl
+
+  pub closure_read : (no_struct is_async moves : Bool) (params : List ClosureParam) (need : ℕ) (x body : Expr) (n : ℕ) (left : Tokens)
+      → is_op (codes "->") ts ≡ false → within.exprs (plain 0 no_struct) ts ≡ Some ((x, n), left) → shed no_struct (length ts) x ≡ body
+      → closure_body within no_struct is_async moves params need ts
+      ≡ Some ((expr.Closure is_async moves params body, suc (max need (body_need (sheds (about_expr x).kind no_struct) n))), left)
+  closure_read no_struct is_async moves params need x body n left o r s = rw (o, r, s) refl
 
   -- the expression that a branch is behind `while`
   abbrev loop_of : Option Lifetime → (Branch × ℕ) × Tokens → Read Expr

@@ -1,6 +1,6 @@
 -- What is read within a depth, unless it is deeper than may be.
-use Rattle.std.proofs.Common.{◌≡◌, ℕ, ◌≤◌, Result, Ok, Err, refl}
-use Rattle.std.specs.Prelude.{IfOk}
+use Rattle.std.proofs.Common.{◌≡◌, ℕ, ◌≤◌, Some, Result, Ok, Err, refl}
+use Rattle.std.specs.Prelude.{IfErr, IfOk}
 use Rattle.std.proofs.lemmas.Bool.{le-leb}
 use Rattle.lay_node.specs.Ahead.{Tokens}
 use Rattle.lay_node.specs.reader.Loops.{Read}
@@ -16,3 +16,10 @@ pub fitting : {A : Type 0} (budget : ℕ) (read : Read A) (r : Result (Found A) 
 fitting budget read (Ok found) left h le = rw (h, le-leb found.need budget le) refl
 fitting budget read (Err NoReading) left h le = rw h refl
 fitting budget read (Err NoMemory) left h le = tt
+
+-- The same of what is read and put into a box, unless memory ran out for that.
+pub boxed_fitting : {A : Type 0} (budget : ℕ) (read : Read A) (node : A) (need : ℕ) (left : Tokens) (r : Result (Found A) ReadNone)
+    → read ≡ Some ((node, need), left) → need ≤ budget → IfOk r (λ found. found.node ≡ node) → IfOk r (λ found. found.need ≡ need)
+    → IfErr r (λ none. none ≡ NoMemory) → IsFound (fits budget read) r left
+boxed_fitting budget read node need left (Ok found) h le n m e = rw (n, m, h, le-leb need budget le) refl
+boxed_fitting budget read node need left (Err none) h le n m e = rw e tt

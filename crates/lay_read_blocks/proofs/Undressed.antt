@@ -1,5 +1,6 @@
--- Bodies of arms: what is read of one is within no more pairs of braces that aren't in the tree than there are tokens.
-use Rattle.std.proofs.Common.{◌≡◌, ℕ, zero, suc, ◌+◌, ◌-◌, ◌≤◌, Bool, true, false, not, ◌&&◌, ◌||◌, List, [], ◌∷◌, ◌++◌, length, drop, inl, inr, codes, Option, Some, None, is_some, refl, sym, ap, subst, ◌∙◌, arith}
+-- Bodies of arms and of closures: what is read of one is within no more pairs of braces that aren't in the tree than there are
+-- tokens, so that a loop which takes them off until none goes ends as so many turns do.
+use Rattle.std.proofs.Common.{◌≡◌, ℕ, zero, suc, ◌-◌, ◌≤◌, Bool, true, false, not, ◌&&◌, ◌||◌, List, [], ◌∷◌, ◌++◌, length, drop, inl, inr, codes, Option, Some, None, is_some, refl, sym, ap, subst, ◌∙◌, arith}
 use Rattle.std.specs.Prelude.{max, nat_le, ◌==◌}
 use Rattle.lay_token.specs.Operators.{is_op}
 use Rattle.lay_piece.specs.declared.kind.Delim.TheVariants.{Brace}
@@ -15,7 +16,7 @@ use Rattle.lay_node.specs.declared.types.TypePlace.TheVariants.{Bounds}
 use Rattle.lay_node.proofs.Steps.{same_some, chosen, bind_some}
 use Rattle.lay_code.specs.Operands.{ByBrace, expr_lead_at}
 use Rattle.lay_code.specs.Operators.{begins_step, strength}
-use Rattle.lay_code.specs.nodes.Bodies.{is_lone_body}
+use Rattle.lay_code.specs.nodes.Bodies.{BodyKind, is_lone_body, sheds}
 use Rattle.lay_code.specs.nodes.Code.{about_expr, about_stmt, told_of_item}
 use Rattle.lay_code.specs.nodes.Exprs.{ExprFacts, root_follows, stands}
 use Rattle.lay_code.specs.nodes.Layers.{ExprNode, StmtNode}
@@ -23,7 +24,7 @@ use Rattle.lay_code.specs.nodes.Places.{FREE, plain, statement}
 use Rattle.lay_code.specs.reader.Blocks.{begins_item, behind_semicolons, block_by, else_stands, expr_stmt, item_stmt, let_stmt, stmt_by, stmt_in_block, undressed}
 use Rattle.lay_code.specs.reader.Code.{code_in, expr_at}
 use Rattle.lay_code.specs.reader.Conditions.{condition_by}
-use Rattle.lay_code.specs.reader.Exprs.{assign_expr, begins_tuple_index, cast_expr, chain_expr, climb, climb_by, expr_by, for_expr, head_by, is_ended, labelled_expr, left_place, one_step, one_type, operand_if, operands, postfix_expr, range_by, range_expr, stage, targets_of, value_of, while_expr}
+use Rattle.lay_code.specs.reader.Exprs.{assign_expr, begins_tuple_index, cast_expr, chain_expr, climb, climb_by, expr_by, for_expr, head_by, is_ended, labelled_expr, left_place, one_step, one_type, operand_if, operands, postfix_expr, range_by, range_expr, shed, stage, targets_of, value_of, while_expr}
 use Rattle.lay_code.specs.reader.Within.{ExprWithin}
 use Rattle.lay_code.specs.declared.blocks.Block.{Block}
 use Rattle.lay_code.specs.declared.blocks.Stmt.{Stmt}
@@ -33,12 +34,13 @@ use Rattle.lay_code.specs.declared.blocks.Stmt.TheViews as views
 use Rattle.lay_code.specs.declared.exprs.Expr.{Expr}
 use Rattle.lay_code.specs.declared.exprs.Expr.TheVariants as expr
 use Rattle.lay_code.specs.declared.exprs.Place.{Place}
-use Rattle.lay_code.specs.declared.item.Item.{Item}
 use Rattle.lay_code.proofs.nodes.ExprsLaws as laws
-use Rattle.lay_code.proofs.reader.Dressed.{IsAlone, Lone, alone, alone_block, is_alone}
+use Rattle.lay_code.proofs.reader.ArmsSoundBodies.{undressed_alone, undressed_other, undressed_strips}
+use Rattle.lay_code.proofs.reader.ClosureBodies.{shed_bare, shed_strips}
+use Rattle.lay_code.proofs.reader.Dressed.{IsAlone, Lone, Stays, alone_block, is_alone, same_bare}
 use Rattle.lay_code.proofs.reader.ExprSoundLeads.{code_led}
 use Rattle.lay_read_tokens.proofs.Left.{Leaves, Left, attributes_left, passed_left, Passes}
-use Rattle.lay_ends.specs.Bodies.{IsBare}
+use Rattle.lay_ends.specs.Bodies.{IsBare, IsShed}
 use Rattle.lay_read_shared.proofs.BlocksLeft.{LeftCode, in_block_left, semicolons_left}
 use Rattle.lay_read_shared.proofs.Left.{in_left}
 
@@ -47,37 +49,6 @@ abbrev pub Bare : Expr → Type 0
 Bare x = is_lone_body (about_expr x).kind ≡ false
 
 -- ---- turns
-
-pub undressed_other : (n : ℕ) (x : Expr) → Bare x → undressed n x ≡ x
-unfolding undressed
-undressed_other zero x h = refl
-undressed_other (suc n) x h = rw h refl
-
-undressed_alone : (n : ℕ) (y : Expr) → is_lone_body (about_expr (alone y)).kind ≡ true → undressed (suc n) (alone y) ≡ undressed n y
-unfolding undressed
-undressed_alone n y h = rw (h, views.outs-Block None (alone_block y), views.outs-Stmt::Expr [] y false) refl
-
--- Turns that leave none are as good as others that do.
-bare_alone : (m n : ℕ) (x : Expr) → Lone x → is_lone_body (about_expr x).kind ≡ true
-    → ((y : Expr) → Bare (undressed m y) → Bare (undressed n y) → undressed m y ≡ undressed n y)
-    → Bare (undressed (suc m) x) → Bare (undressed (suc n) x) → undressed (suc m) x ≡ undressed (suc n) x
-bare_alone m n _ (IsAlone y macro) h same b c =
-    let e = undressed_alone m y h in
-    let f = undressed_alone n y h in
-    e ∙ same y (subst Bare e b) (subst Bare f c) ∙ sym f
-
-same_by : (m n : ℕ) (x : Expr) (lone : Bool) → is_lone_body (about_expr x).kind ≡ lone
-    → ((y : Expr) → Bare (undressed m y) → Bare (undressed n y) → undressed m y ≡ undressed n y)
-    → Bare (undressed (suc m) x) → Bare (undressed (suc n) x) → undressed (suc m) x ≡ undressed (suc n) x
-same_by m n x false h same b c = undressed_other (suc m) x h ∙ sym (undressed_other (suc n) x h)
-same_by m n x true h same b c = bare_alone m n x (is_alone x h) h same b c
-
-pub bare_same : (m n : ℕ) (x : Expr) → Bare (undressed m x) → Bare (undressed n x) → undressed m x ≡ undressed n x
-unfolding undressed
-bare_same zero n x b c = sym (undressed_other n x b)
-bare_same (suc m) zero x b c = undressed_other (suc m) x c
-bare_same (suc m) (suc n) x b c =
-    same_by m n x (is_lone_body (about_expr x).kind) refl (λ y d e. bare_same m n y d e) b c
 
 -- More turns leave none either.
 more_alone : (m n : ℕ) (x : Expr) → Lone x → is_lone_body (about_expr x).kind ≡ true
@@ -423,8 +394,17 @@ shallow_in zero place ts r h = absurd (cc h)
 shallow_in (suc depth) place ts r h =
     expr_shallow (code_in depth) (shallow_in depth) (in_left depth) (suc depth) place ts r (code_led (suc depth) place ts r h) h
 
--- What is left of a body that is read, when all such braces are off, is what so many turns leave as there are tokens.
+-- What is left of an arm's body that is read, when all such braces are off, is what so many turns leave as there are tokens.
 pub undressed_read : (depth : ℕ) (place : Place) (ts rest : Tokens) (x y : Expr) (need turns : ℕ)
     → expr_at place depth ts ≡ Some ((x, need), rest) → IsBare turns x y → undressed (length ts) x ≡ y
 undressed_read depth place ts rest x y need turns h b =
-    bare_same (length ts) turns x (shallow_in depth place ts ((x, need), rest) h) (subst Bare (sym b.0) b.1) ∙ b.0
+    same_bare is_lone_body undressed undressed_strips (length ts) turns x (shallow_in depth place ts ((x, need), rest) h)
+    (subst Bare (sym b.0) b.1) ∙ b.0
+
+-- The same for a closure's body, of which no pair goes that an arm's keeps.
+pub shed_read : (depth : ℕ) (place : Place) (no_struct : Bool) (ts rest : Tokens) (x y : Expr) (need turns : ℕ)
+    → expr_at place depth ts ≡ Some ((x, need), rest) → IsShed no_struct turns x y → shed no_struct (length ts) x ≡ y
+shed_read depth place no_struct ts rest x y need turns h b =
+    let drops : BodyKind → Bool = λ kind. sheds kind no_struct in
+    let here = shed_bare no_struct (length ts) x (shallow_in depth place ts ((x, need), rest) h) in
+    same_bare drops (shed no_struct) (shed_strips no_struct) (length ts) turns x here (subst (Stays drops) (sym b.0) b.1) ∙ b.0

@@ -122,7 +122,7 @@ exprs::expr_depth-returns-in-Closure g c =
     let m = of.closure_is c.args.expr.now c.in-Closure.is_async c.in-Closure.moves c.in-Closure.params c.in-Closure.body c.in-Closure.is in
     let n = rw c.as_slice-in-Closure.ensures at c.params_depth.ensures in
     let o = rw c.get-in-Closure.ensures at c.expr_depth-in-Closure.ensures in
-    omega (arith, m, n, o, c.max-in-Closure.ensures, c.deeper-in-Closure.ensures)
+    omega (arith, m, n, o, c.deeper-in-Closure.ensures, c.max-in-Closure.ensures, c.deeper-in-Closure-2.ensures)
 
 pub exprs::expr_depth-returns-in-TypedClosure : goal.exprs::expr_depth-returns-in-TypedClosure
 exprs::expr_depth-returns-in-TypedClosure g c =

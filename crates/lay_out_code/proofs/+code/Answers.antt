@@ -36,7 +36,7 @@ use Rattle.lay_code.specs.declared.blocks.Arm.{Arm}
 use Rattle.lay_code.specs.declared.blocks.Branch.{Branch}
 use Rattle.lay_code.specs.declared.blocks.Stmt.{Stmt}
 use Rattle.lay_out_heads.proofs.Rows.{may_end_head}
-use Rattle.lay_out_exprs.specs.Arms.{seen_as}
+use Rattle.lay_out_exprs.specs.Bodies.{seen_as}
 use Rattle.lay_out_exprs.specs.Blocks.{else_between, link_between}
 use Rattle.lay_out_code.proofs.BlockLemmas.{block_body, each_further, expr_stmt, item_stmt, let_stmt, may_close_soft, no_body, other_block, row_further, same_before, single_block, some_body, some_otherwise, steady_function}
 use Rattle.lay_out_code.proofs.BranchLemmas.{arm_parts, attrs_told, branch_parts, may_close_arm, may_end_arm_head, some_else, some_guard}
@@ -528,17 +528,17 @@ branches::add_arm-add_end-head-requires g t c =
 pub branches::add_arm-close_arm-requires : goal.branches::add_arm-close_arm-requires
 branches::add_arm-close_arm-requires g t c =
     let put = rw c.get-2.ensures at c.add_expr-inner.ensures in
-    may_close_arm (seen_as c.arm_body-kind.result) (expr_told c.args.arm.now.body)
+    may_close_arm (seen_as c.arm_braces-braces.result) (expr_told c.args.arm.now.body)
     (adds_on c.open_arm-opened.ensures put)
 
 pub branches::add_arm-returns : goal.branches::add_arm-returns
 branches::add_arm-returns g t c =
-    let kind = rw c.get.ensures at c.arm_body-kind.ensures in
+    let braces = rw c.get.ensures at c.arm_braces-braces.ensures in
     let put = rw c.get-2.ensures at c.add_expr-inner.ensures in
     adds (adds_on c.add_attrs-attrs.ensures (adds_on c.add_group-group.ensures (adds_on c.add_pat-pat.ensures
     (adds_on c.add_guard-guard.ensures (adds_on c.add_end-head.ensures (adds_on c.add_text-arrow.ensures
     (adds_on c.add_break-never.ensures (adds_on c.open_arm-opened.ensures (adds_on put c.close_arm.ensures)))))))))
-    (arm_parts c.args.arm.now _ _ true c.as_slice.ensures kind)
+    (arm_parts c.args.arm.now _ _ true c.as_slice.ensures braces)
 
 pub branches::add_guard-returns-in-Some : goal.branches::add_guard-returns-in-Some
 branches::add_guard-returns-in-Some g t c =
@@ -602,9 +602,19 @@ exprs::add_expr-returns-in-For g t c =
     (branches.for_expr c.args.point _ c.in-For.label c.in-For.pat c.in-For.iterated _ c.in-For.body c.in-For.is
     c.get-in-For.ensures)
 
+pub exprs::add_closure_body-close_closure-requires : goal.exprs::add_closure_body-close_closure-requires
+exprs::add_closure_body-close_closure-requires g t c =
+    branches.may_close_closure (seen_as c.closure_braces-braces.result) (expr_told c.args.body.now)
+    (adds_on c.open_closure-opened.ensures c.add_expr-inner.ensures)
+
+pub exprs::add_closure_body-returns : goal.exprs::add_closure_body-returns
+exprs::add_closure_body-returns g t c =
+    adds (adds_on c.open_closure-opened.ensures (adds_on c.add_expr-inner.ensures c.close_closure.ensures))
+    (branches.closure_parts c.args.body.now _ c.closure_braces-braces.ensures)
+
 pub exprs::add_expr-returns-in-Closure : goal.exprs::add_expr-returns-in-Closure
 exprs::add_expr-returns-in-Closure g t c =
-    adds (adds_on c.add_closure_head-head.ensures (adds_on c.add_text-blank.ensures c.add_expr-in-Closure.ensures))
+    adds (adds_on c.add_closure_head-head.ensures (adds_on c.add_text-blank.ensures c.add_closure_body.ensures))
     (branches.closure_expr c.args.point _ c.in-Closure.is_async c.in-Closure.moves c.in-Closure.params _ c.in-Closure.body _ c.in-Closure.is
     c.as_slice-in-Closure.ensures c.get-in-Closure.ensures)
 

@@ -5,7 +5,8 @@ use Rattle.lay_code.specs.nodes.Code.{about_expr}
 use Rattle.lay_code.specs.reader.Blocks.{undressed}
 use Rattle.lay_code.specs.declared.exprs.Expr.{Expr}
 use Rattle.lay_code.specs.declared.exprs.Expr.TheVariants as expr
-use Rattle.lay_ends.proofs.OnePair.{layers, one_layer, one_turn}
+use Rattle.lay_code.proofs.reader.ArmsSoundBodies.{undressed_alone}
+use Rattle.lay_ends.proofs.OnePair.{layers, one_layer}
 use Rattle.lay_ends.proofs.bodies.undressed.Goals as goal
 
 pub loop-body-smaller : goal.loop-body-smaller
@@ -26,7 +27,7 @@ loop-body-preserved c =
       suc turns,
       λ n.
           let one : suc turns + n ≡ turns + suc n = omega arith in
-          ap (λ k. undressed k c.args.expr) one ∙ c.loop-body.invariant.1 (suc n) ∙ ap (undressed (suc n)) h.1 ∙ one_turn n h.0 lone
+          ap (λ k. undressed k c.args.expr) one ∙ c.loop-body.invariant.1 (suc n) ∙ ap (undressed (suc n)) h.1 ∙ undressed_alone n h.0 lone
           ∙ ap (undressed n) (sym same),
     )
 

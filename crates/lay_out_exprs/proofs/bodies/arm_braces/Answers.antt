@@ -1,5 +1,5 @@
 use Rattle.lay_out_exprs.proofs.BlockLemmas.{block_braces, call_braces, labelled_braces, other_braces}
-use Rattle.lay_out_exprs.proofs.arms.arm_body.Goals as goal
+use Rattle.lay_out_exprs.proofs.bodies.arm_braces.Goals as goal
 
 pub returns-in-Call : goal.returns-in-Call
 returns-in-Call c = call_braces c.args.body.now _ c.in-Call.is

@@ -1,7 +1,0 @@
-use Rattle.lay_out_types.proofs.Adding.{adds, adds_on}
-use Rattle.lay_out_exprs.proofs.BlockLemmas.{marked_closed}
-use Rattle.lay_out_exprs.proofs.arms.close_arm.Goals as goal
-
-pub returns-in-Marked : goal.returns-in-Marked
-returns-in-Marked g c =
-    adds (adds_on c.add_break-line.ensures c.add_end.ensures) (marked_closed c.args.body c.in-Marked.is)
