@@ -53,16 +53,21 @@ pub fn is_lone_body(expr: &Expr) -> bool {
 /// stand there.
 pub fn sheds(expr: &Expr, no_struct: bool) -> bool {
     match expr {
-        Expr::Block { label, body } => {
-            is_unlabelled(label) && is_lone(body)
-                && (!no_struct || is_block_structless(body))
-        }
+        Expr::Block { label, body } => is_unlabelled(label) && is_shed(body, no_struct),
         _ => false,
     }
 }
+/// Whether such a block without a label is one.
+fn is_shed(block: &Block, no_struct: bool) -> bool {
+    is_lone(block) && (!no_struct || is_block_structless(block))
+}
 /// Whether no expression of a block's statements holds a struct literal outside delimiters.
 fn is_block_structless(block: &Block) -> bool {
-    for stmt in block.stmts.as_slice() {
+    are_stmts_structless(block.stmts.as_slice())
+}
+/// Whether none of the statements is such an expression.
+fn are_stmts_structless(stmts: &[Stmt]) -> bool {
+    for stmt in stmts {
         if !is_stmt_structless(stmt) {
             return false;
         }

@@ -24,39 +24,45 @@ fn starts(expr: &Expr) -> bool {
     loop {
         match starting_edge(first) {
             Edge::Told(answer) => return answer,
-            Edge::In(part) => first = part,
+            Edge::In(part) => {
+                if is_block_like(part) {
+                    return false;
+                }
+                first = part;
+            }
         }
     }
 }
-/// Whether what begins an expression may begin a statement.
+/// Whether what begins an expression may begin a statement. An operand that would end a statement by itself begins none.
 fn starting_edge(expr: &Expr) -> Edge<'_> {
     match expr {
-        Expr::Chain { first: part, .. } | Expr::Cast { operand: part, .. }
-        | Expr::Range { start: Some(part), .. } => part_of(part.get()),
+        Expr::Chain { first, .. } => Edge::In(first.get()),
+        Expr::Cast { operand, .. } => Edge::In(operand.get()),
+        Expr::Range { start: Some(start), .. } => Edge::In(start.get()),
         Expr::Assign { targets, .. } => {
             match targets.as_slice() {
-                [(target, _), ..] => part_of(target.get()),
+                [(target, _), ..] => Edge::In(target.get()),
                 [] => Edge::Told(true),
             }
         }
         Expr::Postfix { base, steps } => {
             if begins_dotted(steps.as_slice()) { Edge::Told(true) } else {
-                part_of(base.get())
+                Edge::In(base.get())
             }
         }
         _ => Edge::Told(true),
     }
 }
-/// An operand that begins an expression: one that would end a statement by itself may not begin one with it.
-fn part_of(part: &Expr) -> Edge<'_> {
-    if is_block_like(part) { Edge::Told(false) } else { Edge::In(part) }
-}
 /// Whether the first of the steps is one that goes on with an expression everywhere.
 fn begins_dotted(steps: &[Step]) -> bool {
     match steps {
-        [Step::Apply { .. } | Step::Index { .. }, ..] | [] => false,
-        [_, ..] => true,
+        [step, ..] => is_dotted(step),
+        [] => false,
     }
+}
+/// Whether a step begins with `.` or is `?`.
+fn is_dotted(step: &Step) -> bool {
+    !matches!(step, Step::Apply { .. } | Step::Index { .. })
 }
 /// Whether no closure ends where it ends whose body keeps braces only since no struct literal may stand there.
 fn is_tight(expr: &Expr) -> bool {
@@ -103,10 +109,10 @@ pub(crate) fn begins_with_brace(expr: &Expr) -> bool {
 /// Whether what begins an expression is a `{`.
 fn leading_edge(expr: &Expr) -> Edge<'_> {
     match expr {
-        Expr::Chain { first: part, .. } | Expr::Cast { operand: part, .. }
-        | Expr::Range { start: Some(part), .. } | Expr::Postfix { base: part, .. } => {
-            Edge::In(part.get())
-        }
+        Expr::Chain { first, .. } => Edge::In(first.get()),
+        Expr::Cast { operand, .. } => Edge::In(operand.get()),
+        Expr::Range { start: Some(start), .. } => Edge::In(start.get()),
+        Expr::Postfix { base, .. } => Edge::In(base.get()),
         Expr::Assign { targets, value } => {
             match targets.as_slice() {
                 [(target, _), ..] => Edge::In(target.get()),
