@@ -20,7 +20,7 @@ pub struct Pair {
 }
 
 /// Each unit of the source with the unit of the output that has the same number.
-pub fn pairs(alloc: Global, source: &[Unit], output: &[Unit]) -> Result<List<Pair>, NoMemory>
+pub(crate) fn pairs(alloc: Global, source: &[Unit], output: &[Unit]) -> Result<List<Pair>, NoMemory>
     requires { length source.now ≡ length output.now }
     ensures { IfOk result (λ list. list ≡ paired source.now output.now) }
 {
