@@ -1,0 +1,7 @@
+pub mod FeedLemmas
+pub mod FoundLemmas
+pub mod MarkLemmas
+pub mod PieceLemmas
+pub mod PushLemmas
+pub mod Rules
+pub mod WordLemmas

@@ -1,0 +1,6 @@
+use Rattle.lay_map.proofs.MarkLemmas.{mark_did}
+use Rattle.lay_map.proofs.marker.MarkerEmit.begin.Goals as goal
+
+pub returns : goal.returns
+returns c =
+    rw (← c.self.view_is) (mark_did _ _ _ _ _ _ _ _ _ c.begin-given.ensures c.answer.ensures.same c.answer.ensures.ok c.answer.ensures.err)

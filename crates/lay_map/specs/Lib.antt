@@ -1,0 +1,6 @@
+pub mod Flow
+pub mod Marking
+pub mod Meanings
+pub mod Pairs
+pub mod Places
+pub mod Walks

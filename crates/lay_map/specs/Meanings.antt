@@ -1,0 +1,25 @@
+-- What finds the units of tokens as an Emit.
+use Rattle.std.specs.Prelude.{◌≡◌, ℕ, Bool, true, false, List, [], length}
+use Rattle.lay_layout.specs.declared.layout.Tok.{Tok}
+use Rattle.lay_text.specs.declared.refusal.NoMemory.{NoMemory}
+use Rattle.lay_token.specs.declared.token.Token.{Token}
+use Rattle.lay_stream.specs.Fed.{Meanings}
+use Rattle.lay_map.specs.Marking.{State, begun, fed_all}
+
+-- all the tokens, whether a first line is skipped, what was told of them so far, and whether a call has failed
+pub record Seen : Type 0 where
+  pub tokens : List Token
+  pub shebang : Bool
+  pub state : State
+  pub failed : Bool
+
+-- It was fed what makes its state of the first one, unless a call has failed. Of failures nothing else is said.
+abbrev pub mark_meanings : Meanings Seen NoMemory
+mark_meanings = record {
+  fed = λ x start s. x.failed ≡ false → x.state ≡ fed_all s (begun x.tokens x.shebang);
+  groups = λ x. length x.state.outer;
+  faults = λ x. 0;
+  failed = λ x. x.failed ≡ true;
+  cause = λ old fault new. Unit {0};
+  loans = λ x. [];
+}

@@ -1,0 +1,91 @@
+-- A walk over tokens that is told what begins the words, one by one: the first token is taken that begins so, and what stands before
+-- it is in no unit. Braces alone need more than that, as `Choice` of lay_units says.
+use Rattle.std.specs.Prelude.{◌≡◌, ◌⊎◌, ℕ, zero, suc, ◌+◌, ◌-◌, min, Bool, true, false, cond, ◌&&◌, ◌==◌, nat_le, List, [], ◌∷◌, ◌++◌, drop, length}
+use Rattle.lay_piece.specs.Characters as char
+use Rattle.lay_piece.specs.declared.kind.Kind.{Kind}
+use Rattle.lay_token.specs.declared.token.Token.{Token}
+use Rattle.lay_units.specs.Choice.{alike, begins_doc, behind_token, closes, more_doc, openers, opens, top}
+use Rattle.lay_map.specs.declared.unit.Unit.{Unit}
+use Rattle.lay_map.specs.declared.walk.Sought.{Sought}
+use Rattle.lay_map.specs.declared.walk.Sought.TheVariants.{First, Docs}
+
+-- the tokens ahead; of each brace that is open, the innermost first, whether it is in a unit; and the units so far
+pub record Place : Type 0 where
+  pub ahead : List Token
+  pub braces : List Bool
+  pub units : List Unit
+
+-- ---- what is looked for
+
+abbrev pub is_closing : Sought → Bool
+is_closing (First c) = c == char.close_brace
+is_closing Docs = false
+
+-- A token of this kind and text is looked for, as far as its first character tells.
+abbrev pub is_said : Sought → Kind → List ℕ → Bool
+is_said (First c) kind text = alike text (c ∷ [])
+is_said Docs kind text = begins_doc kind text
+
+-- where these braces are open
+abbrev pub is_sought : Sought → List Bool → Token → Bool
+is_sought sought braces t =
+    cond (opens t.kind) false (cond (closes t.kind) (is_closing sought && top braces) (is_said sought t.kind t.text))
+
+-- ---- going on
+
+abbrev pub sought_in : Sought → List Token → List Bool → List Unit → Place
+sought_in sought [] braces units = record { ahead = []; braces = braces; units = units }
+sought_in sought (t ∷ ts) braces units =
+    cond (is_sought sought braces t) (record { ahead = t ∷ ts; braces = braces; units = units })
+    (sought_in sought ts (behind_token false t.kind braces) units)
+
+-- before the first token that is looked for
+abbrev pub sought_from : Sought → Place → Place
+sought_from sought p = sought_in sought p.ahead p.braces p.units
+
+-- the token so many places behind the first, or else the last
+abbrev pub last_of : ℕ → Token → List Token → Token
+last_of zero t ts = t
+last_of (suc n) t [] = t
+last_of (suc n) t (u ∷ us) = last_of n u us
+
+-- from a token to another; the places of a text are below 2^64
+abbrev pub unit_from : Token → Token → Unit
+unit_from first last = record { at = first.at; len = min (last.at + last.len) 18446744073709551615 - first.at }
+
+abbrev pub taken_in : ℕ → List Token → List Bool → List Unit → Place
+taken_in n [] braces units = record { ahead = []; braces = braces; units = units }
+taken_in n (t ∷ ts) braces units =
+    record { ahead = drop n ts; braces = behind_token true t.kind braces; units = units ++ unit_from t (last_of n t ts) ∷ [] }
+
+-- The next token, with so many behind it, is a unit.
+abbrev pub taken_from : ℕ → Place → Place
+taken_from n p = taken_in n p.ahead p.braces p.units
+
+abbrev pub first_length : List Token → ℕ
+first_length [] = 0
+first_length (t ∷ ts) = length t.text
+
+-- how many tokens behind the next one belong to the same documentation
+abbrev pub more_of : Bool → List Token → ℕ
+more_of inner [] = 0
+more_of inner (t ∷ ts) = more_doc inner t.kind
+
+-- ---- rows of opening braces
+
+-- So many opening braces stand in a row ahead, or none is counted yet.
+abbrev pub IsCount : Bool → ℕ → List Token → Type 0
+IsCount loose count ts = (count ≡ 0) ⊎ (count ≡ openers loose ts)
+
+-- Of the braces that stand in a row so many are units, the last of them; the flag says that `;` may stand between.
+abbrev pub placed_in : Bool → ℕ → List Token → List Bool → List Unit → Place
+placed_in loose zero ts braces units = record { ahead = ts; braces = braces; units = units }
+placed_in loose (suc k) [] braces units = record { ahead = []; braces = braces; units = units }
+placed_in loose (suc k) (t ∷ ts) braces units =
+    cond (opens t.kind)
+    (cond (nat_le (openers loose (t ∷ ts)) (suc k)) (placed_in loose k ts (true ∷ braces) (units ++ unit_from t t ∷ []))
+    (placed_in loose (suc k) ts (false ∷ braces) units))
+    (placed_in loose (suc k) ts (behind_token false t.kind braces) units)
+
+abbrev pub placed : Bool → ℕ → Place → Place
+placed loose k p = placed_in loose k p.ahead p.braces p.units

@@ -1,0 +1,293 @@
+//! What the tokens of a layout tell of the tokens of a text.
+ghost use Rattle.std.specs.Prelude.{◌≡◌, ◌∷◌, [], cond, drop, not, ◌==◌, IfOk, OnOk, true};
+ghost use Rattle.lay_map.specs.Marking.{BeginsWord, begun, behind_line, broken, comma_settled, documented, first_ahead, group_begun, group_ended};
+ghost use Rattle.lay_map.specs.Marking.{is_free, opening_of, raised, read, read_code, settled, text_within, units_of, words_of, worded};
+
+use crate::flags::Flags;
+use crate::unit::Unit;
+use crate::walk::{Sought, Walk};
+use lay_layout::Break;
+use lay_text::{List, NoMemory};
+use lay_token::Token;
+use std::alloc::Global;
+use std::marker::Model;
+
+/// Where a layout is in documentation.
+#[derive(Clone, Copy, Debug, PartialEq, Eq)]
+pub(crate) enum Within {
+    /// In none.
+    Code,
+    /// In documentation on a line, or in the first line of a file, up to the next break.
+    Line,
+    /// The text of documentation in a block comes next.
+    Block,
+    /// The end of such a block comes next.
+    End,
+}
+
+/// What begins documentation.
+#[derive(Clone, Copy, Debug, PartialEq, Eq)]
+pub(crate) struct Opening {
+    /// It is that of what it stands in.
+    inner: bool,
+    /// It is a block.
+    block: bool,
+}
+
+/// A walk over tokens, and what was fed that isn't decided yet.
+#[derive(Drop)]
+pub(crate) struct Marking<'a> {
+    walk: Walk<'a>,
+    /// How many opening braces were fed in a row; the next word decides which ones they are.
+    row: usize,
+    /// A text `,` was fed last; the next call decides whether it is a word.
+    comma: bool,
+    within: Within,
+    /// The arrow of an arm was fed in the group that is open.
+    arrow: bool,
+    /// The same of each group around it.
+    outer: Flags,
+}
+
+impl<'a> Model for Marking<'a> {
+    ghost use Rattle.lay_map.specs.Marking.{State};
+
+    ghost Value = { State };
+
+    ghost view = { λ m. record { place = m.walk; row = m.row; comma = m.comma; within = m.within; arrow = m.arrow; outer = m.outer } };
+}
+
+impl<'a> Marking<'a> {
+    /// Nothing was fed. The flag says that the first line is that of a shebang, which has no tokens.
+    pub(crate) fn new(alloc: Global, tokens: &'a [Token], shebang: bool) -> Marking<'a>
+        ensures { result ≡ begun tokens.now shebang }
+    {
+        Marking {
+            walk: Walk::new(alloc, tokens),
+            row: 0,
+            comma: false,
+            within: if shebang { Within::Line } else { Within::Code },
+            arrow: false,
+            outer: Flags::new(alloc),
+        }
+    }
+
+    /// A text.
+    pub(crate) fn text(&mut self, text: &[u8]) -> Result<(), NoMemory>
+        ensures { OnOk result (self.new ≡ text_within self.old.within text.now self.old) }
+    {
+        match self.within {
+            Within::Code => {
+                self.settle_comma()?;
+                self.read(text)
+            }
+            Within::Line => Ok(()),
+            Within::Block => {
+                self.within = Within::End;
+                Ok(())
+            }
+            Within::End => {
+                self.within = Within::Code;
+                Ok(())
+            }
+        }
+    }
+
+    /// A break.
+    pub(crate) fn brk(&mut self, token: Break) -> Result<(), NoMemory>
+        ensures { OnOk result (self.new ≡ broken token self.old) }
+    {
+        self.within = behind_line(self.within);
+        self.comma = self.comma && !is_free(token, self.arrow);
+        self.settle_comma()
+    }
+
+    /// The beginning of a group.
+    pub(crate) fn begin(&mut self) -> Result<(), NoMemory>
+        ensures { OnOk result (self.new ≡ group_begun self.old) }
+    {
+        self.settle_comma()?;
+        self.outer.push(self.arrow)?;
+        self.arrow = false;
+        Ok(())
+    }
+
+    /// The end of a group.
+    pub(crate) fn end(&mut self) -> Result<(), NoMemory>
+        ensures { OnOk result (self.new ≡ group_ended self.old) }
+    {
+        self.settle_comma()?;
+        self.arrow = self.outer.top();
+        self.outer.pop();
+        Ok(())
+    }
+
+    /// The units that were found, where nothing more is fed.
+    pub(crate) fn into_units(self) -> Result<List<Unit>, NoMemory>
+        ensures { IfOk result (λ units. units ≡ units_of self.entry) }
+    {
+        let mut marking = self;
+        marking.settle_comma()?;
+        marking.settle(true)?;
+        let Marking {
+            walk,
+            row: _,
+            comma: _,
+            within: _,
+            arrow: _,
+            outer: _,
+        } = marking;
+        Ok(walk.into_units())
+    }
+
+    /// Takes the `,` that waits, if one does, as a word.
+    fn settle_comma(&mut self) -> Result<(), NoMemory>
+        ensures { OnOk result (self.new ≡ comma_settled self.old) }
+    {
+        if self.comma {
+            self.comma = false;
+            self.word(b',')?;
+        }
+        Ok(())
+    }
+
+    /// Takes the opening braces that wait, before a word that isn't `;`, or that is.
+    fn settle(&mut self, loose: bool) -> Result<(), NoMemory>
+        ensures { OnOk result (self.new ≡ settled loose self.old) }
+    {
+        let row = self.row;
+        self.row = 0;
+        self.walk.place(row, loose)
+    }
+
+    /// Takes the token of a word that begins with this byte: how many bytes it has.
+    fn word(&mut self, byte: u8) -> Result<usize, NoMemory>
+        ensures word { OnOk result (self.new ≡ worded byte self.old) }
+        ensures length { IfOk result (λ length. length ≡ first_ahead byte self.old) }
+    {
+        self.settle(byte != b';')?;
+        self.walk.seek(Sought::First(byte))?;
+        let length = self.walk.first_length();
+        self.walk.take(0)?;
+        Ok(length)
+    }
+
+    /// A text that isn't within documentation.
+    fn read(&mut self, text: &[u8]) -> Result<(), NoMemory>
+        ensures { OnOk result (self.new ≡ read text.now self.old) }
+    {
+        match opening_of(text) {
+            Some(opening) => self.document(opening),
+            None => self.read_code(text),
+        }
+    }
+
+    /// A text that isn't of documentation.
+    fn read_code(&mut self, text: &[u8]) -> Result<(), NoMemory>
+        ensures { OnOk result (self.new ≡ read_code text.now self.old) }
+    {
+        // The name of a raw identifier is a text of its own.
+        if text == b"r#".as_slice() {
+            return Ok(());
+        }
+        if text == b",".as_slice() {
+            self.comma = true;
+            return Ok(());
+        }
+        self.words(text)?;
+        self.arrow = text == b" => ".as_slice() || self.arrow;
+        Ok(())
+    }
+
+    /// The beginning of documentation.
+    fn document(&mut self, opening: Opening) -> Result<(), NoMemory>
+        ensures { OnOk result (self.new ≡ documented opening self.old) }
+    {
+        self.settle(true)?;
+        self.walk.seek(Sought::Docs)?;
+        let more = self.walk.more_doc(opening.inner);
+        self.walk.take(more)?;
+        self.within = if opening.block {
+            Within::Block
+        } else {
+            Within::Line
+        };
+        Ok(())
+    }
+
+    /// The words of a text, with blanks between them or without.
+    fn words(&mut self, text: &[u8]) -> Result<(), NoMemory>
+        ensures { OnOk result (self.new ≡ words_of 0 text.now self.old) }
+    {
+        let mut rest = text;
+        while let Some((byte, behind)) = rest.split_first() {
+            let length = self.begin_word(*byte)?;
+            rest = skip(behind, length);
+        }
+        Ok(())
+    }
+
+    /// A byte of a text, where a word may begin: how many bytes more belong to the word.
+    fn begin_word(&mut self, byte: u8) -> Result<usize, NoMemory>
+        ensures { IfOk result (λ length. BeginsWord byte self.old length self.new) }
+    {
+        if byte == b'{' {
+            self.raise()?;
+            return Ok(0);
+        }
+        if byte == b' ' {
+            return Ok(0);
+        }
+        Ok(self.word(byte)?.saturating_sub(1))
+    }
+
+    /// One more opening brace waits.
+    fn raise(&mut self) -> Result<(), NoMemory>
+        ensures { OnOk result (self.new ≡ raised self.old) }
+    {
+        match self.row.checked_add(1) {
+            Some(row) => {
+                self.row = row;
+                Ok(())
+            }
+            None => Err(NoMemory),
+        }
+    }
+}
+
+/// What is behind so many bytes.
+fn skip(bytes: &[u8], count: usize) -> &[u8]
+    ensures { result.now ≡ drop count bytes.now }
+{
+    &bytes[count.min(bytes.len())..]
+}
+
+/// Where a layout is behind a break.
+fn behind_line(within: Within) -> Within
+    ensures { result ≡ behind_line within }
+{
+    match within {
+        Within::Line => Within::Code,
+        Within::Code | Within::Block | Within::End => within,
+    }
+}
+
+/// Whether a `,` before the break is in no unit: that behind the last of several fields, or that of an arm.
+fn is_free(token: Break, arrow: bool) -> bool
+    ensures { result ≡ is_free token arrow }
+{
+    token.blank == 65535 && (token.offset < 0 || arrow)
+}
+
+/// The documentation that a text begins, if it does.
+fn opening_of(text: &[u8]) -> Option<Opening>
+    ensures { result ≡ opening_of text.now }
+{
+    let inner = text == b"//!".as_slice() || text == b"/*!".as_slice();
+    let block = text == b"/**".as_slice() || text == b"/*!".as_slice();
+    if inner || block || text == b"///".as_slice() {
+        Some(Opening { inner, block })
+    } else {
+        None
+    }
+}
