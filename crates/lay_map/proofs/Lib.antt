@@ -1,3 +1,4 @@
+pub mod BodyRules
 pub mod FeedLemmas
 pub mod FoundLemmas
 pub mod MarkLemmas
@@ -5,3 +6,4 @@ pub mod PieceLemmas
 pub mod PushLemmas
 pub mod Rules
 pub mod WordLemmas
+pub mod nodes

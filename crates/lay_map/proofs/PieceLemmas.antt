@@ -20,6 +20,7 @@ use Rattle.lay_piece.proofs.Exact.{front_complete, found_kind, found_rest}
 use Rattle.lay_token.specs.Lexes.{is_punct}
 use Rattle.lay_token.proofs.Deciding.{bytes_same}
 use Rattle.lay_form.specs.Pieces.{is_text_of}
+use Rattle.lay_node.specs.tokens.Listing.{is_doc_kind}
 use Rattle.lay_units.specs.Choice.{alike, closes, is_semicolon, opens}
 use Rattle.lay_units.specs.Units.{Word, Told}
 use Rattle.lay_map.specs.Flow.{is_none, is_plain, is_proper, is_told, same}
@@ -452,3 +453,30 @@ bare_texts k (c ∷ cs) b h = (
         at true q s n p = absurd (cc p)
         at false true s n p = absurd (cc p)
         at false false true n p = absurd (cc p)
+
+-- ---- tokens of a token list
+
+whole_texts : (k : Kind) (text : List ℕ) → is_whole k ≡ true → is_text_of k text ≡ true
+    → (bytes_eq text (codes ",") ≡ true → is_punct k ≡ true) × (bytes_eq text (codes " => ") ≡ false)
+whole_texts k text w h = (λ e. comma_kind (bytes_same text (codes ",") e), not_text text (codes " => ") (λ e. arrow e))
+  where
+    front : front_of false (chars text) ≡ found k []
+    front = front_alone k (chars text) (whole_leaf k w) (text_form k text w h).1
+
+    comma_kind : text ≡ codes "," → is_punct k ≡ true
+    comma_kind e =
+        let q : chars text ≡ 44 ∷ [] = ap chars e ∙ first_low 44 [] (omega arith) ∙ ap (λ (x : List ℕ). 44 ∷ x) chars-nil in
+        let r : found k [] ≡ found Punct [] = sym front ∙ ap (front_of false) q ∙ (marks []).0 in
+        ap is_punct (found_kind k Punct [] [] r)
+
+    arrow : text ≡ codes " => " → ⊥
+    arrow e =
+        no_form k (chars text) (whole_leaf k w) (text_form k text w h).1
+        (ap (λ (x : List ℕ). front_of false (chars x)) e ∙ ap (front_of false) (first_low 32 (codes "=> ") (omega arith)) ∙ (brackets (chars (codes "=> "))).3)
+
+-- A `,` is a mark, and no token is an arrow with blanks.
+pub listed_texts : (k : Kind) (text : List ℕ) → is_doc_kind k ≡ false → is_text_of k text ≡ true
+    → (bytes_eq text (codes ",") ≡ true → is_punct k ≡ true) × (bytes_eq text (codes " => ") ≡ false)
+listed_texts (Doc inner block) text d h = absurd (cc d)
+listed_texts RawIdent text d h = let p = bare_texts RawIdent text refl h in (λ e. absurd (let no : true ≡ false = sym e ∙ p.0 in cc no), p.1)
+listed_texts k text d h = whole_texts k text refl h

@@ -1,0 +1,3 @@
+-- The forms of nodes tell their units.
+pub mod Attrs
+pub mod Tokens
