@@ -1,0 +1,36 @@
+-- Trees that can be written once they have parentheses where their places ask for them.
+use Rattle.std.specs.Prelude.{◌≤◌, Bool, false, IsTrue}
+use Rattle.lay_form.specs.Depth.{least_depth}
+use Rattle.lay_form.specs.Pieces.{are_pieces}
+use Rattle.lay_node.specs.nodes.Facts.{Facts}
+use Rattle.lay_code.specs.nodes.Blocks.{arm_facts, block_facts, branch_facts, stmt_facts}
+use Rattle.lay_code.specs.nodes.Code.{about_expr}
+use Rattle.lay_code.specs.nodes.CodeFacts.{ArmFacts, BlockFacts, BranchFacts, ConditionFacts, ItemFacts, KindFacts, LinkFacts, StmtFacts}
+use Rattle.lay_code.specs.nodes.Conditions.{condition_facts, link_facts}
+use Rattle.lay_code.specs.nodes.Exprs.{ExprFacts, ExprLayer, StepFacts, expr_facts, field_facts, step_facts}
+use Rattle.lay_code.specs.nodes.Item.{item_facts, kind_facts}
+use Rattle.lay_code.specs.declared.blocks.Stmt.TheFolds as fold
+use Rattle.lay_code.specs.declared.blocks.Stmt.TheOpen.{Expr-F}
+use Rattle.lay_code.specs.declared.exprs.Expr.{Expr}
+
+-- What is told of an expression as if it stood in parentheses, save what statements, arms and closures ask of the whole of it.
+abbrev pub shielded : ExprFacts → ExprFacts
+shielded x = record (expr_facts (Expr-F.Paren x)) { block_like = x.block_like; kind = x.kind }
+
+abbrev pub shielded_facts : ExprLayer → ExprFacts
+shielded_facts x = shielded (expr_facts x)
+
+-- what is told of a tree each part of which is shielded
+unfoldable pub loose_about : Expr → ExprFacts
+loose_about = fold.fold-Expr StmtFacts LinkFacts ExprFacts Facts StepFacts KindFacts ArmFacts BlockFacts BranchFacts ConditionFacts ItemFacts stmt_facts link_facts shielded_facts field_facts step_facts kind_facts arm_facts block_facts branch_facts condition_facts item_facts
+
+-- The tree meets each rule but those of places and slots.
+abbrev pub is_loose : Expr → Bool
+is_loose x = (loose_about x).within false false
+
+-- Which trees may be given parentheses: those that meet each rule but those of places and slots, whose names, words and literals
+-- are pieces of their kinds, and which are no deeper than a file may be.
+pub record Loose (x : Expr) : Type 0 where
+  pub rules : IsTrue (is_loose x)
+  pub pieces : IsTrue (are_pieces (about_expr x).form)
+  pub depth : least_depth (about_expr x).form ≤ 256

@@ -1,0 +1,5 @@
+pub mod Made
+pub mod Parts
+pub mod Least
+pub mod Erased
+pub mod LeftOut
