@@ -1,0 +1,9 @@
+pub mod BlockLemmas
+pub mod BranchLemmas
+pub mod DocLemmas
+pub mod ExprLemmas
+pub mod FileLemmas
+pub mod ItemLemmas
+pub mod JoinLemmas
+pub mod NumberLemmas
+pub mod PostfixLemmas

@@ -1,0 +1,12 @@
+-- The string literal of a text.
+use Rattle.std.specs.Prelude.{ℕ, cond, ◌==◌, List, [], ◌∷◌, ◌++◌, codes, flat_map}
+use Rattle.lay_piece.specs.Characters as char
+
+-- A quote and a backslash stand behind a backslash, an LF is `\n`, a CR is `\r`, and all else is as it is.
+abbrev pub escaped : ℕ → List ℕ
+escaped c =
+    cond (c == char.quote) (codes "\\\"") (cond (c == char.backslash) (codes "\\\\")
+    (cond (c == char.line_feed) (codes "\\n") (cond (c == char.carriage_return) (codes "\\r") (c ∷ []))))
+
+abbrev pub string_text : List ℕ → List ℕ
+string_text text = codes "\"" ++ (flat_map escaped text ++ codes "\"")
