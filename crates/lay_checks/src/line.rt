@@ -45,6 +45,7 @@ fn asks(line: &Line, wanted: &str) -> bool {
         (Line::Usage, None) => mode == "usage",
         (Line::Format(input), name) => mode == "format" && is_input(input, name),
         (Line::Check(input), name) => mode == "check" && is_input(input, name),
+        (Line::Map(input), name) => mode == "map" && is_input(input, name),
         (Line::Sample { seed, items }, Some(numbers)) => mode == "sample"
             && is_sample(*seed, *items, numbers),
         _ => false,
@@ -98,6 +99,17 @@ fn lines(rt: HostRuntime) {
         --nope→usage§\
         a --nope→usage§\
         a -x→usage§\
+        --map→map§\
+        --map a→map a§\
+        a --map→map a§\
+        -- --map→format --map§\
+        --map -→map -§\
+        --map --map→usage§\
+        --map --check→usage§\
+        --check --map a→usage§\
+        --map a b→usage§\
+        --map=1→usage§\
+        --maps→usage§\
         --help→usage§\
         a --help→usage§\
         -h→usage§\
@@ -146,6 +158,8 @@ fn samples(rt: HostRuntime) {
         --sample 2 3 --items 1→usage§\
         --sample 2 --items 1 --check→usage§\
         --check --sample 2 --items 1→usage§\
+        --sample 2 --items 1 --map→usage§\
+        --map --items 1→usage§\
         --sample 2 --items 1 a→usage§\
         a --sample 2 --items 1→usage§\
         --sample 2 --items 1 -- a→usage§\

@@ -21,6 +21,18 @@ fn outcomes(rt: HostRuntime) -> Result<(), Fail> {
         f --check→(→struct A;⇒Differs→→differs\n§\
         --check q→(→(⇒ReadFailed→→read failed\n§\
         q→(→(⇒ReadFailed→→read failed\n";
+    // A line for each unit: where it stands behind a byte order mark, with each CR LF as one LF, and where in the text. The first line is
+    // none, nor is a comma that the list may do without, nor the braces that the arm's body is laid out with.
+    let maps = "--map→struct A;→(⇒Done→0+6 0+6\n7+1 7+1\n8+1 8+1\n→§\
+        --map→use a::{b,c,};→(⇒Done→0+3 0+3\n4+1 4+1\n5+1 5+1\n6+1 6+1\n7+1 7+1\n8+1 8+1\n9+1 9+1\n10+1 11+1\n12+1 12+1\n13+1 13+1\n→§\
+        --map→#[doc=\"a\"]struct A;→(⇒Done→0+10 0+4\n10+6 5+6\n17+1 12+1\n18+1 13+1\n→§\
+        --map→\u{feff}#!x\r\n\r\nstruct A;→(⇒Done→5+6 4+6\n12+1 11+1\n13+1 12+1\n→§\
+        --map→→(⇒Done→→§\
+        --map f→(→struct A;⇒Done→0+6 0+6\n7+1 7+1\n8+1 8+1\n→§\
+        f --map→(→struct A;⇒Done→0+6 0+6\n7+1 7+1\n8+1 8+1\n→§\
+        --map q→(→(⇒ReadFailed→→read failed\n§\
+        --map→\u{feff}use a;\r\n\r\n  }→(⇒Refused(Unbalanced { at: 10 })→→3:3: unbalanced delimiter\n§\
+        --map→use a;struct B→(⇒Refused(NoItem { at: 6 })→→1:7: no item\n";
     let refusals = "→structA;→(⇒Refused(NoItem { at: 0 })→→1:1: no item\n§\
         →use a;struct B→(⇒Refused(NoItem { at: 6 })→→1:7: no item\n§\
         →\u{feff}//!a\r\n#![b]\r\n  #![c d]→(⇒Refused(NoItem { at: 13 })→→3:3: no item\n§\
@@ -38,20 +50,22 @@ fn outcomes(rt: HostRuntime) -> Result<(), Fail> {
         →// x\r\n(((]]\"→(⇒Refused(NoToken { at: 10 })→→2:6: no token\n§\
         →struct r#self;→(⇒Refused(NoToken { at: 7 })→→1:8: no token\n";
     let usage =
-        "--help→(→(⇒Usage→→usage: lay_fmt [--check] [FILE] or lay_fmt --sample SEED --items N\n§\
-        f f→(→(⇒Usage→→usage: lay_fmt [--check] [FILE] or lay_fmt --sample SEED --items N\n§\
-        --chec f→(→(⇒Usage→→usage: lay_fmt [--check] [FILE] or lay_fmt --sample SEED --items N\n§\
-        --items 1→(→(→0⇒Usage→→usage: lay_fmt [--check] [FILE] or lay_fmt --sample SEED --items N\n§\
-        --sample 2→(→(→0⇒Usage→→usage: lay_fmt [--check] [FILE] or lay_fmt --sample SEED --items N\n§\
-        --sample 2 --items 200001→(→(→0⇒Usage→→usage: lay_fmt [--check] [FILE] or lay_fmt --sample SEED --items N\n§\
-        --sample 18446744073709551616 --items 1→(→(→0⇒Usage→→usage: lay_fmt [--check] [FILE] or lay_fmt --sample SEED --items N\n§\
-        --check --sample 2 --items 1→(→(→0⇒Usage→→usage: lay_fmt [--check] [FILE] or lay_fmt --sample SEED --items N\n";
+        "--help→(→(⇒Usage→→usage: lay_fmt [--check | --map] [FILE] or lay_fmt --sample SEED --items N\n§\
+        f f→(→(⇒Usage→→usage: lay_fmt [--check | --map] [FILE] or lay_fmt --sample SEED --items N\n§\
+        --chec f→(→(⇒Usage→→usage: lay_fmt [--check | --map] [FILE] or lay_fmt --sample SEED --items N\n§\
+        --items 1→(→(→0⇒Usage→→usage: lay_fmt [--check | --map] [FILE] or lay_fmt --sample SEED --items N\n§\
+        --sample 2→(→(→0⇒Usage→→usage: lay_fmt [--check | --map] [FILE] or lay_fmt --sample SEED --items N\n§\
+        --sample 2 --items 200001→(→(→0⇒Usage→→usage: lay_fmt [--check | --map] [FILE] or lay_fmt --sample SEED --items N\n§\
+        --sample 18446744073709551616 --items 1→(→(→0⇒Usage→→usage: lay_fmt [--check | --map] [FILE] or lay_fmt --sample SEED --items N\n§\
+        --map --check f→(→(→0⇒Usage→→usage: lay_fmt [--check | --map] [FILE] or lay_fmt --sample SEED --items N\n§\
+        --check --sample 2 --items 1→(→(→0⇒Usage→→usage: lay_fmt [--check | --map] [FILE] or lay_fmt --sample SEED --items N\n";
     let samples =
         "--sample 2 --items 1→struct A;→→0⇒Done→items 1, bytes in 26, bytes out 41, lines 4, longest 15\n→§\
         --items 1 --sample 2→struct A;→→0⇒Done→items 1, bytes in 26, bytes out 41, lines 4, longest 15\n→§\
         --sample=2 --items=1→struct A;→→0⇒Done→items 1, bytes in 26, bytes out 41, lines 4, longest 15\n→§\
         --sample 2 --items 0→struct A;→→0⇒Done→items 0, bytes in 0, bytes out 0, lines 0, longest 0\n→";
     each_is_told(&rt, alloc, modes, outcome)?;
+    each_is_told(&rt, alloc, maps, outcome)?;
     each_is_told(&rt, alloc, refusals, outcome)?;
     each_is_told(&rt, alloc, usage, outcome)?;
     each_is_told(&rt, alloc, samples, outcome)?;
@@ -62,7 +76,7 @@ fn outcomes(rt: HostRuntime) -> Result<(), Fail> {
 // A text of 50,000 bytes is written as it is laid out: of 5,000 items 25 take the first 75 writes, and one of the next item's fails.
 //
 // The line of a refusal is written in four pieces. A write of `err` that fails changes no status, and nothing more is written. The line
-// of a sample is written in one piece.
+// of a sample is written in one piece, and so is each line of a map.
 #[test]
 fn failures(rt: HostRuntime) -> Result<(), Fail> {
     let rows = "→8000×struct A;→→0⇒ReadFailed→0→→read failed\n§\
@@ -81,6 +95,8 @@ fn failures(rt: HostRuntime) -> Result<(), Fail> {
         →8000×struct A;→→→23997→2⇒WriteFailed→7999→st→write failed\n§\
         →8000×struct A;→→→→2⇒Done→8000→→§\
         →5000×struct A;→→→75→2⇒WriteFailed→25→st→write failed\n§\
+        --map→struct A;→→0⇒ReadFailed→0→→read failed\n§\
+        --map→struct A;→→→1→2⇒WriteFailed→0→0+6 0+6\n7+→write failed\n§\
         →}→→→→→0⇒Refused(Unbalanced { at: 0 })→0→→1§\
         →}→→→→→1⇒Refused(Unbalanced { at: 0 })→0→→1:§\
         →}→→→→→2⇒Refused(Unbalanced { at: 0 })→0→→1:1§\

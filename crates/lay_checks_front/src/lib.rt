@@ -6,8 +6,8 @@
 //! fail in turn, and `memory` what is left where memory is wanting. `texts` holds texts of files, from their bytes and from their trees,
 //! and how deep files are, `conditions` the links of conditions, `samples` samples and their runs, `counts` the sink that counts. `spoilt`
 //! is a table of trees that can't be written, each for one reason, and beside each one that can, which differs from it in that alone
-//! (`made`); more of them than can be proved each stand under `tried/`. What texts are laid out to, and which are refused, stands under
-//! `cases/`.
+//! (`made`); more of them than can be proved each stand under `tests/unproved`. What texts are laid out to, and which are refused, stands
+//! under `tests/cases`.
 #![tactic(auto)]
 
 #[cfg(test)]

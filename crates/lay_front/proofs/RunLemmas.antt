@@ -11,10 +11,12 @@ use Rattle.lay_code.specs.Reading.{Reads, IsRefused, top}
 use Rattle.lay_code.specs.declared.file.File.{File}
 use Rattle.lay_reparse.proofs.file.OneAnswer.{one_refusal, never_both}
 use Rattle.lay_front.proofs.OutcomeLemmas.{wrote, told_as, complete_refused}
+use Rattle.lay_mapping.specs.Maps.{IsMap, WroteMap, WroteMapPart}
+use Rattle.lay_mapping.proofs.MapLemmas.{one_map}
 use Rattle.lay_sample.specs.Sample.{sample_text}
 use Rattle.lay_front.specs.Inputs.{InputAs, IsPlaced, input_of}
 use Rattle.lay_front.specs.Messages.{RefusedIn, Says, line_of_end, message, refusal_line}
-use Rattle.lay_front.specs.Outcome.{CheckRun, FormatRun, LineRun, SampleRun, WasRead, Wrote, WrotePart, IsItsText, IsNotItsText}
+use Rattle.lay_front.specs.Outcome.{CheckRun, FormatRun, LineRun, MapRun, Mapped, MappedInPart, SampleRun, WasRead, Wrote, WrotePart, IsItsText, IsNotItsText}
 use Rattle.lay_front.specs.Stops.{status_of}
 use Rattle.lay_front.specs.declared.command.Status.{Status}
 use Rattle.lay_front.specs.declared.command.Status.TheVariants.{Done, Differs, Usage, ReadFailed, Refused, WriteFailed, TooLong, NoMemory}
@@ -35,6 +37,13 @@ module _ (before now : Option (List ℕ)) (f g : ℕ) (given : List ℕ × File)
   pub read_wrote_part : (b n : Option (List ℕ)) → GrewByPrefix b n (out given.1) → WasRead before now (λ bytes. WrotePart bytes b n)
   read_wrote_part b n grew = was_read (λ bytes r. record { file = given.1; reads = r.1; grew = grew }) h
 
+  pub read_mapped : (b n : Option (List ℕ)) → ((bytes : List ℕ) → bytes ≡ given.0 → WroteMap bytes given.1 b n) → WasRead before now (λ bytes. Mapped bytes b n)
+  read_mapped b n wrote = was_read (λ bytes r. record { file = given.1; reads = r.1; wrote = wrote bytes (sym r.0) }) h
+
+  pub read_mapped_part : (b n : Option (List ℕ)) → ((bytes : List ℕ) → bytes ≡ given.0 → WroteMapPart bytes given.1 b n)
+      → WasRead before now (λ bytes. MappedInPart bytes b n)
+  read_mapped_part b n wrote = was_read (λ bytes r. record { file = given.1; reads = r.1; wrote = wrote bytes (sym r.0) }) h
+
   pub read_same : given.0 ≡ out given.1 → WasRead before now IsItsText
   read_same e = was_read (λ bytes r. record { file = given.1; reads = r.1; same = sym r.0 ∙ e }) h
 
@@ -53,6 +62,16 @@ module _ {K I : Type 0} (written : K → Option (List ℕ)) (writes : K → ℕ)
   stopped_format stop.WriteFailed h = absurd h
   stopped_format stop.Differs h = absurd h
   stopped_format stop.NoMemory h = inl refl
+
+  pub stopped_map : (s : Stop) → InputAs (left i which) (left j which) (reads i) (reads j) (Err s)
+      → MapRun written writes left reads which i j k k (status_of (Err s))
+  stopped_map stop.Usage h = absurd h
+  stopped_map stop.ReadFailed h = (h, refl)
+  stopped_map stop.TooLong h = (h, refl)
+  stopped_map (stop.Refused refusal place) h = (was_read (λ bytes r. r.0) h, refl)
+  stopped_map stop.WriteFailed h = absurd h
+  stopped_map stop.Differs h = absurd h
+  stopped_map stop.NoMemory h = inl refl
 
   pub stopped_check : (s : Stop) → InputAs (left i which) (left j which) (reads i) (reads j) (Err s)
       → CheckRun left reads which i j (status_of (Err s))
@@ -79,6 +98,7 @@ pub no_words : {K I : Type 0} (written : K → Option (List ℕ)) (writes : K �
 no_words written writes left reads line.Usage i k = (refl, refl, inr refl)
 no_words written writes left reads (line.Format which) i k = inl refl
 no_words written writes left reads (line.Check which) i k = (tt, refl)
+no_words written writes left reads (line.Map which) i k = inl refl
 no_words written writes left reads (line.Sample seed items) i k = (refl, refl)
 
 -- ---- the line on `err`
@@ -188,6 +208,45 @@ module _ {I : Type 0} (left : I → Which → Option (List ℕ)) (reads : I → 
   check_too_long NoMemory h above = inr refl
 
   module _ {K : Type 0} (written : K → Option (List ℕ)) (writes : K → ℕ) (k l : K) where
+    pub map_done : (status : Status) (file : File) (lines : List ℕ) → MapRun written writes left reads which i j k l status
+        → (Rose (writes k) (writes l) → ⊥) → length bytes ≤ 16777216 → IsMap bytes file lines
+        → ((status ≡ Done) × GrewBy (written k) (written l) lines) ⊎ (status ≡ NoMemory)
+    map_done Done file lines h no_write within m =
+        let same : IsMap h.bytes file lines = subst (λ (b : List ℕ). IsMap b file lines) (told_as _ bytes h.bytes given h.all) m in
+        let one : h.holds.wrote.lines ≡ lines = one_map h.bytes h.holds.file file h.holds.wrote.lines lines h.holds.wrote.is same in
+        inl (refl, subst (λ (w : List ℕ). GrewBy (written k) (written l) w) one h.holds.wrote.grew)
+    map_done Differs file lines h no_write within m = absurd h
+    map_done Usage file lines h no_write within m = absurd h
+    map_done ReadFailed file lines h no_write within m = absurd (no_read h.0)
+    map_done (Refused refusal) file lines h no_write within m = absurd (never_both h.0.bytes file refusal (does_read h.0 file m.source) h.0.holds)
+    map_done WriteFailed file lines h no_write within m = absurd (no_write h.0)
+    map_done TooLong file lines h no_write within m = absurd (short within h.0)
+    map_done NoMemory file lines h no_write within m = inr refl
+
+    map_refused : (status : Status) (refusal : Refusal) → MapRun written writes left reads which i j k l status → length bytes ≤ 16777216
+        → IsRefused bytes refusal → (status ≡ Refused refusal) ⊎ (status ≡ NoMemory)
+    map_refused Done refusal h within r = absurd (never_both h.bytes h.holds.file refusal h.holds.reads.reads (is_refused h refusal r))
+    map_refused Differs refusal h within r = absurd h
+    map_refused Usage refusal h within r = absurd h
+    map_refused ReadFailed refusal h within r = absurd (no_read h.0)
+    map_refused (Refused other) refusal h within r =
+        inl (ap Refused (one_refusal top h.0.bytes other refusal h.0.holds (is_refused h.0 refusal r)))
+    map_refused WriteFailed refusal h within r =
+        absurd (never_both h.1.bytes h.1.holds.file refusal h.1.holds.reads.reads (is_refused h.1 refusal r))
+    map_refused TooLong refusal h within r = absurd (short within h.0)
+    map_refused NoMemory refusal h within r = inr refl
+
+    map_too_long : (status : Status) → MapRun written writes left reads which i j k l status → 16777216 < length bytes
+        → (status ≡ TooLong) ⊎ (status ≡ NoMemory)
+    map_too_long Done h above = absurd (long above h)
+    map_too_long Differs h above = absurd h
+    map_too_long Usage h above = absurd h
+    map_too_long ReadFailed h above = absurd (no_read h.0)
+    map_too_long (Refused refusal) h above = absurd (long above h.0)
+    map_too_long WriteFailed h above = absurd (long above h.1)
+    map_too_long TooLong h above = inl refl
+    map_too_long NoMemory h above = inr refl
+
     format_too_long : (status : Status) → FormatRun written writes left reads which i j k l status → 16777216 < length bytes
         → (status ≡ TooLong) ⊎ (status ≡ NoMemory)
     format_too_long Done h above = absurd (long above h)
@@ -210,6 +269,10 @@ module _ {I : Type 0} (left : I → Which → Option (List ℕ)) (reads : I → 
         let run : FormatRun written writes left reads which i j k l status =
         subst (λ (v : Which). FormatRun written writes left reads v i j k l status) (named e) h in
         complete_refused written writes left reads which i j k l bytes status refusal run no_read given within r
+    line_refused (line.Map w) status refusal h e within r =
+        let run : MapRun written writes left reads which i j k l status =
+        subst (λ (v : Which). MapRun written writes left reads v i j k l status) (named e) h in
+        map_refused status refusal run within r
     line_refused (line.Sample seed items) status refusal h e within r = let no : ⊥ = cc in absurd no
     line_refused (line.Check w) status refusal h e within r =
         let run : CheckRun left reads which i j status = subst (λ (v : Which). CheckRun left reads v i j status) (named e) h.0 in
@@ -220,6 +283,8 @@ module _ {I : Type 0} (left : I → Which → Option (List ℕ)) (reads : I → 
     line_too_long line.Usage status h e above = let no : ⊥ = cc in absurd no
     line_too_long (line.Format w) status h e above =
         format_too_long status (subst (λ (v : Which). FormatRun written writes left reads v i j k l status) (named e) h) above
+    line_too_long (line.Map w) status h e above =
+        map_too_long status (subst (λ (v : Which). MapRun written writes left reads v i j k l status) (named e) h) above
     line_too_long (line.Sample seed items) status h e above = let no : ⊥ = cc in absurd no
     line_too_long (line.Check w) status h e above =
         check_too_long status (subst (λ (v : Which). CheckRun left reads v i j status) (named e) h.0) above
@@ -234,6 +299,8 @@ module _ {K I : Type 0} (written : K → Option (List ℕ)) (writes : K → ℕ)
       let never : ⊥ = subst (λ (s : Status). FormatRun written writes left reads which i j k l s) e h in absurd never
   line_usage (line.Check which) status h e =
       let never : ⊥ = subst (λ (s : Status). CheckRun left reads which i j s) e h.0 in absurd never
+  line_usage (line.Map which) status h e =
+      let never : ⊥ = subst (λ (s : Status). MapRun written writes left reads which i j k l s) e h in absurd never
   line_usage (line.Sample seed items) status h e =
       let never : ⊥ =
       subst (λ (s : Status). SampleRun written writes items (sample_text seed items) k l s) e h.1 in absurd never
@@ -245,6 +312,10 @@ module _ {K I : Type 0} (written : K → Option (List ℕ)) (writes : K → ℕ)
   pub line_format : (name : Line) (status : Status) → LineRun written writes left reads name i j k l status → (which : Which)
       → name ≡ line.Format which → FormatRun written writes left reads which i j k l status
   line_format name status h which e = subst (λ (n : Line). LineRun written writes left reads n i j k l status) e h
+
+  pub line_map : (name : Line) (status : Status) → LineRun written writes left reads name i j k l status → (which : Which)
+      → name ≡ line.Map which → MapRun written writes left reads which i j k l status
+  line_map name status h which e = subst (λ (n : Line). LineRun written writes left reads n i j k l status) e h
 
   pub line_check : (name : Line) (status : Status) → LineRun written writes left reads name i j k l status → (which : Which)
       → name ≡ line.Check which → CheckRun left reads which i j status × (l ≡ k)

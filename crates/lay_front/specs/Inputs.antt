@@ -19,6 +19,7 @@ abbrev pub input_of : Line → Option Which
 input_of line.Usage = None
 input_of (line.Format which) = Some which
 input_of (line.Check which) = Some which
+input_of (line.Map which) = Some which
 input_of (line.Sample seed items) = None
 
 -- Of the named input an end is left, and of each other what was left.
@@ -31,6 +32,7 @@ abbrev pub given_to : Line → (Which → Option (List ℕ)) → Option (List �
 given_to line.Usage left = None
 given_to (line.Format which) left = left which
 given_to (line.Check which) left = left which
+given_to (line.Map which) left = left which
 given_to (line.Sample seed items) left = Some (sample_text seed items)
 
 -- The bytes of an input and the file that they read to, or why there is none: a case for each answer. The input goes

@@ -29,7 +29,7 @@ refusal_line refusal place = decimal place.line ++ codes ":" ++ (decimal place.c
 abbrev pub message : List ℕ → Status → List ℕ
 message bytes Done = []
 message bytes Differs = codes "differs\n"
-message bytes Usage = codes "usage: lay_fmt [--check] [FILE] or lay_fmt --sample SEED --items N\n"
+message bytes Usage = codes "usage: lay_fmt [--check | --map] [FILE] or lay_fmt --sample SEED --items N\n"
 message bytes ReadFailed = codes "read failed\n"
 message bytes (Refused refusal) = refusal_line refusal (place_in bytes refusal)
 message bytes WriteFailed = codes "write failed\n"

@@ -10,6 +10,7 @@ use Rattle.lay_text.specs.declared.refusal.FormatError.TheVariants as error
 use Rattle.lay_sample.specs.Sample.{sample_text}
 use Rattle.lay_code.specs.Reading.{IsRefused}
 use Rattle.lay_files.specs.Readings.{ReadsOnlyTo}
+use Rattle.lay_mapping.specs.Maps.{WroteMap, WroteMapPart}
 use Rattle.lay_front.specs.Summary.{summary}
 use Rattle.lay_code.specs.Out.{out}
 use Rattle.lay_code.specs.declared.file.File.{File}
@@ -76,6 +77,30 @@ module _ {K : Type 0} (written : K → Option (List ℕ)) (writes : K → ℕ) w
     FormatRun which i j k l WriteFailed = Rose (writes k) (writes l) × WasRead (left i which) (left j which) (λ bytes. WrotePart bytes (written k) (written l))
     FormatRun which i j k l NoMemory = WroteNoMore k l (WasRead (left i which) (left j which) (λ bytes. WrotePart bytes (written k) (written l)))
 
+-- The bytes read to one file, and the map of it was written.
+pub record Mapped (bytes : List ℕ) (before now : Option (List ℕ)) : Type 0 where
+  pub file : File
+  pub reads : ReadsOnlyTo bytes file
+  pub wrote : WroteMap bytes file before now
+
+-- The bytes read to one file, and a prefix of the map of it was written.
+pub record MappedInPart (bytes : List ℕ) (before now : Option (List ℕ)) : Type 0 where
+  pub file : File
+  pub reads : ReadsOnlyTo bytes file
+  pub wrote : WroteMapPart bytes file before now
+
+module _ {K I : Type 0} (written : K → Option (List ℕ)) (writes : K → ℕ) (left : I → Which → Option (List ℕ)) (reads : I → ℕ) where
+  -- A run that maps an input: a case for each status. The inputs go from i to j, the sink from k to l.
+  abbrev pub MapRun : Which → I → I → K → K → Status → Type 0
+  MapRun which i j k l Done = WasRead (left i which) (left j which) (λ bytes. Mapped bytes (written k) (written l))
+  MapRun which i j k l Differs = ⊥
+  MapRun which i j k l Usage = ⊥
+  MapRun which i j k l ReadFailed = Rose (reads i) (reads j) × (l ≡ k)
+  MapRun which i j k l TooLong = IfSome (left i which) (λ all. 16777216 < length all) × (l ≡ k)
+  MapRun which i j k l (Refused refusal) = WasRead (left i which) (left j which) (λ bytes. IsRefused bytes refusal) × (l ≡ k)
+  MapRun which i j k l WriteFailed = Rose (writes k) (writes l) × WasRead (left i which) (left j which) (λ bytes. MappedInPart bytes (written k) (written l))
+  MapRun which i j k l NoMemory = WroteNoMore k l (WasRead (left i which) (left j which) (λ bytes. MappedInPart bytes (written k) (written l)))
+
 -- The bytes read to one file, and are its text.
 pub record IsItsText (bytes : List ℕ) : Type 0 where
   pub file : File
@@ -132,4 +157,5 @@ module _ {K I : Type 0} (written : K → Option (List ℕ)) (writes : K → ℕ)
   LineRun line.Usage i j k l status = (j ≡ i) × (l ≡ k) × ((status ≡ Usage) ⊎ (status ≡ NoMemory))
   LineRun (line.Format which) i j k l status = FormatRun written writes left reads which i j k l status
   LineRun (line.Check which) i j k l status = CheckRun left reads which i j status × (l ≡ k)
+  LineRun (line.Map which) i j k l status = MapRun written writes left reads which i j k l status
   LineRun (line.Sample seed items) i j k l status = (j ≡ i) × SampleRun written writes items (sample_text seed items) k l status

@@ -10,9 +10,10 @@ ghost use Rattle.lay_code.specs.Out.{out as text_of_file};
 ghost use Rattle.lay_code.specs.Reading.{IsRefused, Reads};
 ghost use Rattle.lay_front.specs.Inputs.{InputAs, IsPlaced, TookFrom, given_to, input_of};
 ghost use Rattle.lay_front.specs.Messages.{Says};
-ghost use Rattle.lay_front.specs.Outcome.{CheckRun, FormatRun, LineRun, SampleRun};
+ghost use Rattle.lay_front.specs.Outcome.{CheckRun, FormatRun, LineRun, MapRun, SampleRun};
 ghost use Rattle.lay_front.specs.Stops.{status_of};
 ghost use Rattle.lay_front.specs.Summary.{summary};
+ghost use Rattle.lay_mapping.specs.Maps.{IsMap};
 ghost use Rattle.lay_sample.specs.Sample.{sample_text};
 ghost use Rattle.lay_code.specs.declared.file.File.{File};
 
@@ -24,6 +25,7 @@ use lay_code::File;
 use lay_files::{FileError, read_bytes, write_file};
 use lay_io::{Inputs, ReadError, Sink, Which, read_all};
 use lay_line::{Line, line};
+use lay_mapping::write_map;
 use lay_printer::PrintError;
 use lay_token::{List, NoMemory, Refusal, Text};
 use std::alloc::Global;
@@ -32,7 +34,8 @@ use std::mem::forget;
 /// How a run comes out.
 #[derive(Clone, Copy, Debug, PartialEq, Eq)]
 pub enum Status {
-    /// The text was written whole; or the input was checked, and is its text; or the sample was summed up.
+    /// The text was written whole; or the input was checked, and is its text; or its map was written whole; or the sample was summed
+    /// up.
     Done,
     /// The input was checked, and isn't its text. Nothing was written.
     Differs,
@@ -42,20 +45,21 @@ pub enum Status {
     ReadFailed,
     /// The input reads to no file. Nothing was written.
     Refused(Refusal),
-    /// A write failed. A prefix of the text was written.
+    /// A write failed. A prefix of what is to be written was written.
     WriteFailed,
     /// The input holds more than 16 MiB. Nothing was written.
     TooLong,
-    /// Memory was not found. A prefix of the text was written.
+    /// Memory was not found. A prefix of what is to be written was written.
     NoMemory,
 }
 
 /// The greatest input of the command, in bytes.
 pub const LIMIT: usize = 16_777_216;
 
-/// Runs the command with its words, without the program's name: `[FILE]` writes the text of an input to `out`, and
-/// `--check [FILE]` tells whether the input is its text, and `--sample SEED --items N` makes a sample, formats it, and
-/// writes one line that sums it up. Every other outcome is told in one line on `err`.
+/// Runs the command with its words, without the program's name: `[FILE]` writes the text of an input to `out`,
+/// `--check [FILE]` tells whether the input is its text, `--map [FILE]` writes where what the input says stands in its text, and
+/// `--sample SEED --items N` makes a sample, formats it, and writes one line that sums it up. Every other outcome is told in one
+/// line on `err`.
 ///
 /// The program is to end behind its run: what an input was read to isn't taken apart, and its memory not given back.
 pub fn run<I: Inputs, K: Sink, E: Sink>(
@@ -94,6 +98,10 @@ pub fn run<I: Inputs, K: Sink, E: Sink>(
         → CheckRun I.left I.faults which inputs.old inputs.new result }
     ensures unwritten { (which : Which) → line_of words.now ≡ line.Check which → out.new ≡ out.old }
 
+    // The same where an input is mapped.
+    ensures map { (which : Which) → line_of words.now ≡ line.Map which
+        → MapRun K.written K.faults I.left I.faults which inputs.old inputs.new out.old out.new result }
+
     // The same where a sample is summed up. No input is touched.
     ensures sample { (seed items : ℕ) → line_of words.now ≡ line.Sample seed items
         → (inputs.new ≡ inputs.old) × SampleRun K.written K.faults items (sample_text seed items) out.old out.new result }
@@ -118,6 +126,10 @@ pub fn run<I: Inputs, K: Sink, E: Sink>(
         → ¬ (Rose (I.faults inputs.old) (I.faults inputs.new))
         → I.left inputs.old which ≡ Some bytes → length bytes ≤ 16777216 → Reads bytes file → bytes ≢ text_of_file file
         → (result ≡ Status.Differs) ⊎ (result ≡ Status.NoMemory) }
+    ensures complete_map { (which : Which) (bytes lines : Items ℕ) (file : File) → line_of words.now ≡ line.Map which
+        → ¬ (Rose (I.faults inputs.old) (I.faults inputs.new)) → ¬ (Rose (K.faults out.old) (K.faults out.new))
+        → I.left inputs.old which ≡ Some bytes → length bytes ≤ 16777216 → IsMap bytes file lines
+        → ((result ≡ Status.Done) × GrewBy (K.written out.old) (K.written out.new) lines) ⊎ (result ≡ Status.NoMemory) }
     ensures complete_refused { (which : Which) (bytes : Items ℕ) (refusal : Refusal)
         → input_of (line_of words.now) ≡ Some which
         → ¬ (Rose (I.faults inputs.old) (I.faults inputs.new))
@@ -184,6 +196,7 @@ fn execute<I: Inputs, K: Sink>(
         Ok(Line::Usage) => Err(Stop::Usage),
         Ok(Line::Format(which)) => format_input(alloc, which, inputs, out),
         Ok(Line::Check(which)) => check_input(alloc, which, inputs),
+        Ok(Line::Map(which)) => map_input(alloc, which, inputs, out),
         Ok(Line::Sample { seed, items }) => sum_up_sample(alloc, seed, items, out),
         Err(NoMemory) => Err(Stop::NoMemory),
     }
@@ -239,6 +252,36 @@ fn check_input<I: Inputs>(alloc: Global, which: Which, inputs: &mut I) -> Result
         Ok(true) => Ok(()),
         Ok(false) => Err(Stop::Differs),
         Err(NoMemory) => Err(Stop::NoMemory),
+    }
+}
+
+/// Writes where what an input says stands in its text.
+fn map_input<I: Inputs, K: Sink>(
+    alloc: Global,
+    which: Which,
+    inputs: &mut I,
+    out: &mut K,
+) -> Result<(), Stop>
+    requires { I.chosen inputs.old ≡ None }
+    ensures chosen { I.chosen inputs.new ≡ Some which }
+    ensures took { TookFrom (Some which) (I.left inputs.old) (I.left inputs.new) }
+    ensures run { MapRun K.written K.faults I.left I.faults which
+        inputs.old inputs.new out.old out.new (status_of result) }
+    ensures placed { IsPlaced (I.left inputs.old which) result }
+    ensures later { (I.faults inputs.old ≤ I.faults inputs.new) × (K.faults out.old ≤ K.faults out.new) }
+    ensures loan { SameLoan (K.loan out.old) (K.loan out.new) }
+{
+    let given = match read_input(alloc, which, inputs) {
+        Ok(given) => given,
+        Err(stop) => return Err(stop),
+    };
+    let written = write_map(alloc, given.0.as_slice(), &given.1, out);
+    // The program ends behind its run, so the tree isn't taken apart.
+    forget(given);
+    match written {
+        Ok(()) => Ok(()),
+        Err(PrintError::WriteFailed) => Err(Stop::WriteFailed),
+        Err(PrintError::NoMemory) => Err(Stop::NoMemory),
     }
 }
 

@@ -45,7 +45,9 @@ fn write_line<E: Sink>(stop: Stop, err: &mut E) -> Result<(), Failed>
 {
     match stop {
         Stop::Usage => {
-            err.write(b"usage: lay_fmt [--check] [FILE] or lay_fmt --sample SEED --items N\n")
+            err.write(
+                b"usage: lay_fmt [--check | --map] [FILE] or lay_fmt --sample SEED --items N\n",
+            )
         }
         Stop::ReadFailed => err.write(b"read failed\n"),
         Stop::TooLong => err.write(b"input is longer than 16777216 bytes\n"),

@@ -5,9 +5,17 @@ use Rattle.clap.specs.Simple.{on_top}
 use Rattle.clap.specs.declared.builder.action.ArgAction.TheVariants.{Set, SetTrue}
 use Rattle.clap.specs.declared.parser.matches.ArgMatches.{ArgMatches}
 
--- the flag `--check`
+-- a flag of this long name
+abbrev pub flag_rule : List ℕ → Rule
+flag_rule name = record (new_rule name) { long = Some name; action = Some SetTrue }
+
+-- `--check`
 abbrev pub check_rule : Rule
-check_rule = record (new_rule (codes "check")) { long = Some (codes "check"); action = Some SetTrue }
+check_rule = flag_rule (codes "check")
+
+-- `--map`
+abbrev pub map_rule : Rule
+map_rule = flag_rule (codes "map")
 
 -- an option of this long name, which takes one value
 abbrev pub option_rule : List ℕ → Rule
@@ -29,9 +37,9 @@ file_rule = new_rule (codes "file")
 abbrev pub bare : App
 bare = on_top (λ top. record top { no_binary_name = true }) (new_app (codes "lay_fmt"))
 
--- `[--check] [--sample SEED] [--items N] [FILE]`, and the help that `clap` adds
+-- `[--check] [--map] [--sample SEED] [--items N] [FILE]`, and the help that `clap` adds
 abbrev pub command : App
-command = with_rule (with_rule (with_rule (with_rule bare check_rule) sample_rule) items_rule) file_rule
+command = with_rule (with_rule (with_rule (with_rule (with_rule bare check_rule) map_rule) sample_rule) items_rule) file_rule
 
 -- The matches are those of the words, or none where there is a fault in the words.
 abbrev pub Matched : List (List ℕ) → Option ArgMatches → Type 0

@@ -10,7 +10,7 @@ use Rattle.lay_io.specs.declared.outside.Which.TheVariants.{Stdin, File}
 use Rattle.lay_line.specs.Command.{command}
 use Rattle.lay_line.specs.Number.{item_count_of, most_items, seed_of}
 use Rattle.lay_line.specs.declared.lines.Line.{Line}
-use Rattle.lay_line.specs.declared.lines.Line.TheVariants.{Usage, Format, Check, Sample}
+use Rattle.lay_line.specs.declared.lines.Line.TheVariants.{Usage, Format, Check, Map, Sample}
 
 -- a flag is set where its value is `true`, which `clap` gives it where it stands in the words
 abbrev pub is_set : Option (List ℕ) → Bool
@@ -26,17 +26,19 @@ abbrev pub sample_for : Option ℕ → Option ℕ → Line
 sample_for (Some seed) (Some items) = Sample seed items
 sample_for _ _ = Usage
 
--- What the flag `--check`, the texts of `--sample` and `--items`, and FILE say. Without the options an input is
--- checked where the flag is set, and else formatted. The options stand together, and without the flag and FILE.
-abbrev pub line_for : Bool → Option (List ℕ) → Option (List ℕ) → Option (List ℕ) → Line
-line_for true None None file = Check (input_of file)
-line_for false None None file = Format (input_of file)
-line_for false (Some sample) (Some items) None = sample_for (seed_of sample) (item_count_of items)
-line_for _ _ _ _ = Usage
+-- What the flags `--check` and `--map`, the texts of `--sample` and `--items`, and FILE say. Without the options an input is
+-- checked or mapped where the flag of it is set, and formatted where none is. The flags don't stand together. The options do, and
+-- without a flag and FILE.
+abbrev pub line_for : (check map : Bool) (sample items file : Option (List ℕ)) → Line
+line_for false false None None file = Format (input_of file)
+line_for true false None None file = Check (input_of file)
+line_for false true None None file = Map (input_of file)
+line_for false false (Some sample) (Some items) None = sample_for (seed_of sample) (item_count_of items)
+line_for _ _ _ _ _ = Usage
 
--- what the matches of the flag, the options and FILE say
+-- what the matches of the flags, the options and FILE say
 abbrev pub line_of_matches : List Row → Line
-line_of_matches matches = line_for (is_set (first_of (codes "check") matches))
+line_of_matches matches = line_for (is_set (first_of (codes "check") matches)) (is_set (first_of (codes "map") matches))
     (first_of (codes "sample") matches) (first_of (codes "items") matches) (first_of (codes "file") matches)
 
 -- the words are texts, and `clap` finds no fault in them

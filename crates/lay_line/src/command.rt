@@ -1,7 +1,7 @@
 //! The command, as `clap` reads it.
 ghost use Rattle.std.specs.Prelude.{◌≡◌, IfOk, false, map};
 ghost use Rattle.clap.specs.Words.{app_of, rule_of};
-ghost use Rattle.lay_line.specs.Command.{Matched, command as the_command, option_rule};
+ghost use Rattle.lay_line.specs.Command.{Matched, command as the_command, flag_rule, option_rule};
 
 use clap::error::ErrorKind;
 use clap::{Arg, ArgAction, ArgMatches, Command};
@@ -23,19 +23,30 @@ pub fn matches<'a>(alloc: Global, words: &'a [&'a str]) -> Result<Option<ArgMatc
     }
 }
 
-/// The flag `--check`, the options `--sample` and `--items` and one optional file, of words that don't begin with the
-/// program's name.
+/// The flags `--check` and `--map`, the options `--sample` and `--items` and one optional file, of words that don't begin
+/// with the program's name.
 fn command<'a>(alloc: Global) -> Result<Command<'a>, AllocError>
     ensures { IfOk result (λ command. app_of command ≡ the_command) }
 {
-    let check = Arg::new(alloc, "check")
-        .long("check")
-        .action(ArgAction::SetTrue);
+    let check = flag(alloc, "check");
+    let map = flag(alloc, "map");
     let sample = option(alloc, "sample");
     let items = option(alloc, "items");
     let file = Arg::new(alloc, "file");
     let bare = Command::new(alloc, "lay_fmt").no_binary_name(true);
-    bare.arg(check)?.arg(sample)?.arg(items)?.arg(file)
+    bare.arg(check)?
+        .arg(map)?
+        .arg(sample)?
+        .arg(items)?
+        .arg(file)
+}
+
+/// A flag of this long name.
+fn flag<'a>(alloc: Global, name: &'a str) -> Arg<'a>
+    ensures rule { rule_of result ≡ flag_rule name.entry.now }
+    ensures local { result.global ≡ false }
+{
+    Arg::new(alloc, name).long(name).action(ArgAction::SetTrue)
 }
 
 /// An option of this long name, which takes one value.

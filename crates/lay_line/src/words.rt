@@ -14,8 +14,9 @@ use lay_text::{NoMemory, Text};
 use std::alloc::Global;
 
 /// The line that the words make, which stand without the program's name. A word that isn't UTF-8 makes it `Usage`,
-/// and which other words are a line is `clap`'s definition for a command with the flag `--check`, the options
-/// `--sample` and `--items` and one optional file, of which the options stand together and with nothing else.
+/// and which other words are a line is `clap`'s definition for a command with the flags `--check` and `--map`, the
+/// options `--sample` and `--items` and one optional file, of which the flags don't stand together, and the options stand together
+/// and with nothing else.
 pub fn line(alloc: Global, words: &[Text]) -> Result<Line, NoMemory>
     ensures asked { IfOk result (λ line. line ≡ line_of words.now) }
     ensures few { IfOk result IsBounded }
@@ -33,27 +34,30 @@ pub fn line(alloc: Global, words: &[Text]) -> Result<Line, NoMemory>
 fn from_matches(alloc: Global, matches: &ArgMatches<'_>) -> Result<Line, NoMemory>
     ensures { IfOk result (λ line. line ≡ line_of_matches (rows_of (found_of matches.now))) }
 {
-    let check = flag(matches.get_str("check"));
+    let check = is_set(matches.get_str("check"));
+    let map = is_set(matches.get_str("map"));
     let sample = matches.get_str("sample");
     let items = matches.get_str("items");
-    from_values(alloc, check, sample, items, matches.get_str("file"))
+    from_values(alloc, check, map, sample, items, matches.get_str("file"))
 }
 
-/// The line that the flag `--check`, the texts of `--sample` and `--items`, and FILE say.
+/// The line that the flags `--check` and `--map`, the texts of `--sample` and `--items`, and FILE say.
 fn from_values(
     alloc: Global,
     check: bool,
+    map: bool,
     sample: Option<&str>,
     items: Option<&str>,
     file: Option<&str>,
 ) -> Result<Line, NoMemory>
-    ensures { IfOk result (λ line. line ≡ line_for check (option_map (λ text. text.now) sample.entry)
+    ensures { IfOk result (λ line. line ≡ line_for check map (option_map (λ text. text.now) sample.entry)
         (option_map (λ text. text.now) items.entry) (option_map (λ name. name.now) file.entry)) }
 {
-    match (check, sample, items, file) {
-        (true, None, None, file) => Ok(Line::Check(input(alloc, file)?)),
-        (false, None, None, file) => Ok(Line::Format(input(alloc, file)?)),
-        (false, Some(sample), Some(items), None) => Ok(from_texts(sample, items)),
+    match (check, map, sample, items, file) {
+        (false, false, None, None, file) => Ok(Line::Format(input(alloc, file)?)),
+        (true, false, None, None, file) => Ok(Line::Check(input(alloc, file)?)),
+        (false, true, None, None, file) => Ok(Line::Map(input(alloc, file)?)),
+        (false, false, Some(sample), Some(items), None) => Ok(from_texts(sample, items)),
         _ => Ok(Line::Usage),
     }
 }
@@ -79,7 +83,7 @@ fn input(alloc: Global, file: Option<&str>) -> Result<Which, NoMemory>
 }
 
 /// Whether a flag stands in the words: `clap` gives it the value `true` where it does.
-fn flag(value: Option<&str>) -> bool
+fn is_set(value: Option<&str>) -> bool
     ensures { result ≡ is_set (option_map (λ text. text.now) value.entry) }
 {
     match value {

@@ -1,18 +1,17 @@
 -- Rules for what stands in braces, and for lines.
-use Rattle.std.proofs.Common.{◌≡◌, ℕ, Bool, true, false, cond, not, ◌&&◌, ◌||◌, List, [], ◌∷◌, ◌++◌, codes, refl, sym, ap, ◌∙◌, subst}
+use Rattle.std.proofs.Common.{◌≡◌, ℕ, suc, Bool, true, false, ◌&&◌, List, [], ◌∷◌, ◌++◌, codes, refl, ap, ◌∙◌}
 use Rattle.std.specs.Prelude.{⊤}
 use Rattle.std.proofs.lemmas.Bool.{and_parts, and_from}
 use Rattle.lay_piece.specs.declared.kind.Delim.TheVariants.{Brace}
 use Rattle.lay_piece.specs.declared.kind.Kind.TheVariants.{Punct}
-use Rattle.lay_layout.specs.declared.layout.Break.{Break}
-use Rattle.lay_form.specs.Form.{Bit, Blank, Semicolons, Space, Soft, Hard, Never, Form, Done, Piece, Brk, LastComma, Group, Part, Optional, opener, closer, comma}
+use Rattle.lay_form.specs.Form.{Bit, Blank, Semicolons, Space, Soft, Hard, Never, Form, Done, Piece, Brk, Group, Part, Optional, opener, closer, comma}
 use Rattle.lay_form.specs.Layout.{break_of}
-use Rattle.lay_form.specs.Notation.{B, H, N, Z, B-, H-, C4, each, comma_gap, last_break, comma_list, body, with_commas, fields, braces, soft, piece, behind_attrs, lines}
+use Rattle.lay_form.specs.Notation.{B, H, N, H-, C4, each, comma_gap, last_break, comma_list, body, with_commas, fields, braces, soft, piece}
 use Rattle.lay_form.specs.Pieces.{are_pieces}
 use Rattle.lay_units.specs.Choice.{calm, clear, firm, passes}
 use Rattle.lay_units.specs.Units.{Word, bits_words, words}
 use Rattle.lay_map.specs.Flow.{Wait, Still, Said, Laid, InLine, Flow, At, break_flow, flow, group_flow, left}
-use Rattle.lay_map.proofs.Rules.{All, Any, Firm, NoComma, NoSemicolon, Plain, Tells, brk, ends, firm_brk, firm_calm, firm_first, firm_group, firm_part, fixed, gaps, group, group_to, last, part}
+use Rattle.lay_map.proofs.Rules.{All, Closing, Firm, Levels, NoComma, NoSemicolon, Plain, Tells, brk, ends, firm_brk, firm_calm, firm_first, firm_group, firm_part, gaps, group, group_to, last, levels_two, no_levels, part, shut}
 
 -- The form begins with a token that is in a unit.
 pub record Calms (f : Form) : Type 0 where
@@ -44,49 +43,53 @@ skip_bits true = Semicolons ∷ []
 skip_bits false = []
 
 -- An opening brace, with a blank before it or without, and before what may be dropped or not.
-pub opened : {Next : List Word → Type 0} {f : Form} (lead skip : Bool) → Calms f
-    → (skip ≡ true → are_pieces f ≡ true → (ws : List Word) → NoSemicolon (words f ++ ws)) → Tells Next f
-    → Tells Next (Piece (lead_bits lead ++ (opener Brace ∷ skip_bits skip)) f)
-opened {Next} {f} true true c k t = record {
+pub opened : {Next : List Word → Type 0} {n : ℕ} {f : Form} (lead skip : Bool) → Calms f
+    → (skip ≡ true → are_pieces f ≡ true → (ws : List Word) → NoSemicolon (words f ++ ws)) → Closing Next (suc n) f
+    → Closing Next n (Piece (lead_bits lead ++ (opener Brace ∷ skip_bits skip)) f)
+opened {Next} {n} {f} true true c k t = record {
   go = λ w.
       let u = t.go w in
       record {
         flows = λ a. u.flows a;
-        clears = λ ws b n.
+        clears = λ ws b m.
             and_from (calm f b && (passes (words f ++ ws) Punct (codes ";") && true)) (clear f ws b)
             (and_from (calm f b) (passes (words f ++ ws) Punct (codes ";") && true) (c.go w b) (and_from (passes (words f ++ ws) Punct (codes ";")) true (k refl w ws) refl))
-            (u.clears ws b n);
+            (u.clears ws b m);
+        levels = λ x. let l = u.levels x in record { shut_is = l.shut_is; leaves = l.leaves };
       };
 }
-opened {Next} {f} false true c k t = record {
+opened {Next} {n} {f} false true c k t = record {
   go = λ w.
       let u = t.go w in
       record {
         flows = λ a. u.flows a;
-        clears = λ ws b n.
+        clears = λ ws b m.
             and_from (calm f b && (passes (words f ++ ws) Punct (codes ";") && true)) (clear f ws b)
             (and_from (calm f b) (passes (words f ++ ws) Punct (codes ";") && true) (c.go w b) (and_from (passes (words f ++ ws) Punct (codes ";")) true (k refl w ws) refl))
-            (u.clears ws b n);
+            (u.clears ws b m);
+        levels = λ x. let l = u.levels x in record { shut_is = l.shut_is; leaves = l.leaves };
       };
 }
-opened {Next} {f} true false c k t = record {
+opened {Next} {n} {f} true false c k t = record {
   go = λ w.
       let u = t.go w in
       record {
         flows = λ a. u.flows a;
-        clears = λ ws b n. and_from (calm f b && true) (clear f ws b) (and_from (calm f b) true (c.go w b) refl) (u.clears ws b n);
+        clears = λ ws b m. and_from (calm f b && true) (clear f ws b) (and_from (calm f b) true (c.go w b) refl) (u.clears ws b m);
+        levels = λ x. let l = u.levels x in record { shut_is = l.shut_is; leaves = l.leaves };
       };
 }
-opened {Next} {f} false false c k t = record {
+opened {Next} {n} {f} false false c k t = record {
   go = λ w.
       let u = t.go w in
       record {
         flows = λ a. u.flows a;
-        clears = λ ws b n. and_from (calm f b && true) (clear f ws b) (and_from (calm f b) true (c.go w b) refl) (u.clears ws b n);
+        clears = λ ws b m. and_from (calm f b && true) (clear f ws b) (and_from (calm f b) true (c.go w b) refl) (u.clears ws b m);
+        levels = λ x. let l = u.levels x in record { shut_is = l.shut_is; leaves = l.leaves };
       };
 }
 
-no_skip : {P : Type 0} → false ≡ true → P
+pub no_skip : {P : Type 0} → false ≡ true → P
 no_skip e = absurd (cc e)
 
 -- ---- lines
@@ -105,6 +108,7 @@ pub record Rest (a : Bool) (s : Flow) : Type 0 where
 pub record Lining (f : Form) : Type 0 where
   pub flows : (a : Bool) → Rest a (flow (At Still a) f)
   pub clears : (ws : List Word) (b : Bool) → clear f ws b ≡ true
+  pub levels : (stack : List Bool) → Levels (words f) stack stack
 
 -- The form stands on lines of its own.
 pub record Lined (f : Form) : Type 0 where
@@ -117,6 +121,7 @@ lined {f} t = record {
       record {
         flows = λ a. record { wait = Still; is = u.flows a; rests = refl };
         clears = λ ws b. u.clears ws b tt;
+        levels = u.levels;
       };
 }
 
@@ -130,52 +135,27 @@ line_rest back a s r = by r.wait r.rests r.is
     by Said h e = absurd (cc h)
     by Laid h e = absurd (cc h)
 
--- parts, each on a line of its own, behind a newline each
-rows_flow : (es : List Form) → All Lined es → are_pieces (each H es) ≡ true → (a : Bool) (s : Flow) → Rest a s → Rest a (flow s (each H es))
-rows_flow [] t w a s r = r
-rows_flow (e ∷ es) t w a s r =
-    let p = and_parts (are_pieces e) (are_pieces (each H es)) w in
-    let u = (t.0.go p.0).flows a in
-    subst (λ (x : Flow). Rest a (flow (flow x e) (each H es))) (sym (line_rest false a s r))
-    (rows_flow es t.1 p.1 a (flow (At Still a) e) u)
-
-rows_clear : (es : List Form) → All Lined es → are_pieces (each H es) ≡ true → (ws : List Word) (b : Bool) → clear (each H es) ws b ≡ true
-rows_clear [] t w ws b = refl
-rows_clear (e ∷ es) t w ws b =
-    let p = and_parts (are_pieces e) (are_pieces (each H es)) w in
-    and_from (clear e (words (each H es) ++ ws) (calm (each H es) b)) (clear (each H es) ws b)
-    ((t.0.go p.0).clears (words (each H es) ++ ws) (calm (each H es) b)) (rows_clear es t.1 p.1 ws b)
-
 -- ---- bodies
 
 -- what stands within the braces of a body
-abbrev inside : List Form → Form
+abbrev pub inside : List Form → Form
 inside es = N (C4 (Part (each H es) (H- Done)) (piece (closer Brace ∷ [])))
 
-inside_pieces : (es : List Form) → are_pieces (inside es) ≡ true → are_pieces (each H es) ≡ true
+pub inside_pieces : (es : List Form) → are_pieces (inside es) ≡ true → are_pieces (each H es) ≡ true
 inside_pieces es w = (and_parts (are_pieces (each H es)) true (and_parts (are_pieces (each H es) && true) true w).0).0
 
-inside_tells : {Next : List Word → Type 0} (es : List Form) → All Lined es → Tells Next (inside es)
-inside_tells es t = record {
-  go = λ w.
-      let p = inside_pieces es w in
-      record {
-        flows = λ a.
-            let r = rows_flow es t p false (At Still false) (record { wait = Still; is = refl; rests = refl }) in
-            ap (λ (s : Flow). flow (left (At Still a) (group_flow s)) (piece (closer Brace ∷ []))) (line_rest true false (flow (At Still false) (each H es)) r);
-        clears = λ ws b n.
-            let rest = bits_words (closer Brace ∷ []) ++ ws in
-            and_from (clear (Part (each H es) (H- Done)) rest true) true
-            (and_from (clear (each H es) rest true) true (rows_clear es t p rest true) refl) refl;
-      };
-}
+-- the words of what stands within, where their braces are pairs, and the closing brace
+pub inside_level : (es : List Form) (x : List Bool) → Levels (words (each H es)) (true ∷ x) (true ∷ x) → Levels (words (inside es)) (true ∷ x) x
+inside_level es x l =
+    levels_two (words (Part (each H es) (H- Done))) (words (piece (closer Brace ∷ [])))
+    (levels_two (words (each H es)) [] l (no_levels (true ∷ x))) (record { shut_is = refl; leaves = refl })
 
-inside_calm : (e : Form) (es : List Form) → Calms e → Calms (inside (e ∷ es))
+pub inside_calm : (e : Form) (es : List Form) → Calms e → Calms (inside (e ∷ es))
 inside_calm e es c = record {
   go = λ w b. c.go (and_parts (are_pieces e) (are_pieces (each H es)) (inside_pieces (e ∷ es) w)).0 (calm (each H es) true);
 }
 
-inside_firm : (e : Form) (es : List Form) → Firm e → are_pieces (inside (e ∷ es)) ≡ true → (ws : List Word) → NoSemicolon (words (inside (e ∷ es)) ++ ws)
+pub inside_firm : (e : Form) (es : List Form) → Firm e → are_pieces (inside (e ∷ es)) ≡ true → (ws : List Word) → NoSemicolon (words (inside (e ∷ es)) ++ ws)
 inside_firm e es c w ws =
     firm_first (inside (e ∷ es)) false ws (λ g. absurd (cc g))
     (c.go (and_parts (are_pieces e) (are_pieces (each H es)) (inside_pieces (e ∷ es) w)).0 (firm (each H es) (firm (H- Done) true)))
@@ -184,23 +164,19 @@ abbrev pub First : (Form → Type 0) → List Form → Type 0
 First P [] = ⊤
 First P (e ∷ es) = P e
 
-empty_body : {Next : List Word → Type 0} (lead skip : Bool) → Tells Next (body (lead_bits lead) (skip_bits skip) [])
-empty_body true true = record { go = λ w. record { flows = λ a. refl; clears = λ ws b n. refl } }
-empty_body true false = record { go = λ w. record { flows = λ a. refl; clears = λ ws b n. refl } }
-empty_body false true = record { go = λ w. record { flows = λ a. refl; clears = λ ws b n. refl } }
-empty_body false false = record { go = λ w. record { flows = λ a. refl; clears = λ ws b n. refl } }
+pub first_of : (P : Form → Type 0) (es : List Form) → All P es → First P es
+first_of P [] t = tt
+first_of P (e ∷ es) t = t.0
 
--- a body whose first part is firm
-pub firm_body : {Next : List Word → Type 0} (lead skip : Bool) (es : List Form) → All Lined es → First Firm es
-    → Tells Next (body (lead_bits lead) (skip_bits skip) es)
-firm_body lead skip [] t c = empty_body lead skip
-firm_body lead skip (e ∷ es) t c =
-    opened lead skip (inside_calm e es (firm_calms c)) (λ s w ws. inside_firm e es c w ws) (inside_tells (e ∷ es) t)
+pub calm_all : (es : List Form) → All Firm es → All Calms es
+calm_all [] c = tt
+calm_all (e ∷ es) c = (firm_calms c.0, calm_all es c.1)
 
--- a body in which nothing is dropped
-pub calm_body : {Next : List Word → Type 0} (lead : Bool) (es : List Form) → All Lined es → First Calms es → Tells Next (body (lead_bits lead) [] es)
-calm_body lead [] t c = empty_body lead false
-calm_body lead (e ∷ es) t c = opened lead false (inside_calm e es c) (λ s. no_skip s) (inside_tells (e ∷ es) t)
+pub empty_body : {Next : List Word → Type 0} (lead skip : Bool) → Tells Next (body (lead_bits lead) (skip_bits skip) [])
+empty_body true true = record { go = λ w. record { flows = λ a. refl; clears = λ ws b n. refl; levels = λ x. record { shut_is = refl; leaves = refl } } }
+empty_body true false = record { go = λ w. record { flows = λ a. refl; clears = λ ws b n. refl; levels = λ x. record { shut_is = refl; leaves = refl } } }
+empty_body false true = record { go = λ w. record { flows = λ a. refl; clears = λ ws b n. refl; levels = λ x. record { shut_is = refl; leaves = refl } } }
+empty_body false false = record { go = λ w. record { flows = λ a. refl; clears = λ ws b n. refl; levels = λ x. record { shut_is = refl; leaves = refl } } }
 
 -- A body begins with its brace, and is as firm as what stands within.
 pub body_firm : (skip : Bool) (es : List Form) → First Firm es → Firm (body [] (skip_bits skip) es)
@@ -251,7 +227,16 @@ fields_clear e (f ∷ es) t w ws b n =
     (and_from (clear e (bits_words comma ++ rest) true) true ((t.0.go p.0).clears (bits_words comma ++ rest) true tt) refl)
     (fields_clear f es t.1 p.1 ws b n)
 
-fields_tell : {Next : List Word → Type 0} (e : Form) (es : List Form) → All Plain (e ∷ es) → Tells Next (inside (with_commas (e ∷ es)))
+fields_level : (e : Form) (es : List Form) → All Plain (e ∷ es) → are_pieces (each H (with_commas (e ∷ es))) ≡ true → (x : List Bool)
+    → Levels (words (each H (with_commas (e ∷ es)))) x x
+fields_level e [] t w x =
+    levels_two (words (Part e (Optional true comma Done))) [] (levels_two (words e) [] ((t.0.go (fields_pieces e [] w).0).levels x) (no_levels x)) (no_levels x)
+fields_level e (f ∷ es) t w x =
+    let p = fields_pieces e (f ∷ es) w in
+    levels_two (words (Part e (piece comma))) (words (each H (with_commas (f ∷ es))))
+    (levels_two (words e) (words (piece comma)) ((t.0.go p.0).levels x) (record { shut_is = refl; leaves = refl })) (fields_level f es t.1 p.1 x)
+
+fields_tell : {Next : List Word → Type 0} (e : Form) (es : List Form) → All Plain (e ∷ es) → Closing Next 1 (inside (with_commas (e ∷ es)))
 fields_tell e es t = record {
   go = λ w.
       let p = inside_pieces (with_commas (e ∷ es)) w in
@@ -262,6 +247,7 @@ fields_tell e es t = record {
             let rest = bits_words (closer Brace ∷ []) ++ ws in
             and_from (clear (Part (each H (with_commas (e ∷ es))) (H- Done)) rest true) true
             (and_from (clear (each H (with_commas (e ∷ es))) rest true) true (fields_clear e es t p rest true refl) refl) refl;
+        levels = λ x. inside_level (with_commas (e ∷ es)) x (fields_level e es t p (true ∷ x));
       };
 }
 
@@ -286,7 +272,7 @@ pub braces_told : {Next : List Word → Type 0} (may : Bool) (es : List Form) �
 braces_told may [] t c = empty_body true false
 braces_told may (e ∷ es) t c =
     opened true false (calms_group true 4 (calms_brk (Soft false 1) (calms_part c))) (λ s. no_skip s)
-    (group_to true 4 (λ ws n. refl) (inner_braces may e es t) (fixed (closer Brace ∷ []) refl ends))
+    (group_to true 4 (λ ws n. refl) (inner_braces may e es t) (shut ends))
 
 -- a list in braces
 pub brace_list : {Next : List Word → Type 0} (may : Bool) (es : List Form) → All Plain es → First Calms es
@@ -294,11 +280,11 @@ pub brace_list : {Next : List Word → Type 0} (may : Bool) (es : List Form) →
 brace_list may [] t c = empty_body false false
 brace_list may (e ∷ es) t c =
     group true 4 (opened false false (calms_brk (Soft false 0) (calms_part c)) (λ s. no_skip s)
-    (brk (Soft false 0) (part t.0 (part (gaps es t.1) (last may 0 (λ ws n. refl) (fixed (closer Brace ∷ []) refl ends)))))) ends
+    (brk (Soft false 0) (part t.0 (part (gaps es t.1) (last may 0 (λ ws n. refl) (shut ends)))))) ends
 
 -- a block of one expression
 pub soft_told : {Next : List Word → Type 0} {e : Form} → Plain e → Firm e → Tells Next (soft e)
 soft_told {Next} {e} t c =
     let f = firm_brk Never (firm_group true 4 (firm_brk (Soft false 1) (firm_part c))) in
     opened true true (firm_calms f) (λ s w ws. no_semicolon f w ws)
-    (brk Never (group true 4 (brk (Soft false 1) (part t (brk (Soft true 1) ends))) (fixed (closer Brace ∷ []) refl ends)))
+    (brk Never (group true 4 (brk (Soft false 1) (part t (brk (Soft true 1) ends))) (shut ends)))

@@ -1,8 +1,8 @@
 -- What is fed of a form finds the units of its words, where its layout tells them.
-use Rattle.std.proofs.Common.{◌≡◌, ℕ, zero, suc, Bool, true, false, cond, not, ◌&&◌, ◌||◌, List, [], ◌∷◌, ◌++◌, codes, refl, sym, ap, ap₂, ◌∙◌, subst, append_assoc, append-nil, pos, Option, Some, None}
+use Rattle.std.proofs.Common.{◌≡◌, ℕ, Bool, true, false, cond, not, ◌&&◌, ◌||◌, List, [], ◌∷◌, ◌++◌, codes, refl, sym, ap, ap₂, ◌∙◌, subst, append_assoc, append-nil, pos, Option, Some, None}
 use Rattle.std.specs.Prelude.{◌==◌}
 use Rattle.std.specs.Str.{bytes_eq, is_utf8}
-use Rattle.std.proofs.lemmas.Bool.{and_parts, eqb-true}
+use Rattle.std.proofs.lemmas.Bool.{and_parts, eqb-true, not-true}
 use Rattle.lay_piece.specs.Characters as char
 use Rattle.lay_piece.specs.Chars.{begins}
 use Rattle.lay_piece.specs.Docs.{doc_form}
@@ -17,12 +17,12 @@ use Rattle.lay_token.proofs.Deciding.{punct_is, bytes_same}
 use Rattle.lay_form.specs.Form.{Bit, Blank, Fixed, Operator, Semicolons, Bare, Unseen, Marked, Behind, Nothing, ArmComma, Form, Done, Piece, Leaf, Listed, ListedDoc, Brk, LastComma, Group, Part, Deeper, Optional, Docs, Body}
 use Rattle.lay_form.specs.Layout.{text_of_bits, is_block, token_ends_in_point, bits_end_in_point, keeps_point, space_ends_in_point, point_behind, ends_behind_point, led, break_of, comma_break, opening_break, closing_break}
 use Rattle.lay_form.specs.Pieces.{is_text_of, are_pieces}
-use Rattle.lay_form.specs.Stream.{feed_text, feed_doc, feed_token, feed_behind, fed, stream_of}
+use Rattle.lay_form.specs.Stream.{feed_text, feed_doc, feed_token, feed_behind, fed}
 use Rattle.lay_units.specs.Units.{Word, Told, Comment, Documented, bits_words, words}
 use Rattle.lay_map.specs.Flow.{Wait, Still, Said, Laid, InLine, Flow, Lost, At, is_open, is_none, is_plain, is_proper, are_proper, are_comma, text_flow, words_flow, piece_flow, doc_flow, leaf_flow, comma_flow, optional_flow, behind_flow, break_flow, group_flow, entered, left, flow}
-use Rattle.lay_map.specs.Marking.{State, code_words, comma_settled, documented, fed_all, fed_one, is_free, opening_of, read, read_by, read_code, words_of}
+use Rattle.lay_map.specs.Marking.{State, code_words, comma_settled, documented, fed_all, fed_one, is_free, opening_of, read, read_by, words_of}
 use Rattle.lay_map.specs.declared.marking.Opening.{Opening}
-use Rattle.lay_map.specs.declared.marking.Within.TheVariants.{Code, Line, Block, End}
+use Rattle.lay_map.specs.declared.marking.Within.TheVariants.{Code, Line, Block}
 use Rattle.lay_map.proofs.PieceLemmas.{leaf_proper, leaf_plain}
 use Rattle.lay_map.proofs.PushLemmas.{Found, Leads, Reads, Walk, comment_leads, doc_behind, documented_leads, leads_from, leads_on, reads_bits, reads_word, state, still, walk_behind, word_leads}
 
@@ -102,17 +102,13 @@ text_feeds w wait next a b outer text xs ws k h one =
 
 -- ---- plain texts
 
-not_so : (b : Bool) → not b ≡ true → b ≡ false
-not_so false h = refl
-not_so true h = absurd (cc h)
-
 plain_read : (text : List ℕ) (s : State) → is_plain text ≡ true → read text s
     ≡ cond (bytes_eq text (codes ",")) (record s { comma = true }) (code_words text s)
 plain_read text s h =
     let p = and_parts (is_none (opening_of text)) (not (bytes_eq text (codes "r#"))) h in
     ap (λ (x : Option Opening). read_by x text s) (none (opening_of text) p.0)
     ∙ ap (λ (b : Bool). cond b s (cond (bytes_eq text (codes ",")) (record s { comma = true }) (code_words text s)))
-    (not_so (bytes_eq text (codes "r#")) p.1)
+    (not-true (bytes_eq text (codes "r#")) p.1)
   where
     none : (x : Option Opening) → is_none x ≡ true → x ≡ None
     none None h = refl

@@ -1,5 +1,5 @@
 -- The units of tokens are those that the stream of the layout finds.
-use Rattle.std.proofs.Common.{◌≡◌, ℕ, Bool, true, false, List, [], ◌++◌, map, refl, sym, ap, ◌∙◌, subst, append-nil}
+use Rattle.std.proofs.Common.{◌≡◌, ℕ, Bool, true, false, List, [], ◌++◌, map, sym, ap, ◌∙◌, subst, append-nil}
 use Rattle.lay_token.specs.declared.token.Token.{Token}
 use Rattle.lay_form.specs.Form.{Form}
 use Rattle.lay_form.specs.Pieces.{are_pieces}

@@ -1,9 +1,13 @@
 pub mod BodyRules
 pub mod FeedLemmas
+pub mod FileLemmas
 pub mod FoundLemmas
+pub mod FrontRules
+pub mod LexedLemmas
 pub mod MarkLemmas
 pub mod PieceLemmas
 pub mod PushLemmas
+pub mod RowRules
 pub mod Rules
 pub mod WordLemmas
 pub mod nodes

@@ -1,5 +1,5 @@
 -- What finds the units as an Emit: each call feeds its one token.
-use Rattle.std.proofs.Common.{◌≡◌, ℕ, zero, suc, ◌-◌, Bool, true, false, cond, not, ◌&&◌, List, [], ◌∷◌, ◌++◌, length, refl, sym, ap, ◌∙◌, subst, le_refl, Result, Ok, Err, OnOk, OnErr, Option, Some, None}
+use Rattle.std.proofs.Common.{◌≡◌, ℕ, zero, suc, ◌-◌, Bool, true, false, cond, not, ◌&&◌, List, [], ◌∷◌, ◌++◌, length, refl, sym, ap, ◌∙◌, subst, le_refl, Result, OnOk, OnErr, Option, Some, None}
 use Rattle.std.specs.Prelude.{◌==◌, codes}
 use Rattle.std.specs.Str.{bytes_eq}
 use Rattle.std.proofs.lemmas.Result.{MatchResult-at_ok, MatchResult-at_err}
@@ -85,29 +85,30 @@ mark_puts tokens shebang failed s k = record {
   appends = λ start x h live. ap (fed_one k) (h live) ∙ sym (fed_two x (k ∷ []) (begun tokens shebang));
   level = level k s;
   later = le_refl 0;
-  passes = λ f d h. tt;
+  passes = λ f d h. h;
   failed_before = λ h. h;
   failed_after = λ h. h;
   same_loans = refl;
 }
 
-mark_stops : (a : Seen) (k : Tok) (fault : NoMemory) (b : Seen) → b.failed ≡ true → Stops mark_meanings a (k ∷ []) fault b
-mark_stops a k fault b e = record {
+mark_stops : (tokens : List Token) (shebang failed : Bool) (s t : State) (k : Tok) (fault : NoMemory) (b : Seen) → b ≡ seen tokens shebang true t
+    → Stops mark_meanings (seen tokens shebang failed s) (k ∷ []) fault b
+mark_stops tokens shebang failed s t k fault b e = record {
   appends = λ start x h. record {
     front = [];
     back = k ∷ [];
     both = refl;
-    is_fed = λ live. let no : true ≡ false = sym e ∙ live in cc;
+    is_fed = λ live. let no : true ≡ false = sym (ap (λ (y : Seen). y.failed) e) ∙ live in cc;
   };
   later = le_refl 0;
-  because = tt;
-  has_failed = e;
+  because = (sym (ap (λ (y : Seen). y.tokens) e), sym (ap (λ (y : Seen). y.shebang) e));
+  has_failed = ap (λ (y : Seen). y.failed) e;
   same_loans = refl;
 }
 
 -- A call that does this to what was told of the tokens so far.
 pub mark_did : (tokens : List Token) (shebang failed : Bool) (s t : State) (k : Tok) (given r : Result (Prim.Unit {0}) NoMemory) (b : Seen)
-    → OnOk given (t ≡ fed_one k s) → r ≡ given → OnOk r (b ≡ seen tokens shebang failed t) → OnErr r (b.failed ≡ true)
+    → OnOk given (t ≡ fed_one k s) → r ≡ given → OnOk r (b ≡ seen tokens shebang failed t) → OnErr r (b ≡ seen tokens shebang true t)
     → Did mark_meanings (seen tokens shebang failed s) (k ∷ []) r b
 mark_did tokens shebang failed s t k given r b does same ok err = record {
   puts = λ x e.
@@ -115,5 +116,5 @@ mark_did tokens shebang failed s t k given r b does same ok err = record {
       let g : t ≡ fed_one k s = MatchResult-at_ok _ _ x (sym same ∙ e) does in
       subst (λ (y : Seen). Puts mark_meanings (seen tokens shebang failed s) (k ∷ []) y) (sym (f ∙ ap (seen tokens shebang failed) g))
       (mark_puts tokens shebang failed s k);
-  stops = λ f e. mark_stops (seen tokens shebang failed s) k f b (MatchResult-at_err _ _ f e err);
+  stops = λ f e. mark_stops tokens shebang failed s t k f b (MatchResult-at_err _ _ f e err);
 }

@@ -1,30 +1,27 @@
 -- A token of a tree is told by its text: by the first character what it is, and that it opens no documentation.
-use Rattle.std.proofs.Common.{◌≡◌, ℕ, zero, suc, ◌<◌, Bool, true, false, cond, not, ◌&&◌, ◌||◌, List, [], ◌∷◌, ◌++◌, codes, refl, sym, ap, ap₂, ◌∙◌, subst, append-nil, arith, eq-eqb, get_or, IsUtf8, Option, Some, None}
+use Rattle.std.proofs.Common.{◌≡◌, ℕ, zero, suc, ◌<◌, Bool, true, false, cond, not, ◌&&◌, ◌||◌, List, [], ◌∷◌, ◌++◌, codes, refl, sym, ap, ◌∙◌, subst, append-nil, arith, eq-eqb, get_or, Some, None}
 use Rattle.std.specs.Prelude.{◌==◌}
 use Rattle.std.specs.Str.{bytes_eq, chars, encode_utf8_all, is_utf8}
-use Rattle.std.proofs.lemmas.Bool.{and_parts, and_from, eqb-true, not-true}
+use Rattle.std.proofs.lemmas.Bool.{and_parts, and_from, eqb-true}
 use Rattle.std.proofs.lemmas.Str.{IsUtf8-from_ascii, IsUtf8-from_is_utf8, chars-IsAscii, chars-append, chars-nil, encode_ascii, encodes-chars}
 use Rattle.unicode_ident.proofs.Computing.{unicode_ident}
 use Rattle.lay_piece.specs.Characters as char
-use Rattle.lay_piece.specs.Chars.{begins, is_nil, is_suffix, is_word, starts_word, in_word}
+use Rattle.lay_piece.specs.Chars.{is_nil, is_suffix, is_word, starts_word, in_word}
 use Rattle.lay_piece.specs.Forms.{Had, had, has_form, may_precede, is_one}
 use Rattle.lay_piece.specs.Found.{front_of, found}
 use Rattle.lay_piece.specs.Quoted.{raw_step, doc_step}
 use Rattle.lay_piece.specs.Scan.{run}
-use Rattle.lay_piece.specs.declared.kind.Delim.{Delim}
 use Rattle.lay_piece.specs.declared.kind.Delim.TheVariants.{Paren, Bracket, Brace}
 use Rattle.lay_piece.specs.declared.kind.Kind.{Kind}
-use Rattle.lay_piece.specs.declared.kind.Kind.TheVariants.{Ident, RawIdent, Underscore, Lifetime, Char, Str, RawStr, Byte, ByteStr, RawByteStr, CStr, RawCStr, Int, Float, Punct, Opener, Closer, Doc}
-use Rattle.lay_piece.proofs.Complete.{behind_true}
+use Rattle.lay_piece.specs.declared.kind.Kind.TheVariants.{Ident, RawIdent, Underscore, Lifetime, Int, Float, Punct, Opener, Closer, Doc}
 use Rattle.lay_piece.proofs.Exact.{front_complete, found_kind, found_rest}
 use Rattle.lay_token.specs.Lexes.{is_punct}
 use Rattle.lay_token.proofs.Deciding.{bytes_same}
 use Rattle.lay_form.specs.Pieces.{is_text_of}
 use Rattle.lay_node.specs.tokens.Listing.{is_doc_kind}
 use Rattle.lay_units.specs.Choice.{alike, closes, is_semicolon, opens}
-use Rattle.lay_units.specs.Units.{Word, Told}
+use Rattle.lay_units.specs.Units.{Told}
 use Rattle.lay_map.specs.Flow.{is_none, is_plain, is_proper, is_told, same}
-use Rattle.lay_map.specs.Marking.{opening_of}
 
 -- any kind but documentation
 abbrev pub is_leaf : Kind → Bool
@@ -117,9 +114,6 @@ low_three a b c h k l = first_low a (b ∷ c ∷ []) h ∙ ap (λ (x : List ℕ)
 one_char : (t : List ℕ) (c : ℕ) → is_utf8 t ≡ true → c < 128 → chars t ≡ c ∷ [] → t ≡ c ∷ []
 one_char t c u h e =
     sym (encodes-chars t (IsUtf8-from_is_utf8 t u)) ∙ ap encode_utf8_all e ∙ ap (λ (x : List ℕ). x ++ []) (encode_ascii c h)
-
-none_left : (t : List ℕ) → is_utf8 t ≡ true → chars t ≡ [] → t ≡ []
-none_left t u e = sym (encodes-chars t (IsUtf8-from_is_utf8 t u)) ∙ ap encode_utf8_all e
 
 -- ---- tokens other than raw identifiers
 
@@ -374,19 +368,19 @@ pub bare_opens : (k : Kind) → is_bare k ≡ true → opens k ≡ false
 bare_opens (Opener d) b = absurd (cc b)
 bare_opens _ b = refl
 
-bare_punct : (k : Kind) → is_bare k ≡ true → is_punct k ≡ false
-bare_punct Punct b = absurd (cc b)
-bare_punct _ b = refl
+pub bare_closes : (k : Kind) → is_bare k ≡ true → closes k ≡ false
+bare_closes (Closer d) b = absurd (cc b)
+bare_closes _ b = refl
 
 -- what begins no such token
-marks : (cs : List ℕ) → (front_of false (44 ∷ cs) ≡ found Punct cs) × (front_of false (58 ∷ cs) ≡ found Punct cs)
-    × (front_of false (60 ∷ cs) ≡ found Punct cs) × (front_of false (62 ∷ cs) ≡ found Punct cs) × (front_of false (124 ∷ cs) ≡ found Punct cs)
+marks : (cs : List ℕ) → (front_of false (44 ∷ cs) ≡ found Punct cs) × (front_of false (60 ∷ cs) ≡ found Punct cs)
+    × (front_of false (62 ∷ cs) ≡ found Punct cs) × (front_of false (124 ∷ cs) ≡ found Punct cs)
 unfolding front_of unicode_ident starts_word
-marks cs = (refl, refl, refl, refl, refl)
+marks cs = (refl, refl, refl, refl)
 
-mark_words : (starts_word 44 ≡ false) × (starts_word 58 ≡ false) × (starts_word 60 ≡ false) × (starts_word 62 ≡ false) × (starts_word 124 ≡ false)
+mark_words : (starts_word 44 ≡ false) × (starts_word 60 ≡ false) × (starts_word 62 ≡ false) × (starts_word 124 ≡ false)
 unfolding unicode_ident starts_word
-mark_words = (refl, refl, refl, refl, refl)
+mark_words = (refl, refl, refl, refl)
 
 -- A character with which only a mark begins.
 pub record IsMark (n : ℕ) : Type 0 where
@@ -397,17 +391,14 @@ pub record IsMark (n : ℕ) : Type 0 where
 pub comma_mark : IsMark 44
 comma_mark = record { low = omega arith; found_is = λ cs. (marks cs).0; no_word_is = mark_words.0 }
 
-pub colon_mark : IsMark 58
-colon_mark = record { low = omega arith; found_is = λ cs. (marks cs).1; no_word_is = mark_words.1 }
-
 pub less_mark : IsMark 60
-less_mark = record { low = omega arith; found_is = λ cs. (marks cs).2; no_word_is = mark_words.2 }
+less_mark = record { low = omega arith; found_is = λ cs. (marks cs).1; no_word_is = mark_words.1 }
 
 pub greater_mark : IsMark 62
-greater_mark = record { low = omega arith; found_is = λ cs. (marks cs).3; no_word_is = mark_words.3 }
+greater_mark = record { low = omega arith; found_is = λ cs. (marks cs).2; no_word_is = mark_words.2 }
 
 pub bar_mark : IsMark 124
-bar_mark = record { low = omega arith; found_is = λ cs. (marks cs).4; no_word_is = mark_words.4 }
+bar_mark = record { low = omega arith; found_is = λ cs. (marks cs).3; no_word_is = mark_words.3 }
 
 pub semicolon_mark : IsMark 59
 semicolon_mark = record { low = omega arith; found_is = λ cs. (brackets cs).2; no_word_is = no_word.2 }

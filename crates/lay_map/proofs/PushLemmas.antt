@@ -1,13 +1,11 @@
 -- What each word does to what waits, and that a text does what its words do.
-use Rattle.std.proofs.Common.{◌≡◌, ℕ, zero, suc, ◌-◌, Bool, true, false, cond, not, ◌&&◌, ◌||◌, List, [], ◌∷◌, ◌++◌, map, drop, length, codes, refl, sym, ap, ap₂, ◌∙◌, subst, append_assoc, append-nil, arith}
+use Rattle.std.proofs.Common.{◌≡◌, ℕ, zero, suc, ◌-◌, Bool, true, false, cond, not, ◌||◌, List, [], ◌∷◌, ◌++◌, map, drop, length, refl, sym, ap, ap₂, ◌∙◌, subst, append_assoc, append-nil, arith}
 use Rattle.std.specs.Prelude.{◌==◌}
-use Rattle.std.specs.Str.{bytes_eq}
-use Rattle.std.proofs.lemmas.Bool.{and_parts, and_from, eqb-true}
+use Rattle.std.proofs.lemmas.Bool.{and_parts, and_from, eqb-true, not-true}
 use Rattle.lay_piece.specs.Characters as char
 use Rattle.lay_piece.specs.Chars.{is_nil}
-use Rattle.lay_piece.specs.declared.kind.Delim.TheVariants.{Brace}
 use Rattle.lay_piece.specs.declared.kind.Kind.{Kind}
-use Rattle.lay_piece.specs.declared.kind.Kind.TheVariants.{Punct, Opener}
+use Rattle.lay_piece.specs.declared.kind.Kind.TheVariants.{Punct}
 use Rattle.lay_token.specs.declared.token.Token.{Token}
 use Rattle.lay_form.specs.Form.{Bit, Blank, Fixed, Operator, Semicolons}
 use Rattle.lay_form.specs.Layout.{text_of_bit, text_of_bits}
@@ -15,14 +13,14 @@ use Rattle.lay_units.specs.Choice.{chosen, closes, is_loose, is_semicolon, leadi
 use Rattle.lay_units.specs.Units as units
 use Rattle.lay_units.specs.Units.{Word, Told, Comment, Documented, said, punct_word, bit_words, bits_words}
 use Rattle.lay_map.specs.Flow.{are_proper, is_proper, is_told, same}
-use Rattle.lay_map.specs.Marking.{State, doced, first_ahead, raised, words_of, worded}
+use Rattle.lay_map.specs.Marking.{State, first_ahead, raised, words_of, worded}
 use Rattle.lay_map.specs.Places.{place_of}
 use Rattle.lay_map.specs.Walks.{Place, first_length, more_of, placed, sought_from, taken_from}
 use Rattle.lay_map.specs.declared.marking.Within.{Within}
-use Rattle.lay_map.specs.declared.marking.Within.TheVariants.{Code, Line}
+use Rattle.lay_map.specs.declared.marking.Within.TheVariants.{Code}
 use Rattle.lay_map.specs.declared.unit.Unit.{Unit}
 use Rattle.lay_map.specs.declared.walk.Sought.TheVariants.{First, Docs}
-use Rattle.lay_map.proofs.WordLemmas.{Goes, brace, braces, braces_before, left, opens_brace, row_found, same_is, seeks_comment, seeks_documented, seeks_told, stays, total, word_found}
+use Rattle.lay_map.proofs.WordLemmas.{brace, braces, braces_before, left, opens_brace, row_found, same_is, seeks_comment, seeks_documented, seeks_told, total, word_found}
 
 -- ---- places and rows
 
@@ -69,9 +67,6 @@ state w comma within arrow outer = record {
 abbrev pub still : Walk → Bool → List Bool → State
 still w arrow outer = state w false Code arrow outer
 
-abbrev pub walk_of : State → Walk
-walk_of s = record { place = s.place; row = s.row }
-
 -- ---- one word
 
 -- What a proper word's kind tells of its first character.
@@ -86,13 +81,9 @@ told_parts kind c cs h =
       same_is (opens kind) (c == char.open_brace) p.0,
       same_is (closes kind) (c == char.close_brace) q.0,
       same_is (is_semicolon kind (c ∷ cs)) (c == char.semicolon) r.0,
-      not_true (c == char.blank) u.0,
+      not-true (c == char.blank) u.0,
       u.1,
     )
-  where
-    not_true : (b : Bool) → not b ≡ true → b ≡ false
-    not_true false h = refl
-    not_true true h = absurd (cc h)
 
 -- the walk behind a word that is no opening brace
 abbrev pub walk_behind : Bool → ℕ → Walk → Walk

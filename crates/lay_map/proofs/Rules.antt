@@ -1,30 +1,85 @@
 -- Forms whose layout tells their units: a rule for each constructor, and one for lists, bodies, fields and braces. What is asked of the
 -- words that follow is a part of the rule.
-use Rattle.std.proofs.Common.{◌≡◌, ℕ, Bool, true, false, cond, not, ◌&&◌, ◌||◌, List, [], ◌∷◌, ◌++◌, codes, refl, sym, ap, ap₂, ◌∙◌, subst, append_assoc}
-use Rattle.std.specs.Prelude.{◌==◌, ⊤}
-use Rattle.std.specs.Str.{bytes_eq, is_utf8}
-use Rattle.std.proofs.lemmas.Bool.{and_parts, and_from}
+use Rattle.std.proofs.Common.{◌≡◌, ℕ, zero, suc, Bool, true, false, cond, not, ◌&&◌, ◌||◌, List, [], ◌∷◌, ◌++◌, codes, map, refl, sym, ap, ap₂, ◌∙◌, subst, append_assoc}
+use Rattle.std.specs.Prelude.{⊤}
+use Rattle.std.specs.List.{list_all}
+use Rattle.std.specs.Str.{bytes_eq}
+use Rattle.std.proofs.lemmas.Bool.{and_parts, and_from, not-true}
 use Rattle.lay_piece.specs.declared.kind.Delim.TheVariants.{Brace}
 use Rattle.lay_piece.specs.declared.kind.Kind.{Kind}
-use Rattle.lay_piece.specs.declared.kind.Kind.TheVariants.{Punct, Opener, Closer, Doc}
-use Rattle.lay_form.specs.Form.{Bit, Blank, Fixed, Operator, Semicolons, Space, Soft, Hard, Form, Done, Piece, Leaf, Listed, ListedDoc, Brk, LastComma, Group, Part, Deeper, Optional, Docs, Body, opener, closer, comma}
+use Rattle.lay_piece.specs.declared.kind.Kind.TheVariants.{Punct, Doc}
+use Rattle.lay_form.specs.Form.{Bit, Blank, Fixed, Operator, Semicolons, Space, Soft, Form, Done, Piece, Leaf, Listed, ListedDoc, Brk, LastComma, Group, Part, Deeper, Optional, Docs, Body, closer}
 use Rattle.lay_form.specs.Layout.{text_of_bits}
-use Rattle.lay_form.specs.Notation.{B, H, N, Z, B-, H-, Z-, C4, each, comma_gap, last_break, comma_list, body, with_commas, fields, braces, soft, piece}
+use Rattle.lay_form.specs.Notation.{each, comma_gap, last_break, comma_list, braces}
 use Rattle.lay_form.specs.Pieces.{is_text_of, are_pieces}
-use Rattle.lay_units.specs.Choice.{alike, calm, calm_bits, clear, clear_bits, firm, firm_bits, is_settled, opens, passes}
-use Rattle.lay_units.specs.Units.{Word, Told, bits_words, words}
-use Rattle.lay_map.specs.Flow.{Still, Said, Flow, Lost, At, are_comma, are_proper, is_plain, flow, group_flow, leaf_flow, left, piece_flow, text_flow, words_flow}
-use Rattle.lay_map.proofs.PieceLemmas.{bare_apart, bare_opens, bare_texts, is_bare, semicolon_mark}
+use Rattle.lay_units.specs.Choice.{alike, behind_word, behind_words, calm, calm_bits, clear, clear_bits, closes, firm, firm_bits, is_level, is_settled, none, opens, passes, shuts, top, under, word_closes}
+use Rattle.lay_units.specs.Units.{Word, Told, bits_words, punct_word, words}
+use Rattle.lay_map.specs.Flow.{Still, Said, Flow, Lost, At, are_comma, are_proper, is_plain, flow, group_flow, leaf_flow, left, words_flow}
+use Rattle.lay_map.proofs.PieceLemmas.{bare_apart, bare_closes, bare_opens, bare_texts, is_bare, semicolon_mark}
+
+-- ---- braces among words
+
+-- Each closing brace among the words closes a kept one. These braces are open before the words, and those behind them.
+pub record Levels (ws : List Word) (before behind : List Bool) : Type 0 where
+  pub shut_is : shuts ws before ≡ true
+  pub leaves : behind_words ws before ≡ behind
+
+-- so many kept braces within those that are open
+abbrev pub kept_in : ℕ → List Bool → List Bool
+kept_in zero stack = stack
+kept_in (suc n) stack = true ∷ kept_in n stack
+
+pub no_levels : (stack : List Bool) → Levels [] stack stack
+no_levels stack = record { shut_is = refl; leaves = refl }
+
+pub levels_two : (a b : List Word) {x y z : List Bool} → Levels a x y → Levels b y z → Levels (a ++ b) x z
+levels_two a b {x} {y} {z} l m = record {
+  shut_is = shut_two a x l.shut_is (subst (λ (s : List Bool). shuts b s ≡ true) (sym l.leaves) m.shut_is);
+  leaves = behind_two a x ∙ ap (behind_words b) l.leaves ∙ m.leaves;
+}
+  where
+    behind_two : (a : List Word) (x : List Bool) → behind_words (a ++ b) x ≡ behind_words b (behind_words a x)
+    behind_two [] x = refl
+    behind_two (w ∷ a) x = behind_two a (behind_word w x)
+
+    shut_two : (a : List Word) (x : List Bool) → shuts a x ≡ true → shuts b (behind_words a x) ≡ true → shuts (a ++ b) x ≡ true
+    shut_two [] x h k = k
+    shut_two (w ∷ a) x h k =
+        let p = and_parts (not (word_closes w) || top x) (shuts a (behind_word w x)) h in
+        and_from (not (word_closes w) || top x) (shuts (a ++ b) (behind_word w x)) p.0 (shut_two a (behind_word w x) p.1 k)
+
+-- behind a word that is no brace
+pub levels_behind : (kind : Kind) (text : List ℕ) (ws : List Word) {x y : List Bool} → opens kind ≡ false → closes kind ≡ false → Levels ws x y
+    → Levels (Told kind text ∷ ws) x y
+levels_behind kind text ws {x} {y} o c l = record {
+  shut_is = ap (λ (b : Bool). (not b || top x) && shuts ws (behind_word (Told kind text) x)) c ∙ ap (shuts ws) same_is ∙ l.shut_is;
+  leaves = ap (behind_words ws) same_is ∙ l.leaves;
+}
+  where
+    same_is : behind_word (Told kind text) x ≡ x
+    same_is = ap₂ (λ (p q : Bool). cond p (true ∷ x) (cond q (under x) x)) o c
+
+marks_level : (op : List ℕ) (x : List Bool) → Levels (map punct_word op) x x
+marks_level [] x = no_levels x
+marks_level (c ∷ cs) x = levels_behind Punct (c ∷ []) (map punct_word cs) refl refl (marks_level cs x)
+
+pub paired : (ws : List Word) → Levels ws [] [] → is_level ws ≡ true
+paired ws l = and_from (shuts ws []) (none (behind_words ws [])) l.shut_is (ap none l.leaves)
 
 -- ---- forms
 
-pub record Telling (Next : List Word → Type 0) (f : Form) : Type 0 where
+pub record Telling (Next : List Word → Type 0) (n : ℕ) (f : Form) : Type 0 where
   pub flows : (a : Bool) → flow (At Still a) f ≡ At Still a
   pub clears : (ws : List Word) (b : Bool) → Next ws → clear f ws b ≡ true
+  pub levels : (stack : List Bool) → Levels (words f) (kept_in n stack) stack
 
--- The layout of the form tells its units, before such words.
-pub record Tells (Next : List Word → Type 0) (f : Form) : Type 0 where
-  pub go : are_pieces f ≡ true → Telling Next f
+-- The layout of the form tells its units, before such words. It closes so many braces that were opened before it.
+pub record Closing (Next : List Word → Type 0) (n : ℕ) (f : Form) : Type 0 where
+  pub go : are_pieces f ≡ true → Telling Next n f
+
+-- the same where its braces are pairs
+abbrev pub Tells : (List Word → Type 0) → Form → Type 0
+Tells Next f = Closing Next 0 f
 
 -- before any words
 abbrev pub Any : List Word → Type 0
@@ -32,6 +87,10 @@ Any ws = ⊤
 
 abbrev pub Plain : Form → Type 0
 Plain f = Tells Any f
+
+-- The braces of the form are pairs.
+pub level_of : {Next : List Word → Type 0} {f : Form} → Tells Next f → are_pieces f ≡ true → is_level (words f) ≡ true
+level_of {Next} {f} t w = paired (words f) ((t.go w).levels [])
 
 -- The form begins with a token that isn't dropped, behind opening braces of its own.
 pub record Firm (f : Form) : Type 0 where
@@ -42,20 +101,35 @@ abbrev pub All : (Form → Type 0) → List Form → Type 0
 All P [] = ⊤
 All P (e ∷ es) = P e × All P es
 
+pub all_of : {A : Type 0} (P : Form → Type 0) (form : A → Form) → ((x : A) → P (form x)) → (xs : List A) → All P (map form xs)
+all_of P form k [] = tt
+all_of P form k (x ∷ xs) = (k x, all_of P form k xs)
+
+-- the same of what is well formed
+pub each_of : {A : Type 0} (P : Form → Type 0) (form : A → Form) (is_good : A → Bool) → ((x : A) → is_good x ≡ true → P (form x)) → (xs : List A)
+    → list_all is_good xs ≡ true → All P (map form xs)
+each_of P form is_good k [] h = tt
+each_of P form is_good k (x ∷ xs) h =
+    let p = and_parts (is_good x) (list_all is_good xs) h in
+    (k x p.0, each_of P form is_good k xs p.1)
+
 -- ---- single signs
 
 pub ends : {Next : List Word → Type 0} → Tells Next Done
-ends = record { go = λ w. record { flows = λ a. refl; clears = λ ws b n. refl } }
+ends = record { go = λ w. record { flows = λ a. refl; clears = λ ws b n. refl; levels = no_levels } }
 
 -- what follows may be more than is asked
-pub narrower : {Next More : List Word → Type 0} {f : Form} → ((ws : List Word) → More ws → Next ws) → Tells Next f → Tells More f
-narrower k t = record { go = λ w. let u = t.go w in record { flows = u.flows; clears = λ ws b n. u.clears ws b (k ws n) } }
+pub narrower : {Next More : List Word → Type 0} {n : ℕ} {f : Form} → ((ws : List Word) → More ws → Next ws) → Closing Next n f → Closing More n f
+narrower k t = record { go = λ w. let u = t.go w in record { flows = u.flows; clears = λ ws b n. u.clears ws b (k ws n); levels = u.levels } }
 
--- no opening braces, and nothing that is dropped
+pub anywhere : {Next : List Word → Type 0} {n : ℕ} {f : Form} → Closing Any n f → Closing Next n f
+anywhere t = narrower (λ ws n. tt) t
+
+-- no braces, and nothing that is dropped
 abbrev pub are_still : List Bit → Bool
 are_still [] = true
 are_still (Blank ∷ bs) = are_still bs
-are_still (Fixed kind text ∷ bs) = not (opens kind) && are_still bs
+are_still (Fixed kind text ∷ bs) = not (opens kind) && (not (closes kind) && are_still bs)
 are_still (Operator op ∷ bs) = are_still bs
 are_still (Semicolons ∷ bs) = false
 
@@ -64,10 +138,6 @@ abbrev pub tame : List Bit → Bool
 tame bits =
     (are_proper (bits_words bits) && is_plain (text_of_bits bits))
     && (not (bytes_eq (text_of_bits bits) (codes ",")) && (not (bytes_eq (text_of_bits bits) (codes " => ")) && are_still bits))
-
-not_so : (b : Bool) → not b ≡ true → b ≡ false
-not_so false h = refl
-not_so true h = absurd (cc h)
 
 words_still : (ws : List Word) (text : List ℕ) (a : Bool) → bytes_eq text (codes ",") ≡ false → bytes_eq text (codes " => ") ≡ false
     → words_flow ws text Still a ≡ At Still a
@@ -78,13 +148,24 @@ still_clear : (bits : List Bit) (ws : List Word) (b : Bool) → are_still bits �
 still_clear [] ws b h = refl
 still_clear (Blank ∷ bs) ws b h = still_clear bs ws b h
 still_clear (Fixed kind text ∷ bs) ws b h =
-    let p = and_parts (not (opens kind)) (are_still bs) h in
-    and_from (is_settled kind (calm_bits bs b)) (clear_bits bs ws b) (ap (λ (x : Bool). x || calm_bits bs b) p.0) (still_clear bs ws b p.1)
+    let p = and_parts (not (opens kind)) (not (closes kind) && are_still bs) h in
+    let q = and_parts (not (closes kind)) (are_still bs) p.1 in
+    and_from (is_settled kind (calm_bits bs b)) (clear_bits bs ws b) (ap (λ (x : Bool). x || calm_bits bs b) p.0) (still_clear bs ws b q.1)
 still_clear (Operator op ∷ bs) ws b h = still_clear bs ws b h
 still_clear (Semicolons ∷ bs) ws b h = absurd (cc h)
 
-pub fixed : {Next : List Word → Type 0} {f : Form} (bits : List Bit) → tame bits ≡ true → Tells Next f → Tells Next (Piece bits f)
-fixed {Next} {f} bits h t = record {
+still_levels : (bits : List Bit) (x : List Bool) → are_still bits ≡ true → Levels (bits_words bits) x x
+still_levels [] x h = no_levels x
+still_levels (Blank ∷ bs) x h = still_levels bs x h
+still_levels (Fixed kind text ∷ bs) x h =
+    let p = and_parts (not (opens kind)) (not (closes kind) && are_still bs) h in
+    let q = and_parts (not (closes kind)) (are_still bs) p.1 in
+    levels_behind kind text (bits_words bs) (not-true (opens kind) p.0) (not-true (closes kind) q.0) (still_levels bs x q.1)
+still_levels (Operator op ∷ bs) x h = levels_two (map punct_word op) (bits_words bs) (marks_level op x) (still_levels bs x h)
+still_levels (Semicolons ∷ bs) x h = absurd (cc h)
+
+pub fixed : {Next : List Word → Type 0} {n : ℕ} {f : Form} (bits : List Bit) → tame bits ≡ true → Closing Next n f → Closing Next n (Piece bits f)
+fixed {Next} {n} {f} bits h t = record {
   go = λ w.
       let u = t.go w in
       let p = and_parts (are_proper (bits_words bits) && is_plain (text_of_bits bits)) _ h in
@@ -94,11 +175,24 @@ fixed {Next} {f} bits h t = record {
         flows = λ a.
             ap (λ (x : Bool). flow (cond x (words_flow (bits_words bits) (text_of_bits bits) Still a) Lost) f) p.0
             ∙ ap (λ (s : Flow). flow s f)
-            (words_still (bits_words bits) (text_of_bits bits) a (not_so (bytes_eq (text_of_bits bits) (codes ",")) q.0)
-            (not_so (bytes_eq (text_of_bits bits) (codes " => ")) r.0))
+            (words_still (bits_words bits) (text_of_bits bits) a (not-true (bytes_eq (text_of_bits bits) (codes ",")) q.0)
+            (not-true (bytes_eq (text_of_bits bits) (codes " => ")) r.0))
             ∙ u.flows a;
         clears = λ ws b n.
             and_from (clear_bits bits (words f ++ ws) (calm f b)) (clear f ws b) (still_clear bits (words f ++ ws) (calm f b) r.1) (u.clears ws b n);
+        levels = λ x. levels_two (bits_words bits) (words f) (still_levels bits (kept_in n x) r.1) (u.levels x);
+      };
+}
+
+-- the closing brace of a piece of its own
+pub shut : {Next : List Word → Type 0} {n : ℕ} {f : Form} → Closing Next n f → Closing Next (suc n) (Piece (closer Brace ∷ []) f)
+shut {Next} {n} {f} t = record {
+  go = λ w.
+      let u = t.go w in
+      record {
+        flows = λ a. u.flows a;
+        clears = λ ws b n. u.clears ws b n;
+        levels = λ x. let l = u.levels x in record { shut_is = l.shut_is; leaves = l.leaves };
       };
 }
 
@@ -107,8 +201,9 @@ leaf_still : (kind : Kind) (text : List ℕ) (a : Bool) → is_bare kind ≡ tru
 leaf_still (Doc inner block) text a b e f = absurd (cc b)
 leaf_still kind text a b e f = ap₂ (λ (x y : Bool). cond x (cond (are_comma (Told kind text ∷ [])) (At Said a) Lost) (At Still (y || a))) e f
 
-pub leaf : {Next : List Word → Type 0} {f : Form} (kind : Kind) (text : List ℕ) → is_bare kind ≡ true → Tells Next f → Tells Next (Leaf kind text f)
-leaf {Next} {f} kind text bare t = record {
+pub leaf : {Next : List Word → Type 0} {n : ℕ} {f : Form} (kind : Kind) (text : List ℕ) → is_bare kind ≡ true → Closing Next n f
+    → Closing Next n (Leaf kind text f)
+leaf {Next} {n} {f} kind text bare t = record {
   go = λ w.
       let p = and_parts (is_text_of kind text) (are_pieces f) w in
       let u = t.go p.1 in
@@ -117,26 +212,36 @@ leaf {Next} {f} kind text bare t = record {
         flows = λ a. ap (λ (s : Flow). flow s f) (leaf_still kind text a bare q.0 q.1) ∙ u.flows a;
         clears = λ ws b n.
             and_from (is_settled kind (calm f b)) (clear f ws b) (ap (λ (x : Bool). not x || calm f b) (bare_opens kind bare)) (u.clears ws b n);
+        levels = λ x. levels_behind kind text (words f) (bare_opens kind bare) (bare_closes kind bare) (u.levels x);
       };
 }
 
-pub part_to : {Next Mid : List Word → Type 0} {i f : Form} → ((ws : List Word) → Next ws → Mid (words f ++ ws)) → Tells Mid i → Tells Next f → Tells Next (Part i f)
-part_to {i} {f} k s t = record {
+-- What the part asks of the words behind it is given, where what follows it is made of pieces.
+pub part_before : {Next Mid : List Word → Type 0} {n : ℕ} {i f : Form} → (are_pieces f ≡ true → (ws : List Word) → Next ws → Mid (words f ++ ws)) → Tells Mid i
+    → Closing Next n f → Closing Next n (Part i f)
+part_before {Next} {Mid} {n} {i} {f} k s t = record {
   go = λ w.
       let p = and_parts (are_pieces i) (are_pieces f) w in
       let u = s.go p.0 in
       let v = t.go p.1 in
       record {
         flows = λ a. ap (λ (s : Flow). flow s f) (u.flows a) ∙ v.flows a;
-        clears = λ ws b n. and_from (clear i (words f ++ ws) (calm f b)) (clear f ws b) (u.clears (words f ++ ws) (calm f b) (k ws n)) (v.clears ws b n);
+        clears = λ ws b m.
+            and_from (clear i (words f ++ ws) (calm f b)) (clear f ws b) (u.clears (words f ++ ws) (calm f b) (k p.1 ws m)) (v.clears ws b m);
+        levels = λ x. levels_two (words i) (words f) (u.levels (kept_in n x)) (v.levels x);
       };
 }
 
-pub part : {Next : List Word → Type 0} {i f : Form} → Plain i → Tells Next f → Tells Next (Part i f)
+pub part_to : {Next Mid : List Word → Type 0} {n : ℕ} {i f : Form} → ((ws : List Word) → Next ws → Mid (words f ++ ws)) → Tells Mid i → Closing Next n f
+    → Closing Next n (Part i f)
+part_to k s t = part_before (λ w. k) s t
+
+pub part : {Next : List Word → Type 0} {n : ℕ} {i f : Form} → Plain i → Closing Next n f → Closing Next n (Part i f)
 part s t = part_to (λ ws n. tt) s t
 
-pub deep_to : {Next Mid : List Word → Type 0} {i f : Form} → ((ws : List Word) → Next ws → Mid (words f ++ ws)) → Tells Mid i → Tells Next f → Tells Next (Deeper i f)
-deep_to {i} {f} k s t = record {
+pub deep_to : {Next Mid : List Word → Type 0} {n : ℕ} {i f : Form} → ((ws : List Word) → Next ws → Mid (words f ++ ws)) → Tells Mid i → Closing Next n f
+    → Closing Next n (Deeper i f)
+deep_to {n} {i} {f} k s t = record {
   go = λ w.
       let p = and_parts (are_pieces i) (are_pieces f) w in
       let u = s.go p.0 in
@@ -144,15 +249,16 @@ deep_to {i} {f} k s t = record {
       record {
         flows = λ a. ap (λ (s : Flow). flow s f) (u.flows a) ∙ v.flows a;
         clears = λ ws b n. and_from (clear i (words f ++ ws) (calm f b)) (clear f ws b) (u.clears (words f ++ ws) (calm f b) (k ws n)) (v.clears ws b n);
+        levels = λ x. levels_two (words i) (words f) (u.levels (kept_in n x)) (v.levels x);
       };
 }
 
-pub deep : {Next : List Word → Type 0} {i f : Form} → Plain i → Tells Next f → Tells Next (Deeper i f)
+pub deep : {Next : List Word → Type 0} {n : ℕ} {i f : Form} → Plain i → Closing Next n f → Closing Next n (Deeper i f)
 deep s t = deep_to (λ ws n. tt) s t
 
-pub group_to : {Next Mid : List Word → Type 0} {i f : Form} (consistent : Bool) (n : ℕ) → ((ws : List Word) → Next ws → Mid (words f ++ ws)) → Tells Mid i → Tells Next f
-    → Tells Next (Group consistent n i f)
-group_to {i} {f} consistent n k s t = record {
+pub group_to : {Next Mid : List Word → Type 0} {m : ℕ} {i f : Form} (consistent : Bool) (n : ℕ) → ((ws : List Word) → Next ws → Mid (words f ++ ws)) → Tells Mid i
+    → Closing Next m f → Closing Next m (Group consistent n i f)
+group_to {m} {i} {f} consistent n k s t = record {
   go = λ w.
       let p = and_parts (are_pieces i) (are_pieces f) w in
       let u = s.go p.0 in
@@ -160,18 +266,27 @@ group_to {i} {f} consistent n k s t = record {
       record {
         flows = λ a. ap (λ (s : Flow). flow (left (At Still a) (group_flow s)) f) (u.flows false) ∙ v.flows a;
         clears = λ ws b n. and_from (clear i (words f ++ ws) (calm f b)) (clear f ws b) (u.clears (words f ++ ws) (calm f b) (k ws n)) (v.clears ws b n);
+        levels = λ x. levels_two (words i) (words f) (u.levels (kept_in m x)) (v.levels x);
       };
 }
 
-pub group : {Next : List Word → Type 0} {i f : Form} (consistent : Bool) (n : ℕ) → Plain i → Tells Next f → Tells Next (Group consistent n i f)
+pub group : {Next : List Word → Type 0} {m : ℕ} {i f : Form} (consistent : Bool) (n : ℕ) → Plain i → Closing Next m f → Closing Next m (Group consistent n i f)
 group consistent n s t = group_to consistent n (λ ws n. tt) s t
 
-pub brk : {Next : List Word → Type 0} {f : Form} (space : Space) → Tells Next f → Tells Next (Brk space f)
-brk space t = record { go = λ w. let u = t.go w in record { flows = λ a. u.flows a; clears = λ ws b n. u.clears ws b n } }
+pub brk : {Next : List Word → Type 0} {n : ℕ} {f : Form} (space : Space) → Closing Next n f → Closing Next n (Brk space f)
+brk space t = record { go = λ w. let u = t.go w in record { flows = λ a. u.flows a; clears = λ ws b n. u.clears ws b n; levels = u.levels } }
 
 -- a `,` and a break
-pub gap : {Next : List Word → Type 0} {f : Form} → Tells Next f → Tells Next (comma_gap f)
-gap t = record { go = λ w. let u = t.go w in record { flows = λ a. u.flows a; clears = λ ws b n. u.clears ws b n } }
+pub gap : {Next : List Word → Type 0} {n : ℕ} {f : Form} → Closing Next n f → Closing Next n (comma_gap f)
+gap {Next} {n} {f} t = record {
+  go = λ w.
+      let u = t.go w in
+      record {
+        flows = λ a. u.flows a;
+        clears = λ ws b n. u.clears ws b n;
+        levels = λ x. levels_behind Punct (codes ",") (words f) refl refl (u.levels x);
+      };
+}
 
 -- ---- lists
 
@@ -188,19 +303,20 @@ abbrev pub NoComma : List Word → Type 0
 NoComma ws = passes ws Punct (codes ",") ≡ true
 
 -- a comma that may be spelled
-pub last_comma : {Next : List Word → Type 0} {f : Form} (n : ℕ) → ((ws : List Word) → Next ws → NoComma (words f ++ ws)) → Tells Next f
-    → Tells Next (LastComma n f)
-last_comma {Next} {f} n k t = record {
+pub last_comma : {Next : List Word → Type 0} {m : ℕ} {f : Form} (n : ℕ) → ((ws : List Word) → Next ws → NoComma (words f ++ ws)) → Closing Next m f
+    → Closing Next m (LastComma n f)
+last_comma {Next} {m} {f} n k t = record {
   go = λ w.
       let u = t.go w in
       record {
         flows = λ a. u.flows a;
         clears = λ ws b m. and_from (passes (words f ++ ws) Punct (codes ",")) (clear f ws b) (k ws m) (u.clears ws b m);
+        levels = u.levels;
       };
 }
 
-pub last : {Next : List Word → Type 0} {f : Form} (may : Bool) (n : ℕ) → ((ws : List Word) → Next ws → NoComma (words f ++ ws)) → Tells Next f
-    → Tells Next (last_break may n f)
+pub last : {Next : List Word → Type 0} {m : ℕ} {f : Form} (may : Bool) (n : ℕ) → ((ws : List Word) → Next ws → NoComma (words f ++ ws)) → Closing Next m f
+    → Closing Next m (last_break may n f)
 last true n k t = last_comma n k t
 last false n k t = brk (Soft true n) t
 
@@ -256,10 +372,6 @@ more_firm (Semicolons ∷ bs) b h = more_firm bs b h
 
 pub firm_fixed : {f : Form} (bits : List Bit) → firm_bits bits false ≡ true → Firm (Piece bits f)
 firm_fixed {f} bits h = record { go = λ w b. more_firm bits (firm f b) h }
-
--- behind blanks alone
-pub firm_blank : {f : Form} → Firm f → Firm (Piece (Blank ∷ []) f)
-firm_blank t = record { go = λ w b. t.go w b }
 
 pub firm_leaf : {f : Form} (kind : Kind) (text : List ℕ) → is_bare kind ≡ true → Firm (Leaf kind text f)
 firm_leaf {f} kind text bare = record {

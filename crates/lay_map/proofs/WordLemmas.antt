@@ -1,19 +1,17 @@
 -- A walk that is told the words one by one finds the units of the first match.
-use Rattle.std.proofs.Common.{◌≡◌, ℕ, zero, suc, ◌-◌, Bool, true, false, cond, not, ◌&&◌, List, [], ◌∷◌, ◌++◌, map, take, drop, length, codes, refl, sym, ap, ap₂, ◌∙◌, subst, append_assoc}
+use Rattle.std.proofs.Common.{◌≡◌, ℕ, zero, suc, Bool, true, false, cond, ◌&&◌, List, [], ◌∷◌, ◌++◌, map, take, drop, length, codes, refl, sym, ap, ap₂, ◌∙◌, subst, append_assoc}
 use Rattle.std.specs.Prelude.{◌==◌, nat_le, ⊤}
-use Rattle.std.proofs.lemmas.Bool.{and_parts}
 use Rattle.lay_piece.specs.Characters as char
-use Rattle.lay_piece.specs.Chars.{is_nil}
 use Rattle.lay_piece.specs.declared.kind.Delim.TheVariants.{Paren, Bracket, Brace}
 use Rattle.lay_piece.specs.declared.kind.Kind.{Kind}
 use Rattle.lay_piece.specs.declared.kind.Kind.TheVariants.{Opener}
 use Rattle.lay_token.specs.declared.token.Token.{Token}
 use Rattle.lay_units.specs.Units as units
 use Rattle.lay_units.specs.Units.{Word, Told, Comment, Documented, said}
-use Rattle.lay_units.specs.Choice.{alike, behind_token, begins_doc, chosen, closes, fits, is_loose, is_semicolon, is_semicolon_word, leading, more, more_doc, openers, opens, says, takes, top, under, unit_of, word_closes, word_opens}
-use Rattle.lay_map.specs.Flow.{is_proper, is_told, same}
+use Rattle.lay_units.specs.Choice.{alike, behind_token, chosen, closes, fits, is_loose, leading, more, more_doc, openers, opens, says, takes, top, under, unit_of}
+use Rattle.lay_map.specs.Flow.{same}
 use Rattle.lay_map.specs.Places.{end_of, place_of}
-use Rattle.lay_map.specs.Walks.{Place, first_length, is_closing, is_said, is_sought, last_of, more_of, placed_in, sought_in, taken_from, unit_from}
+use Rattle.lay_map.specs.Walks.{Place, first_length, is_sought, last_of, more_of, placed_in, sought_in, taken_from, unit_from}
 use Rattle.lay_map.specs.declared.unit.Unit.{Unit}
 use Rattle.lay_map.specs.declared.walk.Sought.{Sought}
 use Rattle.lay_map.specs.declared.walk.Sought.TheVariants.{First, Docs}

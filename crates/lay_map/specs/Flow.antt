@@ -1,6 +1,6 @@
 -- Which forms tell their units by their layout. What a text says follows from its first characters; a text `,` tells whether it is a
 -- word by the break behind it and by the arrow of an arm before it; and behind documentation on a line a break comes before any text.
-use Rattle.std.specs.Prelude.{Bool, true, false, cond, ◌&&◌, ◌||◌, ◌==◌, not, ℕ, List, [], ◌∷◌, ◌++◌, codes, Option, Some, None}
+use Rattle.std.specs.Prelude.{Bool, true, false, cond, ◌&&◌, ◌||◌, ◌==◌, not, ℕ, List, [], ◌∷◌, codes, Option, Some, None}
 use Rattle.std.specs.Str.{bytes_eq}
 use Rattle.lay_piece.specs.Characters as char
 use Rattle.lay_piece.specs.Chars.{is_nil}

@@ -1,6 +1,5 @@
 -- What finds the units of tokens as an Emit.
-use Rattle.std.specs.Prelude.{◌≡◌, ℕ, Bool, true, false, List, [], length}
-use Rattle.lay_layout.specs.declared.layout.Tok.{Tok}
+use Rattle.std.specs.Prelude.{◌≡◌, Bool, true, false, List, [], length}
 use Rattle.lay_text.specs.declared.refusal.NoMemory.{NoMemory}
 use Rattle.lay_token.specs.declared.token.Token.{Token}
 use Rattle.lay_stream.specs.Fed.{Meanings}
@@ -13,13 +12,13 @@ pub record Seen : Type 0 where
   pub state : State
   pub failed : Bool
 
--- It was fed what makes its state of the first one, unless a call has failed. Of failures nothing else is said.
+-- It was fed what makes its state of the first one, unless a call has failed. The tokens and the flag are kept.
 abbrev pub mark_meanings : Meanings Seen NoMemory
 mark_meanings = record {
   fed = λ x start s. x.failed ≡ false → x.state ≡ fed_all s (begun x.tokens x.shebang);
   groups = λ x. length x.state.outer;
   faults = λ x. 0;
   failed = λ x. x.failed ≡ true;
-  cause = λ old fault new. Unit {0};
+  cause = λ old fault new. (old.tokens ≡ new.tokens) × (old.shebang ≡ new.shebang);
   loans = λ x. [];
 }

@@ -1,6 +1,10 @@
 -- Where a unit stands in its text.
-use Rattle.std.specs.Prelude.{List, [], ◌∷◌}
+use Rattle.std.specs.Prelude.{◌≡◌, List, [], ◌∷◌, map}
+use Rattle.lay_form.specs.Spelled.{Spells}
 use Rattle.lay_token.specs.declared.token.Token.{Token}
+use Rattle.lay_code.specs.Reading.{top}
+use Rattle.lay_code.specs.nodes.File.{form_of_file}
+use Rattle.lay_code.specs.declared.file.File.{File}
 use Rattle.lay_units.specs.Units as units
 use Rattle.lay_map.specs.Walks.{unit_from}
 use Rattle.lay_map.specs.declared.unit.Unit.{Unit}
@@ -16,3 +20,7 @@ place_of_tokens (t ∷ ts) = unit_from t (end_of t ts)
 -- from the start of its first token to the end of its last one
 abbrev pub place_of : units.Unit → Unit
 place_of u = place_of_tokens u.tokens
+
+-- These are where the units of the tokens stand that spell the file, however they spell it.
+abbrev pub ArePlaces : File → List Token → List Unit → Type 0
+ArePlaces file ts places = (s : Spells (form_of_file file) top ts []) → places ≡ map place_of (units.units (form_of_file file) top ts [] s)

@@ -1,12 +1,17 @@
 //! The laws of the map.
-ghost use Rattle.std.specs.Prelude.{◌≡◌, Bool, ℕ, List, [], false, map, true};
+ghost use Rattle.std.specs.Prelude.{◌≡◌, Bool, ℕ, List, [], false, length, map, true};
+ghost use Rattle.lay_code.specs.Reading.{top};
+ghost use Rattle.lay_code.specs.Written.{Written};
+ghost use Rattle.lay_code.specs.declared.file.File.{File};
+ghost use Rattle.lay_code.specs.nodes.File.{form_of_file};
 ghost use Rattle.lay_form.specs.Form.{Form};
 ghost use Rattle.lay_form.specs.Pieces.{are_pieces};
 ghost use Rattle.lay_form.specs.Spelled.{Spells};
 ghost use Rattle.lay_form.specs.Stream.{stream_of};
 ghost use Rattle.lay_token.specs.declared.token.Token.{Token};
 ghost use Rattle.lay_units.specs.Choice.{clear, is_level};
-ghost use Rattle.lay_units.specs.Units.{AreSingle, units, words};
+ghost use Rattle.lay_units.specs.Units.{AreSingle, said, units, words};
+ghost use Rattle.lay_read_tokens.specs.Answers.{AreLexed};
 ghost use Rattle.lay_map.specs.Flow.{At, Still, flow};
 ghost use Rattle.lay_map.specs.Marking.{begun, fed_all, units_of};
 ghost use Rattle.lay_map.specs.Places.{place_of};
@@ -17,4 +22,14 @@ pub fn found_law()
     ensures { (f : Form) (depth : ℕ) (ts : List Token) (arrow : Bool) → AreSingle ts → clear f [] true ≡ true → is_level (words f) ≡ true
         → are_pieces f ≡ true → flow (At Still false) f ≡ At Still arrow → (s : Spells f depth ts [])
         → units_of (fed_all (stream_of f) (begun ts false)) ≡ map place_of (units f depth ts [] s) }
+{}
+
+/// Two lists of tokens that spell one file have as many units, which say the same. One list that spells a file in two ways has them at the same places.
+pub fn map_law()
+    ensures said { (file : File) (ts us : List Token) → AreLexed ts → AreLexed us → (s : Spells (form_of_file file) top ts []) → (z : Spells (form_of_file file) top us [])
+        → said (units (form_of_file file) top ts [] s) ≡ said (units (form_of_file file) top us [] z) }
+    ensures number { (file : File) (ts us : List Token) → AreLexed ts → AreLexed us → (s : Spells (form_of_file file) top ts []) → (z : Spells (form_of_file file) top us [])
+        → length (units (form_of_file file) top ts [] s) ≡ length (units (form_of_file file) top us [] z) }
+    ensures once { (file : File) (ts : List Token) → Written file → AreLexed ts → (s z : Spells (form_of_file file) top ts [])
+        → map place_of (units (form_of_file file) top ts [] s) ≡ map place_of (units (form_of_file file) top ts [] z) }
 {}

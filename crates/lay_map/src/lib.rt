@@ -1,10 +1,12 @@
 //! The map from a file's text back to its source: which tokens of both say the same.
 //!
-//! `Marker` is fed a layout and finds by it the units of tokens that spell what is laid out; [`found_law`] says that these are the units that the spelling
-//! has, where the form is clear. `pairs` puts units of a source and of an output side by side. Neither is a public call yet: it isn't shown yet that
-//! the forms of all nodes are clear.
+//! [`units`] tells where the units of the tokens stand that spell a file: each token but the marks that the grammar lets stand or not, and the tokens of
+//! one documentation together. It takes no second walk over the tree: a `Marker` is fed the layout of the file and finds the units by it. [`pairs`] puts
+//! those of a source and of its output side by side. [`map_law`] says why they belong together: however a file is spelled, its units are as many, and
+//! say the same. [`found_law`] says of each form which is clear, as that of a file is, that the layout finds its units.
 #![tactic(auto)]
 
+mod files;
 mod flags;
 mod law;
 mod marker;
@@ -13,5 +15,6 @@ mod tokens;
 mod unit;
 mod walk;
 
-pub use law::found_law;
-pub use unit::{Pair, Unit};
+pub use files::units;
+pub use law::{found_law, map_law};
+pub use unit::{Pair, Unit, pairs};

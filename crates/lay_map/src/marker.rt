@@ -64,7 +64,7 @@ impl<'a> Marker<'a> {
     fn answer(&mut self, given: Result<(), NoMemory>) -> Result<(), NoMemory>
         ensures same { result ≡ given }
         ensures ok { OnOk result (self.new ≡ self.old) }
-        ensures err { OnErr result (self.new.failed ≡ true) }
+        ensures err { OnErr result (self.new ≡ record self.old { failed = true }) }
     {
         match given {
             Ok(()) => Ok(()),

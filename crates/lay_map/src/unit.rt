@@ -19,8 +19,8 @@ pub struct Pair {
     pub output: Unit,
 }
 
-/// Each unit of the source with the unit of the output that has the same number.
-pub(crate) fn pairs(alloc: Global, source: &[Unit], output: &[Unit]) -> Result<List<Pair>, NoMemory>
+/// Each unit of the source with the unit of the output that has the same number. There are as many of both.
+pub fn pairs(alloc: Global, source: &[Unit], output: &[Unit]) -> Result<List<Pair>, NoMemory>
     requires { length source.now ≡ length output.now }
     ensures { IfOk result (λ list. list ≡ paired source.now output.now) }
 {

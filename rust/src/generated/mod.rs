@@ -15,6 +15,8 @@ pub mod lay_laws;
 pub mod lay_layout;
 pub mod lay_lex;
 pub mod lay_line;
+pub mod lay_map;
+pub mod lay_mapping;
 pub mod lay_nest;
 pub mod lay_node;
 pub mod lay_ops;

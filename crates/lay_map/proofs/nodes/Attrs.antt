@@ -1,24 +1,21 @@
 -- Words, simple paths, attributes and macro calls tell their units.
-use Rattle.std.proofs.Common.{◌≡◌, ℕ, Bool, true, false, cond, not, ◌&&◌, ◌||◌, List, [], ◌∷◌, ◌++◌, codes, refl, sym, ap, ap₂, ◌∙◌, subst, map}
-use Rattle.std.specs.Prelude.{⊤}
-use Rattle.std.specs.List.{list_all}
+use Rattle.std.proofs.Common.{◌≡◌, ℕ, Bool, true, false, cond, not, ◌&&◌, ◌||◌, List, [], ◌∷◌, ◌++◌, codes, refl, sym, ap, ◌∙◌, subst, map}
 use Rattle.std.specs.Str.{is_utf8}
 use Rattle.std.proofs.lemmas.Bool.{and_parts, and_from}
 use Rattle.lay_piece.specs.Docs.{doc_form}
 use Rattle.lay_piece.specs.declared.kind.Delim.{Delim}
 use Rattle.lay_piece.specs.declared.kind.Delim.TheVariants.{Paren, Bracket, Brace}
 use Rattle.lay_piece.specs.declared.kind.Kind.TheVariants.{Ident, RawIdent}
-use Rattle.lay_form.specs.Form.{Bit, Blank, Operator, Hard, Form, Done, Piece, Leaf, Brk, Part, Docs, keyword, closer}
-use Rattle.lay_form.specs.Layout.{break_of, is_block}
-use Rattle.lay_form.specs.Notation.{H, piece, when, behind_attrs}
+use Rattle.lay_form.specs.Form.{Bit, Blank, Operator, Form, Done, Piece, Part, Docs, keyword, closer}
+use Rattle.lay_form.specs.Layout.{is_block}
+use Rattle.lay_form.specs.Notation.{H, when, behind_attrs}
 use Rattle.lay_form.specs.Pieces.{are_pieces}
 use Rattle.lay_form.specs.Spelled.{attr_opening}
 use Rattle.lay_node.specs.Words.{colons, leaf_of}
-use Rattle.lay_node.specs.nodes.Attr.{are_attrs, attr_form, attr_part, behind_attr, input_form, is_attr, is_empty, is_input, is_line, meta_path_form, same_flag}
+use Rattle.lay_node.specs.nodes.Attr.{are_attrs, attr_form, attr_part, input_form, is_attr, is_empty, is_input, meta_path_form}
 use Rattle.lay_node.specs.nodes.Call.{about_call, bang, call_form, is_group}
 use Rattle.lay_node.specs.nodes.SimplePath.{are_simple_words, is_simple_path, simple_path_form, simple_words_form}
 use Rattle.lay_node.specs.tokens.Lexed.{is_token_list}
-use Rattle.lay_node.specs.tokens.Listing.{is_doc_text}
 use Rattle.lay_node.specs.declared.attr.Attr.{Attr}
 use Rattle.lay_node.specs.declared.attr.Attr.TheVariants as attr
 use Rattle.lay_node.specs.declared.attr.MetaInput.{MetaInput}
@@ -28,17 +25,17 @@ use Rattle.lay_node.specs.declared.attr.MetaPath.TheVariants as meta_path
 use Rattle.lay_node.specs.declared.simple_path.SimplePath.{SimplePath}
 use Rattle.lay_node.specs.declared.token.Word.{Word}
 use Rattle.lay_node.specs.declared.tokens.MacroCall.{MacroCall}
-use Rattle.lay_units.specs.Choice.{calm, clear, firm, firm_bits}
+use Rattle.lay_units.specs.Choice.{calm, clear, firm_bits}
 use Rattle.lay_units.specs.Units as units
 use Rattle.lay_units.specs.Units.{words}
-use Rattle.lay_map.specs.Flow.{Wait, Still, Said, Laid, InLine, Flow, Lost, At, break_flow, flow}
-use Rattle.lay_map.proofs.BodyRules.{Calms, Lined, Rest, calms_brk, calms_part, firm_calms, is_rest, line_rest, lined}
-use Rattle.lay_map.proofs.Rules.{All, Any, Firm, Plain, Tells, Telling, ends, firm_brk, firm_docs, firm_fixed, firm_leaf, firm_part, fixed, leaf, part, tame}
+use Rattle.lay_map.specs.Flow.{Still, InLine, Flow, At, flow}
+use Rattle.lay_map.proofs.BodyRules.{Calms, Lined, Rest, calms_part, firm_calms, line_rest, lined}
+use Rattle.lay_map.proofs.Rules.{All, Closing, Firm, Tells, all_of, each_of, ends, firm_docs, firm_fixed, firm_leaf, firm_part, fixed, kept_in, leaf, levels_two, part, tame}
 use Rattle.lay_map.proofs.nodes.Tokens.{group_tells, tokens_tell}
 
 -- ---- words
 
-pub word : {Next : List units.Word → Type 0} {f : Form} (raw : Bool) (text : List ℕ) → Tells Next f → Tells Next (leaf_of raw text f)
+pub word : {Next : List units.Word → Type 0} {n : ℕ} {f : Form} (raw : Bool) (text : List ℕ) → Closing Next n f → Closing Next n (leaf_of raw text f)
 word true text t = leaf RawIdent text refl t
 word false text t = leaf Ident text refl t
 
@@ -47,7 +44,8 @@ firm_word f true text = firm_leaf RawIdent text refl
 firm_word f false text = firm_leaf Ident text refl
 
 -- pieces that are there or not
-pub whenever : {Next : List units.Word → Type 0} {f : Form} (there : Bool) (bits : List Bit) → tame bits ≡ true → Tells Next f → Tells Next (when there bits f)
+pub whenever : {Next : List units.Word → Type 0} {n : ℕ} {f : Form} (there : Bool) (bits : List Bit) → tame bits ≡ true → Closing Next n f
+    → Closing Next n (when there bits f)
 whenever true bits h t = fixed bits h t
 whenever false bits h t = t
 
@@ -112,16 +110,12 @@ meta_tells : {Next : List units.Word → Type 0} (inner : Bool) (path : MetaPath
     → Tells Next (attr_form (attr.Meta inner path given))
 meta_tells inner path given h = opening_tells inner (part (meta_path_tells path) (input_tells given h (fixed (closer Bracket ∷ []) refl ends)))
 
--- what waits behind documentation
-doc_wait : Bool → Wait
-doc_wait true = Still
-doc_wait false = InLine
-
 doc_lined : (inner : Bool) (text : List ℕ) → Lined (Docs inner text Done)
 doc_lined inner text = record {
   go = λ w. record {
     flows = λ a. by a (is_block (doc_form inner text)) refl;
     clears = λ ws b. refl;
+    levels = λ x. record { shut_is = refl; leaves = refl };
   };
 }
   where
@@ -141,19 +135,15 @@ attr_firm (attr.Doc flag text) = firm_docs flag text
 attr_firm (attr.Meta flag path given) = opening_firm flag
 
 pub attrs_lined : (inner : Bool) (attrs : List Attr) → are_attrs inner attrs ≡ true → All Lined (map attr_form attrs)
-attrs_lined inner [] h = tt
-attrs_lined inner (x ∷ xs) h =
-    let p = and_parts (is_attr inner x) (are_attrs inner xs) h in
-    (attr_lined inner x p.0, attrs_lined inner xs p.1)
+attrs_lined inner attrs h = each_of Lined attr_form (is_attr inner) (attr_lined inner) attrs h
 
 pub attrs_firm : (attrs : List Attr) → All Firm (map attr_form attrs)
-attrs_firm [] = tt
-attrs_firm (x ∷ xs) = (attr_firm x, attrs_firm xs)
+attrs_firm attrs = all_of Firm attr_form attr_firm attrs
 
 -- ---- behind attributes
 
-behind_lined : {Next : List units.Word → Type 0} {e f : Form} → Lined e → Tells Next f → Tells Next (Part e (H f))
-behind_lined {Next} {e} {f} l t = record {
+behind_lined : {Next : List units.Word → Type 0} {m : ℕ} {e f : Form} → Lined e → Closing Next m f → Closing Next m (Part e (H f))
+behind_lined {Next} {m} {e} {f} l t = record {
   go = λ w.
       let p = and_parts (are_pieces e) (are_pieces f) w in
       let u = l.go p.0 in
@@ -161,10 +151,11 @@ behind_lined {Next} {e} {f} l t = record {
       record {
         flows = λ a. ap (λ (s : Flow). flow s f) (line_rest false a (flow (At Still a) e) (u.flows a)) ∙ v.flows a;
         clears = λ ws b n. and_from (clear e (words f ++ ws) (calm f b)) (clear f ws b) (u.clears (words f ++ ws) (calm f b)) (v.clears ws b n);
+        levels = λ x. levels_two (words e) (words f) (u.levels (kept_in m x)) (v.levels x);
       };
 }
 
-pub attrs_then : {Next : List units.Word → Type 0} {f : Form} (es : List Form) → All Lined es → Tells Next f → Tells Next (behind_attrs es f)
+pub attrs_then : {Next : List units.Word → Type 0} {n : ℕ} {f : Form} (es : List Form) → All Lined es → Closing Next n f → Closing Next n (behind_attrs es f)
 attrs_then [] l t = t
 attrs_then (e ∷ es) l t = behind_lined l.0 (attrs_then es l.1 t)
 
@@ -192,6 +183,7 @@ doc_part {Next} {f} own text t = by (is_block (doc_form false text)) refl own
           record {
             flows = λ a. ap (λ (x : Bool). flow (At (cond x Still InLine) a) (Piece (Blank ∷ []) f)) e ∙ v.flows a;
             clears = λ ws b n. v.clears ws b n;
+            levels = λ x. let l = v.levels x in record { shut_is = l.shut_is; leaves = l.leaves };
           };
     }
 

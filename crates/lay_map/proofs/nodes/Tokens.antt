@@ -3,18 +3,18 @@ use Rattle.std.proofs.Common.{◌≡◌, ℕ, Bool, true, false, cond, not, ◌&
 use Rattle.std.specs.Prelude.{⊤}
 use Rattle.std.specs.List.{list_all}
 use Rattle.std.specs.Str.{bytes_eq, is_utf8}
-use Rattle.std.proofs.lemmas.Bool.{and_parts, and_from}
+use Rattle.std.proofs.lemmas.Bool.{and_parts, and_from, not-true}
 use Rattle.std.proofs.lemmas.List.Folds.{list_all-append}
 use Rattle.lay_piece.specs.Docs.{doc_form}
 use Rattle.lay_piece.specs.declared.kind.Delim.{Delim}
 use Rattle.lay_piece.specs.declared.kind.Delim.TheVariants.{Paren, Bracket, Brace}
 use Rattle.lay_piece.specs.declared.kind.Kind.{Kind}
-use Rattle.lay_piece.specs.declared.kind.Kind.TheVariants.{Punct, Opener, Closer, Doc}
+use Rattle.lay_piece.specs.declared.kind.Kind.TheVariants.{Opener, Closer, Doc}
 use Rattle.lay_token.specs.Delimiters.{is_opener, is_closer}
 use Rattle.lay_token.specs.Lexes.{is_punct}
-use Rattle.lay_form.specs.Form.{Soft, Hard, Form, Done, Piece, Listed, ListedDoc, Brk, Group, Part, opener, closer}
-use Rattle.lay_form.specs.Layout.{break_of, is_block}
-use Rattle.lay_form.specs.Notation.{B, H, I0, piece}
+use Rattle.lay_form.specs.Form.{Form, Done, Piece, Listed, ListedDoc, Group, Part, opener, closer}
+use Rattle.lay_form.specs.Layout.{is_block}
+use Rattle.lay_form.specs.Notation.{I0, piece}
 use Rattle.lay_form.specs.Pieces.{is_text_of, are_pieces}
 use Rattle.lay_node.specs.tokens.Lexed.{fits, is_had, is_token_list}
 use Rattle.lay_node.specs.tokens.Listing.{kind_of, is_doc_kind, listed_form, Grouping, NoMore, OneToken, OneGroup, in_groups}
@@ -24,11 +24,11 @@ use Rattle.lay_node.specs.declared.token.Listed.{Listed as ListedToken}
 use Rattle.lay_node.specs.declared.token.Listed.TheVariants as listed
 use Rattle.lay_node.specs.declared.tokens.Group.{Group as TokenGroup}
 use Rattle.lay_node.proofs.token_lists.Grouped.{InGroups, closer_token, flat, list_grouped}
-use Rattle.lay_units.specs.Choice.{calm, clear, is_settled, opens}
+use Rattle.lay_units.specs.Choice.{calm, clear, closes, is_settled, opens}
 use Rattle.lay_units.specs.Units.{Word, Told, words}
-use Rattle.lay_map.specs.Flow.{Wait, Still, Said, Laid, InLine, Flow, Lost, At, are_comma, break_flow, doc_flow, entered, flow, group_flow, is_open, leaf_flow, left, piece_flow}
+use Rattle.lay_map.specs.Flow.{Wait, Still, Said, Laid, InLine, Flow, Lost, At, are_comma, entered, flow, group_flow, is_open, leaf_flow, left}
 use Rattle.lay_map.proofs.PieceLemmas.{listed_texts}
-use Rattle.lay_map.proofs.Rules.{Any, Plain, Tells, Telling}
+use Rattle.lay_map.proofs.Rules.{Closing, Levels, Tells, kept_in, levels_behind, levels_two, no_levels}
 
 -- ---- what stands between two tokens
 
@@ -120,17 +120,13 @@ abbrev is_single : ListedToken → Bool
 is_single (listed.Token kind text joint) = not (is_doc_kind kind)
 is_single (listed.Doc inner text) = true
 
-not_so : (b : Bool) → not b ≡ true → b ≡ false
-not_so false h = refl
-not_so true h = absurd (cc h)
-
 -- what waits behind a single token
 token_flow : (s : Seen) (t : ListedToken) (f : Form) (a : Bool) (w : Wait) → is_open w ≡ true → is_single t ≡ true → are_pieces (listed_form t f) ≡ true
     → (v : Wait) × Waits (seen_token s t) v × (flow (At w a) (listed_form t f) ≡ flow (At v a) f)
 token_flow s (listed.Token kind text joint) f a w o n p = by (bytes_eq text (codes ",")) refl
   where
     known : (bytes_eq text (codes ",") ≡ true → is_punct kind ≡ true) × (bytes_eq text (codes " => ") ≡ false)
-    known = listed_texts kind text (not_so (is_doc_kind kind) n) (and_parts (is_text_of kind text) (are_pieces f) p).0
+    known = listed_texts kind text (not-true (is_doc_kind kind) n) (and_parts (is_text_of kind text) (are_pieces f) p).0
 
     -- the flow of a token that is no documentation
     flows : (k : Kind) → is_doc_kind k ≡ false
@@ -144,7 +140,7 @@ token_flow s (listed.Token kind text joint) f a w o n p = by (bytes_eq text (cod
       Said,
       refl,
       ap (λ (x : Flow). flow x f)
-          (flows kind (not_so (is_doc_kind kind) n)
+          (flows kind (not-true (is_doc_kind kind) n)
           ∙ ap₂ (λ (x y : Bool). cond x (cond y (cond (is_punct kind && y) (At Said a) Lost) (At Still (bytes_eq text (codes " => ") || a))) Lost) o e
           ∙ ap (λ (x : Bool). cond (x && true) (At Said a) Lost) (known.0 e)),
     )
@@ -152,7 +148,7 @@ token_flow s (listed.Token kind text joint) f a w o n p = by (bytes_eq text (cod
       Still,
       tt,
       ap (λ (x : Flow). flow x f)
-          (flows kind (not_so (is_doc_kind kind) n)
+          (flows kind (not-true (is_doc_kind kind) n)
           ∙ ap₂ (λ (x y : Bool). cond x (cond y (cond (is_punct kind && y) (At Said a) Lost) (At Still (bytes_eq text (codes " => ") || a))) Lost) o e
           ∙ ap (λ (x : Bool). At Still (x || a)) known.1),
     )
@@ -315,28 +311,19 @@ token_calm : (t : ListedToken) (f : Form) (b : Bool) → is_opener (kind_of t) �
 token_calm (listed.Token kind text joint) f b h = ap (λ (x : Bool). cond x (calm f b) true) (no_opening kind h)
 token_calm (listed.Doc inner text) f b h = refl
 
--- what closes a group is calm
-closed_calm : (line : Bool) (d : Delim) → calm (closed_by line d (piece (closer d ∷ []))) true ≡ true
-closed_calm true Paren = refl
-closed_calm true Bracket = refl
-closed_calm true Brace = refl
-closed_calm false Paren = refl
-closed_calm false Bracket = refl
-closed_calm false Brace = refl
-
--- whatever follows
-closed_calm_at : (line : Bool) (d : Delim) (b : Bool) → calm (closed_by line d (piece (closer d ∷ []))) b ≡ true
-closed_calm_at true Paren b = refl
-closed_calm_at true Bracket b = refl
-closed_calm_at true Brace b = refl
-closed_calm_at false Paren b = refl
-closed_calm_at false Bracket b = refl
-closed_calm_at false Brace b = refl
+-- what closes a group is calm, whatever follows
+closed_calm : (line : Bool) (d : Delim) (b : Bool) → calm (closed_by line d (piece (closer d ∷ []))) b ≡ true
+closed_calm true Paren b = refl
+closed_calm true Bracket b = refl
+closed_calm true Brace b = refl
+closed_calm false Paren b = refl
+closed_calm false Bracket b = refl
+closed_calm false Brace b = refl
 
 within_calm : (d : Delim) (inner : Form) (line : Bool) (b : Bool) → ((c : Bool) → c ≡ true → calm inner c ≡ true) → calm (within d inner line) b ≡ true
-within_calm Paren inner line b k = k (calm (closed_by line Paren (piece (closer Paren ∷ []))) b) (closed_calm_at line Paren b)
-within_calm Bracket inner line b k = k (calm (closed_by line Bracket (piece (closer Bracket ∷ []))) b) (closed_calm_at line Bracket b)
-within_calm Brace inner line b k = k (calm (closed_by line Brace (piece (closer Brace ∷ []))) b) (closed_calm_at line Brace b)
+within_calm Paren inner line b k = k (calm (closed_by line Paren (piece (closer Paren ∷ []))) b) (closed_calm line Paren b)
+within_calm Bracket inner line b k = k (calm (closed_by line Bracket (piece (closer Bracket ∷ []))) b) (closed_calm line Bracket b)
+within_calm Brace inner line b k = k (calm (closed_by line Brace (piece (closer Brace ∷ []))) b) (closed_calm line Brace b)
 
 opener_calm : (d : Delim) (f : Form) (b : Bool) → calm f b ≡ true → calm (Piece (opener d ∷ []) f) b ≡ true
 opener_calm Paren f b h = refl
@@ -436,6 +423,87 @@ grouping_clear (OneGroup d i r) s n ws b =
     (λ c k. grouping_calm i (at_start s.count) c n.0 k) (λ vs c. grouping_clear i (at_start s.count) n.0 vs c)
     (behind_clear (form_of_grouping next r) ws b (λ vs c. grouping_clear r next n.1 vs c)))
 
+-- ---- braces among the words
+
+no_closing : (k : Kind) → is_closer k ≡ false → closes k ≡ false
+no_closing (Closer d) h = absurd (cc h)
+no_closing _ h = refl
+
+lead_level : (s : Separation) (f : Form) {x y : List Bool} → Levels (words f) x y → Levels (words (leads s f)) x y
+lead_level NoBreak f l = l
+lead_level SoftBreak f l = l
+lead_level HardBreak f l = l
+
+token_level : (t : ListedToken) (f : Form) {x y : List Bool} → is_opener (kind_of t) ≡ false → is_closer (kind_of t) ≡ false → Levels (words f) x y
+    → Levels (words (listed_form t f)) x y
+token_level (listed.Token kind text joint) f o c l = levels_behind kind text (words f) (no_opening kind o) (no_closing kind c) l
+token_level (listed.Doc inner text) f o c l = record { shut_is = l.shut_is; leaves = l.leaves }
+
+-- the kept braces within a group
+abbrev enclosed_in : Delim → List Bool → List Bool
+enclosed_in Brace x = true ∷ x
+enclosed_in _ x = x
+
+opener_level : (d : Delim) (f : Form) (x : List Bool) {y : List Bool} → Levels (words f) (enclosed_in d x) y
+    → Levels (words (Piece (opener d ∷ []) f)) x y
+opener_level Paren f x l = record { shut_is = l.shut_is; leaves = l.leaves }
+opener_level Bracket f x l = record { shut_is = l.shut_is; leaves = l.leaves }
+opener_level Brace f x l = record { shut_is = l.shut_is; leaves = l.leaves }
+
+closed_level : (line : Bool) (d : Delim) (x : List Bool) → Levels (words (closed_by line d (piece (closer d ∷ [])))) (enclosed_in d x) x
+closed_level true Paren x = record { shut_is = refl; leaves = refl }
+closed_level true Bracket x = record { shut_is = refl; leaves = refl }
+closed_level true Brace x = record { shut_is = refl; leaves = refl }
+closed_level false Paren x = record { shut_is = refl; leaves = refl }
+closed_level false Bracket x = record { shut_is = refl; leaves = refl }
+closed_level false Brace x = record { shut_is = refl; leaves = refl }
+
+within_level : (d : Delim) (inner : Form) (line : Bool) (x : List Bool) → ((y : List Bool) → Levels (words inner) y y)
+    → Levels (words (within d inner line)) (enclosed_in d x) x
+within_level d inner line x k = by d
+  where
+    both : (e : Delim) → Levels (words (I0 inner (closed_by line e (piece (closer e ∷ []))))) (enclosed_in e x) x
+    both e = levels_two (words inner) (words (closed_by line e (piece (closer e ∷ [])))) (k (enclosed_in e x)) (closed_level line e x)
+
+    by : (e : Delim) → Levels (words (within e inner line)) (enclosed_in e x) x
+    by Paren = both Paren
+    by Bracket = both Bracket
+    by Brace = both Brace
+
+full_level : (d : Delim) (inner f : Form) (line : Bool) (x : List Bool) {y : List Bool} → ((z : List Bool) → Levels (words inner) z z) → Levels (words f) x y
+    → Levels (words (Group true 4 (Piece (opener d ∷ []) (within d inner line)) f)) x y
+full_level d inner f line x k l =
+    levels_two (words (Piece (opener d ∷ []) (within d inner line))) (words f) (opener_level d (within d inner line) x (within_level d inner line x k)) l
+
+empty_level : (d : Delim) (f : Form) (x : List Bool) {y : List Bool} → Levels (words f) x y → Levels (words (Piece (opener d ∷ closer d ∷ []) f)) x y
+empty_level Paren f x l = record { shut_is = l.shut_is; leaves = l.leaves }
+empty_level Bracket f x l = record { shut_is = l.shut_is; leaves = l.leaves }
+empty_level Brace f x l = record { shut_is = l.shut_is; leaves = l.leaves }
+
+enclosed_level : (d : Delim) (i : Grouping) (inner f : Form) (line : Bool) (x : List Bool) {y : List Bool} → ((z : List Bool) → Levels (words inner) z z)
+    → Levels (words f) x y → Levels (words (enclosed_form d i line inner f)) x y
+enclosed_level d NoMore inner f line x k l = empty_level d f x l
+enclosed_level d (OneToken t r) inner f line x k l = full_level d inner f line x k l
+enclosed_level d (OneGroup e i r) inner f line x k l = full_level d inner f line x k l
+
+behind_level : (i : Form) (x : List Bool) → Levels (words i) x x → Levels (words (Part i Done)) x x
+behind_level i x l = levels_two (words i) [] l (no_levels x)
+
+grouping_level : (g : Grouping) (s : Seen) → InGroups g → (x : List Bool) → Levels (words (form_of_grouping s g)) x x
+grouping_level NoMore s n x = no_levels x
+grouping_level (OneToken t r) s n x =
+    let f = form_of_grouping (seen_token s t) r in
+    lead_level (between s (Single t)) (listed_form t (Part f Done))
+    (token_level t (Part f Done) n.0 n.1 (behind_level f x (grouping_level r (seen_token s t) n.2 x)))
+grouping_level (OneGroup d i r) s n x =
+    let end = seen_all (at_start s.count) i in
+    let inner = form_of_grouping (at_start s.count) i in
+    let next = behind_group d end.count in
+    let f = form_of_grouping next r in
+    lead_level (between s (Enclosed d)) (enclosed_form d i (is_line_doc end.last) inner (Part f Done))
+    (enclosed_level d i inner (Part f Done) (is_line_doc end.last) x (λ y. grouping_level i (at_start s.count) n.0 y)
+    (behind_level f x (grouping_level r next n.1 x)))
+
 -- ---- lists
 
 single_of : (place : Bool) (t : ListedToken) → is_had place t ≡ true → is_single t ≡ true
@@ -482,12 +550,17 @@ tokens_tell us h = record {
         clears = λ ws b n.
             and_from (clear inner (words (ended_by line) ++ ws) (calm (ended_by line) b)) (clear (ended_by line) ws b)
             (grouping_clear (in_groups us) (at_start 0) l.groups (words (ended_by line) ++ ws) (calm (ended_by line) b)) (end_clear line ws b);
+        levels = λ x. levels_two (words inner) (words (ended_by line)) (grouping_level (in_groups us) (at_start 0) l.groups x) (end_level line x);
       };
 }
   where
     end_clear : (line : Bool) (ws : List Word) (b : Bool) → clear (ended_by line) ws b ≡ true
     end_clear true ws b = refl
     end_clear false ws b = refl
+
+    end_level : (line : Bool) (x : List Bool) → Levels (words (ended_by line)) x x
+    end_level true x = no_levels x
+    end_level false x = no_levels x
 
     at : (line : Bool) (a : Bool) (w : Wait) → (x : Bool) → x ≡ line → WaitsBy x w
         → flow (left (At Still a) (group_flow (At w false))) (ended_by line) ≡ At Still a
@@ -507,8 +580,9 @@ tokens_tell us h = record {
     ended line a InLine e k = at line a InLine (is_line_doc (seen_all (at_start 0) (in_groups us)).last) e k
 
 -- a group, and what follows it
-pub group_tells : {Next : List Word → Type 0} {f : Form} (g : TokenGroup) → is_token_list g.tokens ≡ true → Tells Next f → Tells Next (group_form g f)
-group_tells {Next} {f} g h t = record {
+pub group_tells : {Next : List Word → Type 0} {m : ℕ} {f : Form} (g : TokenGroup) → is_token_list g.tokens ≡ true → Closing Next m f
+    → Closing Next m (group_form g f)
+group_tells {Next} {m} {f} g h t = record {
   go = λ w.
       let l = in_list g.tokens h in
       let i = in_groups g.tokens in
@@ -521,5 +595,6 @@ group_tells {Next} {f} g h t = record {
         clears = λ ws b n.
             enclosed_clear g.delim i inner f (ends_in_line g.tokens) ws b (λ c e. grouping_calm i (at_start 0) c l.groups e)
             (λ vs c. grouping_clear i (at_start 0) l.groups vs c) (u.clears ws b n);
+        levels = λ x. enclosed_level g.delim i inner f (ends_in_line g.tokens) (kept_in m x) (λ y. grouping_level i (at_start 0) l.groups y) (u.levels x);
       };
 }

@@ -9,6 +9,7 @@ use crate::generated::lay_code::File;
 use crate::generated::lay_files::{FileError, read_bytes, write_file};
 use crate::generated::lay_io::{Inputs, ReadError, Sink, Which, read_all};
 use crate::generated::lay_line::{Line, line};
+use crate::generated::lay_mapping::write_map;
 use crate::generated::lay_printer::PrintError;
 use crate::generated::lay_token::{List, NoMemory, Refusal, Text};
 use crate::shims::Global;
@@ -16,7 +17,8 @@ use core::mem::forget;
 /// How a run comes out.
 #[derive(Clone, Copy, Debug, PartialEq, Eq,)]
 pub enum Status {
-    /// The text was written whole; or the input was checked, and is its text; or the sample was summed up.
+    /// The text was written whole; or the input was checked, and is its text; or its map was written whole; or the sample was summed
+    /// up.
     Done,
     /// The input was checked, and isn't its text. Nothing was written.
     Differs,
@@ -26,18 +28,19 @@ pub enum Status {
     ReadFailed,
     /// The input reads to no file. Nothing was written.
     Refused(Refusal),
-    /// A write failed. A prefix of the text was written.
+    /// A write failed. A prefix of what is to be written was written.
     WriteFailed,
     /// The input holds more than 16 MiB. Nothing was written.
     TooLong,
-    /// Memory was not found. A prefix of the text was written.
+    /// Memory was not found. A prefix of what is to be written was written.
     NoMemory,
 }
 /// The greatest input of the command, in bytes.
 pub const LIMIT: usize = 16_777_216;
-/// Runs the command with its words, without the program's name: `[FILE]` writes the text of an input to `out`, and
-/// `--check [FILE]` tells whether the input is its text, and `--sample SEED --items N` makes a sample, formats it, and
-/// writes one line that sums it up. Every other outcome is told in one line on `err`.
+/// Runs the command with its words, without the program's name: `[FILE]` writes the text of an input to `out`,
+/// `--check [FILE]` tells whether the input is its text, `--map [FILE]` writes where what the input says stands in its text, and
+/// `--sample SEED --items N` makes a sample, formats it, and writes one line that sums it up. Every other outcome is told in one
+/// line on `err`.
 ///
 /// The program is to end behind its run: what an input was read to isn't taken apart, and its memory not given back.
 pub fn run<
@@ -71,6 +74,7 @@ fn execute<
         Ok(Line::Usage) => Err(Stop::Usage),
         Ok(Line::Format(which)) => format_input(alloc, which, inputs, out),
         Ok(Line::Check(which)) => check_input(alloc, which, inputs),
+        Ok(Line::Map(which)) => map_input(alloc, which, inputs, out),
         Ok(Line::Sample { seed, items }) => sum_up_sample(alloc, seed, items, out),
         Err(NoMemory) => Err(Stop::NoMemory),
     }
@@ -106,6 +110,23 @@ fn check_input<
         Ok(true) => Ok(()),
         Ok(false) => Err(Stop::Differs),
         Err(NoMemory) => Err(Stop::NoMemory),
+    }
+}
+/// Writes where what an input says stands in its text.
+fn map_input<
+    I: Inputs,
+    K: Sink,
+>(alloc: Global, which: Which, inputs: &mut I, out: &mut K) -> Result<(), Stop> {
+    let given = match read_input(alloc, which, inputs) {
+        Ok(given) => given,
+        Err(stop) => return Err(stop),
+    };
+    let written = write_map(alloc, given.0.as_slice(), &given.1, out);
+    forget(given);
+    match written {
+        Ok(()) => Ok(()),
+        Err(PrintError::WriteFailed) => Err(Stop::WriteFailed),
+        Err(PrintError::NoMemory) => Err(Stop::NoMemory),
     }
 }
 /// The bytes of an input, and the file that they read to.

@@ -23,7 +23,7 @@ fn write_line<E: Sink>(stop: Stop, err: &mut E) -> Result<(), Failed> {
     match stop {
         Stop::Usage => {
             err.write(
-                b"usage: lay_fmt [--check] [FILE] or lay_fmt --sample SEED --items N\n",
+                b"usage: lay_fmt [--check | --map] [FILE] or lay_fmt --sample SEED --items N\n",
             )
         }
         Stop::ReadFailed => err.write(b"read failed\n"),

@@ -21,15 +21,20 @@ pub fn matches<
         }
     }
 }
-/// The flag `--check`, the options `--sample` and `--items` and one optional file, of words that don't begin with the
-/// program's name.
+/// The flags `--check` and `--map`, the options `--sample` and `--items` and one optional file, of words that don't begin
+/// with the program's name.
 fn command<'a>(alloc: Global) -> Result<Command<'a>, AllocError> {
-    let check = Arg::new(alloc, "check").long("check").action(ArgAction::SetTrue);
+    let check = flag(alloc, "check");
+    let map = flag(alloc, "map");
     let sample = option(alloc, "sample");
     let items = option(alloc, "items");
     let file = Arg::new(alloc, "file");
     let bare = Command::new(alloc, "lay_fmt").no_binary_name(true);
-    bare.arg(check)?.arg(sample)?.arg(items)?.arg(file)
+    bare.arg(check)?.arg(map)?.arg(sample)?.arg(items)?.arg(file)
+}
+/// A flag of this long name.
+fn flag<'a>(alloc: Global, name: &'a str) -> Arg<'a> {
+    Arg::new(alloc, name).long(name).action(ArgAction::SetTrue)
 }
 /// An option of this long name, which takes one value.
 fn option<'a>(alloc: Global, name: &'a str) -> Arg<'a> {

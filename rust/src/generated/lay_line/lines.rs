@@ -11,6 +11,8 @@ pub enum Line {
     Format(Which),
     /// `--check [FILE]`: it is asked whether this input is its own text.
     Check(Which),
+    /// `--map [FILE]`: it is asked where what this input says stands in its text.
+    Map(Which),
     /// `--sample SEED --items N`: a sample of N items is wanted, drawn from SEED.
     Sample {
         /// SEED, which any number of 64 bits may be.

@@ -5,7 +5,7 @@ use Rattle.lay_sample.specs.Sample.{sample_text}
 use Rattle.lay_front.specs.Inputs.{given_to}
 use Rattle.lay_front.proofs.SampleLemmas.{sample_done, sample_refused}
 use Rattle.lay_front.proofs.OutcomeLemmas.{complete}
-use Rattle.lay_front.proofs.RunLemmas.{check_differs, check_done, chosen_or, done_says, line_check, line_format, line_refused, line_sample, line_too_long, line_unread, line_usage, says}
+use Rattle.lay_front.proofs.RunLemmas.{check_differs, check_done, chosen_or, done_says, map_done, line_check, line_format, line_map, line_refused, line_sample, line_too_long, line_unread, line_usage, says}
 use Rattle.lay_front.proofs.command.run.Goals as goal
 
 pub returns-clause-usage : goal.returns-clause-usage
@@ -75,6 +75,13 @@ returns-clause-complete_differs g c = rw c.status_after.ensures (λ which bytes 
     (line_of c.args.words.now) _ c.execute-ended.ensures.run which e in
     check_differs g.I.Inputs.left g.I.Inputs.faults which c.args.inputs.now c.execute-ended.new.inputs bytes no_read given _ file run.0 within r other)
 
+pub returns-clause-complete_map : goal.returns-clause-complete_map
+returns-clause-complete_map g c = rw c.status_after.ensures (λ which bytes lines file e no_read no_write given within m.
+    let run = line_map g.K.Sink.written g.K.Sink.faults g.I.Inputs.left g.I.Inputs.faults c.args.inputs.now c.execute-ended.new.inputs c.args.out.now c.execute-ended.new.out
+    (line_of c.args.words.now) _ c.execute-ended.ensures.run which e in
+    map_done g.I.Inputs.left g.I.Inputs.faults which c.args.inputs.now c.execute-ended.new.inputs bytes no_read given
+    g.K.Sink.written g.K.Sink.faults c.args.out.now c.execute-ended.new.out _ file lines run no_write within m)
+
 pub returns-clause-complete_refused : goal.returns-clause-complete_refused
 returns-clause-complete_refused g c = rw c.status_after.ensures (λ which bytes refusal e no_read given within r.
     line_refused g.I.Inputs.left g.I.Inputs.faults which c.args.inputs.now c.execute-ended.new.inputs bytes no_read given
@@ -84,6 +91,11 @@ pub returns-clause-complete_too_long : goal.returns-clause-complete_too_long
 returns-clause-complete_too_long g c = rw c.status_after.ensures (λ which bytes e no_read given above.
     line_too_long g.I.Inputs.left g.I.Inputs.faults which c.args.inputs.now c.execute-ended.new.inputs bytes no_read given
     g.K.Sink.written g.K.Sink.faults c.args.out.now c.execute-ended.new.out (line_of c.args.words.now) _ c.execute-ended.ensures.run e above)
+
+pub returns-clause-map : goal.returns-clause-map
+returns-clause-map g c = rw c.status_after.ensures
+    (line_map g.K.Sink.written g.K.Sink.faults g.I.Inputs.left g.I.Inputs.faults c.args.inputs.now c.execute-ended.new.inputs c.args.out.now c.execute-ended.new.out
+    (line_of c.args.words.now) _ c.execute-ended.ensures.run)
 
 pub returns-clause-sample : goal.returns-clause-sample
 returns-clause-sample g c = rw c.status_after.ensures (λ seed items e.

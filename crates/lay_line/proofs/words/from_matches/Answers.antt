@@ -8,22 +8,23 @@ use Rattle.lay_line.specs.Line.{is_set, line_for, line_of_matches}
 use Rattle.lay_line.proofs.words.from_matches.Goals as goal
 
 -- equal values say the same
-line_for-same : {a b : Bool} {s t i j f g : Option (List ℕ)} → a ≡ b → s ≡ t → i ≡ j → f ≡ g
-    → line_for a s i f ≡ line_for b t j g
-line_for-same check sample items file k = line_for (check k) (sample k) (items k) (file k)
+line_for-same : {a b m n : Bool} {s t i j f g : Option (List ℕ)} → a ≡ b → m ≡ n → s ≡ t → i ≡ j → f ≡ g
+    → line_for a m s i f ≡ line_for b n t j g
+line_for-same check map sample items file k = line_for (check k) (map k) (sample k) (items k) (file k)
 
 -- the first values of the entries are those of the rows
-of_rows : (found : Found) (check : Bool) (sample items file : Option (List ℕ))
-    → check ≡ is_set (first_value found (codes "check")) → sample ≡ first_value found (codes "sample")
+of_rows : (found : Found) (check map : Bool) (sample items file : Option (List ℕ))
+    → check ≡ is_set (first_value found (codes "check")) → map ≡ is_set (first_value found (codes "map"))
+    → sample ≡ first_value found (codes "sample")
     → items ≡ first_value found (codes "items") → file ≡ first_value found (codes "file")
-    → line_for check sample items file ≡ line_of_matches (rows_of found)
-of_rows found check sample items file checked sampled counted named =
+    → line_for check map sample items file ≡ line_of_matches (rows_of found)
+of_rows found check map sample items file checked mapped sampled counted named =
     let rows = first_value-rows found in
-    line_for-same (checked ∙ ap is_set (rows (codes "check"))) (sampled ∙ rows (codes "sample"))
+    line_for-same (checked ∙ ap is_set (rows (codes "check"))) (mapped ∙ ap is_set (rows (codes "map"))) (sampled ∙ rows (codes "sample"))
     (counted ∙ rows (codes "items")) (named ∙ rows (codes "file"))
 
 pub returns : goal.returns
 returns c =
-    let same = of_rows (found_of c.args.matches.now) _ _ _ _ (c.flag-check.ensures ∙ ap is_set c.get_str.ensures)
-    c.get_str-sample.ensures c.get_str-items.ensures c.get_str-2.ensures in
+    let same = of_rows (found_of c.args.matches.now) _ _ _ _ _ (c.is_set-check.ensures ∙ ap is_set c.get_str.ensures)
+    (c.is_set-map.ensures ∙ ap is_set c.get_str-2.ensures) c.get_str-sample.ensures c.get_str-items.ensures c.get_str-3.ensures in
     IfOk-weaker c.from_values.result _ _ (λ line says. says ∙ same) c.from_values.ensures

@@ -21,20 +21,24 @@ sample_for-bounded (Some seed) None few = tt
 sample_for-bounded None items few = tt
 
 -- whatever the values are
-line_for-bounded : (check : Bool) (sample items file : Option (List ℕ)) → IsBounded (line_for check sample items file)
-line_for-bounded true None None file = tt
-line_for-bounded true None (Some items) file = tt
-line_for-bounded true (Some sample) items file = tt
-line_for-bounded false None None file = tt
-line_for-bounded false None (Some items) file = tt
-line_for-bounded false (Some sample) None file = tt
-line_for-bounded false (Some sample) (Some items) (Some file) = tt
-line_for-bounded false (Some sample) (Some items) None =
+line_for-bounded : (check map : Bool) (sample items file : Option (List ℕ)) → IsBounded (line_for check map sample items file)
+line_for-bounded true true sample items file = tt
+line_for-bounded true false None None file = tt
+line_for-bounded true false None (Some items) file = tt
+line_for-bounded true false (Some sample) items file = tt
+line_for-bounded false true None None file = tt
+line_for-bounded false true None (Some items) file = tt
+line_for-bounded false true (Some sample) items file = tt
+line_for-bounded false false None None file = tt
+line_for-bounded false false None (Some items) file = tt
+line_for-bounded false false (Some sample) None file = tt
+line_for-bounded false false (Some sample) (Some items) (Some file) = tt
+line_for-bounded false false (Some sample) (Some items) None =
     sample_for-bounded (seed_of sample) (item_count_of items) (number_within-bounded 6 most_items items)
 
 -- and whatever the matches are
 line_of_matches-bounded : (matches : List Row) → IsBounded (line_of_matches matches)
-line_of_matches-bounded matches = line_for-bounded (is_set (first_of (codes "check") matches))
+line_of_matches-bounded matches = line_for-bounded (is_set (first_of (codes "check") matches)) (is_set (first_of (codes "map") matches))
     (first_of (codes "sample") matches) (first_of (codes "items") matches) (first_of (codes "file") matches)
 
 pub returns-in-Some-2-clause-few : goal.returns-in-Some-2-clause-few

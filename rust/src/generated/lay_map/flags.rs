@@ -1,0 +1,33 @@
+//! Made by scripts/rust.sh from crates/lay_map/src/flags.rt, which is proved: change that.
+//!
+//! A stack of flags.
+use crate::shims::Vec;
+use crate::generated::lay_text::NoMemory;
+use crate::shims::Global;
+/// A stack of flags, seen with the last one first.
+pub(crate) struct Flags {
+    items: Vec<bool>,
+}
+impl Flags {
+    /// No flag. It takes no memory.
+    pub(crate) fn new(alloc: Global) -> Flags {
+        Flags { items: Vec::new(alloc) }
+    }
+    pub(crate) fn push(&mut self, flag: bool) -> Result<(), NoMemory> {
+        match self.items.push(flag) {
+            Ok(()) => Ok(()),
+            Err(_) => Err(NoMemory),
+        }
+    }
+    /// Takes the last flag away, if there is one.
+    pub(crate) fn pop(&mut self) {
+        let _ = self.items.pop();
+    }
+    /// The last flag, or `false` where there is none.
+    pub(crate) fn top(&self) -> bool {
+        match self.items.last() {
+            Some(flag) => *flag,
+            None => false,
+        }
+    }
+}

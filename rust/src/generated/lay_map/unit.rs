@@ -1,0 +1,45 @@
+//! Made by scripts/rust.sh from crates/lay_map/src/unit.rt, which is proved: change that.
+//!
+//! Units and pairs of units: where they stand.
+use crate::generated::lay_text::{List, NoMemory};
+use crate::shims::Global;
+/// Where a unit stands: from the start of its first token to the end of its last one, in bytes of the text.
+#[derive(Clone, Copy, Debug, PartialEq, Eq,)]
+pub struct Unit {
+    pub at: usize,
+    pub len: usize,
+}
+/// Where what one unit says stands in the source, and where in the output.
+#[derive(Clone, Copy, Debug, PartialEq, Eq,)]
+pub struct Pair {
+    pub source: Unit,
+    pub output: Unit,
+}
+/// Each unit of the source with the unit of the output that has the same number. There are as many of both.
+pub fn pairs(
+    alloc: Global,
+    source: &[Unit],
+    output: &[Unit],
+) -> Result<List<Pair>, NoMemory> {
+    let mut list = List::new(alloc);
+    let mut units = source;
+    let mut others = output;
+    while let Some((unit, more)) = units.split_first() {
+        match others.split_first() {
+            Some((other, behind)) => {
+                add(&mut list, *unit, *other)?;
+                units = more;
+                others = behind;
+            }
+            None => return Ok(list),
+        }
+    }
+    Ok(list)
+}
+/// Adds a pair at the end.
+fn add(list: &mut List<Pair>, source: Unit, output: Unit) -> Result<(), NoMemory> {
+    match list.push(Pair { source, output }) {
+        Ok(()) => Ok(()),
+        Err(_) => Err(NoMemory),
+    }
+}
