@@ -70,6 +70,7 @@ def cases(path, folder):
     """What is wanted, what is run in words, and how it is run."""
     file = lambda name: {"words": [path[name]]}
     check = lambda name: {"words": ["--check", path[name]]}
+    mapped = lambda name, **more: {"words": ["--map", path[name]], **more}
     piped = lambda name, **more: {"words": [], "stdin": path[name], **more}
     return [
         (0, "a file", file("unformatted")),
@@ -77,6 +78,7 @@ def cases(path, folder):
         (0, "an input of 16 MiB", piped("long_as_may_be")),
         (0, "--check of a file that is formatted", check("formatted")),
         (0, "--check of standard input that is formatted", {**piped("formatted"), "words": ["--check"]}),
+        (0, "--map of a file", mapped("unformatted")),
         (1, "--check of a file that isn't formatted", check("unformatted")),
         (1, "--check of standard input that isn't formatted", {**piped("unformatted"), "words": ["--check"]}),
         (2, "an unknown flag", {"words": ["--unknown"]}),
@@ -91,10 +93,12 @@ def cases(path, folder):
         (4, "--check of a file with no item", check("refused")),
         (5, "a full device", piped("unformatted", stdout=full_device)),
         (5, "a full device, and more than is gathered", piped("many_items", stdout=full_device)),
+        (5, "--map, and a full device", mapped("unformatted", stdout=full_device)),
         (5, "a closed pipe", piped("unformatted", stdout=closed_pipe)),
         (5, "a closed pipe, and more than is gathered", piped("many_items", stdout=closed_pipe)),
         (6, "a file of one byte more than 16 MiB", file("too_long")),
         (6, "standard input of one byte more than 16 MiB", piped("too_long")),
+        (6, "--map of a file of one byte more than 16 MiB", mapped("too_long")),
         (7, "little memory", piped("most_items", before=little_memory)),
         (8, "a word that is no UTF-8", {"words": [b"\xff"]}),
     ]

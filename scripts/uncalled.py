@@ -86,8 +86,8 @@ def names_in(text):
 
 
 def outside():
-    """The code that stands outside the crates: what is tried, examples, scripts, tools, and what the cargo crate has by hand."""
-    paths = [path for folder in ("tried", "examples", "scripts", "tools", "rust") for path in (TOP / folder).rglob("*")]
+    """The code that stands outside the crates: unproved tests, examples, scripts, the translator, and what the cargo crate has by hand."""
+    paths = [path for folder in ("tests", "examples", "scripts", "tools/to_rust", "rust") for path in (TOP / folder).rglob("*")]
     kinds, made = (".rt", ".rs", ".py", ".sh"), {"generated", "target"}
     read = [path for path in paths if path.suffix in kinds and not made & set(path.parts) and path.name != "uncalled.py"]
     return "\n".join(map(code_of, read))

@@ -7,7 +7,7 @@ set -eu
 words 0 0 "$@"
 cd "$(dirname "$0")"
 failed=0
-for script in *.py *.sh ../tools/to_rust/*.py; do
+for script in *.py *.sh measure/*.py measure/*.sh ../tools/to_rust/*.py ../tools/oracle/xid.py ../tools/oracle/compare; do
     case $script in
         usage.* | usage_test.sh) continue ;;
         *.py) runs=python3 ;;

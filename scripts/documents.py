@@ -1,0 +1,157 @@
+#!/usr/bin/env python3
+"""Checks what can be checked in the documents against a built command and this repository.
+
+usage: documents.py COMMAND
+
+- The samples of README.md: what stands in each block `rust output` is what COMMAND gives of the block `rust input` before it. Each block of docs/STYLE.md is its own
+  text. Each example in "Left out" of docs/GRAMMAR.md is refused, and tests/cases/left_out.jsonl has just these.
+- What the commands of docs/COMMAND.md print, over the source before it, is what stands there, and the text between them is the source's.
+- The clauses that README.md shows stand in crates/lay_front/src/command.rt.
+- The numbers of crates, of cases, of kinds of nesting and of lines of definitions are what is there.
+- Each file that a document names between backquotes, or by its path in docs/, is there. The contents of docs/DECISIONS.md are its sections.
+- Each crate has a row in docs/ARCHITECTURE.md and in docs/PROVED.md, and a place in the graph.
+
+A line tells each fault; the exit status is 0 where there is none.
+"""
+import json
+import os
+import pathlib
+import re
+import subprocess
+import sys
+import tempfile
+
+import definitions
+import usage
+
+TOP = pathlib.Path(__file__).resolve().parent.parent
+DOCUMENTS = [TOP / "README.md", TOP / "CONTRIBUTING.md", *sorted((TOP / "docs").glob("*.md")), TOP / "tools/oracle/README.md", TOP / "rust/README.md"]
+BLOCK = re.compile(r"^```(\S+)(?: (\S+))?\n(.*?)^```$", re.M | re.S)
+NAMED = re.compile(r"`((?:crates|docs|examples|rust|scripts|tests|tools|c)/[\w./-]+)|\b(docs/\w+\.md)|\B(CONTRIBUTING\.md|CHANGELOG\.md|README\.md)\b")
+KINDS = re.compile(r"^KINDS = \{\n(.*?)^\}", re.M | re.S)
+
+
+def run(command, text):
+    ran = subprocess.run([command], input=text.encode(), capture_output=True)
+    return ran.returncode, ran.stdout.decode()
+
+
+def wrong_samples(command):
+    given = None
+    for _, kind, text in BLOCK.findall((TOP / "README.md").read_text()):
+        if kind == "input":
+            given = text
+        elif kind == "output" and run(command, given) != (0, text):
+            yield f"README.md: not the output of {given[:40]!r}"
+    for _, _, text in BLOCK.findall((TOP / "docs/STYLE.md").read_text()):
+        if run(command, text) != (0, text):
+            yield f"docs/STYLE.md: not its own text: {text[:60]!r}"
+
+
+def wrong_refusals(command):
+    section = (TOP / "docs/GRAMMAR.md").read_text().split("## Left out\n")[1].split("\n## ")[0]
+    cells = [row.split(" | ", 1)[1] for row in section.splitlines() if row.startswith("| ") and " | `" in row]
+    shown = [example.replace("\\|", "|") for cell in cells for example in re.findall(r"`([^`]+)`", cell)]
+    cases = [json.loads(line)["in"] for line in (TOP / "tests/cases/left_out.jsonl").read_text().splitlines()]
+    for example in shown:
+        if run(command, example)[0] != 4:
+            yield f"docs/GRAMMAR.md: not refused: {example}"
+    for example in {*shown} ^ {*cases}:
+        yield f"docs/GRAMMAR.md and left_out.jsonl: only one has {example}"
+
+
+def wrong_commands(command):
+    shown = {kind: text for _, kind, text in BLOCK.findall((TOP / "docs/COMMAND.md").read_text())}
+    if run(command, shown["source"]) != (0, shown["text"]):
+        yield "docs/COMMAND.md: not the text of the source"
+    lines = shown["commands"].splitlines(keepends=True)
+    with tempfile.TemporaryDirectory() as folder:
+        (pathlib.Path(folder) / "generated.rs").write_text(shown["source"])
+        os.symlink(command, pathlib.Path(folder) / "lay_fmt")
+        paths = os.pathsep.join([folder, str(TOP / "examples"), os.environ["PATH"]])
+        words = "".join(line[2:] for line in lines if line.startswith("$ "))
+        ran = subprocess.run(["sh", "-ec", words], cwd=folder, env={**os.environ, "PATH": paths}, capture_output=True, text=True)
+    if (ran.returncode, ran.stdout) != (0, "".join(line for line in lines if not line.startswith("$ "))):
+        yield f"docs/COMMAND.md: the commands print {ran.stdout!r} and {ran.stderr!r}"
+
+
+def wrong_clauses():
+    source = (TOP / "crates/lay_front/src/command.rt").read_text()
+    for _, kind, text in BLOCK.findall((TOP / "README.md").read_text()):
+        if kind == "contract":
+            for clause in re.split(r"(?m)^(?=    ensures )", text):
+                if clause not in source:
+                    yield f"README.md: not in command.rt: {clause[:60]!r}"
+
+
+def wrong_numbers():
+    crates = (TOP / "crates.txt").read_text().count(":")
+    by_file = {path.name: path.read_text().count("\n") for path in (TOP / "tests/cases").glob("*.jsonl")}
+    by_hand = by_file["by_hand.jsonl"] + by_file["left_out.jsonl"]
+    kinds = len(re.findall(r'^    "', KINDS.search((TOP / "scripts/stack.py").read_text())[1], re.M))
+    files, lines = definitions.counts("lay_front/src/command.rt")
+    numbers = {
+        r"(\d[\d,]*) crates\b": {crates},
+        r"(\d[\d,]*) cases\b": {sum(by_file.values()), sum(by_file.values()) - by_hand},
+        r"(\d[\d,]*)\s+whose answers were worked out by hand": {by_hand},
+        r"(\d[\d,]*) kinds of\s+nesting": {kinds},
+        r"(\d[\d,]*) files with \d[\d,]* lines of definitions": {files},
+        r"\d[\d,]* files with (\d[\d,]*) lines": {lines},
+    }
+    for document in DOCUMENTS:
+        for pattern, right in numbers.items():
+            for number in re.findall(pattern, document.read_text()):
+                if int(number.replace(",", "")) not in right:
+                    yield f"{document.relative_to(TOP)}: {number} in {pattern!r} and not {' or '.join(map(str, right))}"
+
+
+def wrong_names():
+    for document in DOCUMENTS:
+        for name in {"".join(found).rstrip("./") for found in NAMED.findall(document.read_text())}:
+            if not (TOP / name).exists() and not re.search(r"/(?:out|target)\b", name):
+                yield f"{document.relative_to(TOP)}: not there: {name}"
+
+
+def wrong_rows():
+    """Each crate has a row of each table, and a place in the graph, and the longest chain is one."""
+    architecture, proved = ((TOP / "docs" / name).read_text() for name in ("ARCHITECTURE.md", "PROVED.md"))
+    graph = architecture.split("## The graph\n")[1].split("The longest chain")[0]
+    below = {line.split(":")[0]: line.split(":")[1].split() for line in (TOP / "crates.txt").read_text().splitlines()}
+    for crate in below:
+        if not re.search(rf"^\| {crate} \|", architecture, re.M):
+            yield f"docs/ARCHITECTURE.md: no row for {crate}"
+        if not re.search(rf"^\| (?:\w+, )*{crate}(?:, \w+)* \|", proved, re.M):
+            yield f"docs/PROVED.md: no row for {crate}"
+        if not re.search(rf"(?<!\w){crate.removeprefix('lay_')}(?!\w)", graph):
+            yield f"docs/ARCHITECTURE.md: {crate} isn't in the graph"
+    length = {}
+    for crate, its in below.items():
+        length[crate] = 1 + max((length.get(other, 0) for other in its), default=0)
+    tests = [crate for crate in below if "_checks" in crate or crate == "lay_given"]
+    longest = max(length[crate] for crate in below if crate not in tests)
+    told, names = re.search(r"The longest chain, of (\d+): ([^.]*)\.", architecture).groups()
+    chain = ["lay_" + name for name in re.split(r",\s+", names)]
+    if not (int(told) == longest == len(chain) and all(low in below[high] for low, high in zip(chain, chain[1:]))):
+        yield f"docs/ARCHITECTURE.md: the longest chain has {longest} crates"
+
+
+def wrong_contents():
+    """The table of contents of docs/DECISIONS.md names its sections, in order."""
+    text = (TOP / "docs/DECISIONS.md").read_text()
+    listed, headed = re.findall(r"^- \[(.*?)\]\(#", text, re.M), re.findall(r"^## (.*)$", text, re.M)
+    if listed != headed:
+        yield f"docs/DECISIONS.md: the contents list {listed} and not {headed}"
+
+
+def main():
+    command, = usage.words(__doc__, least=1, most=1)
+    if not os.access(command, os.X_OK):
+        usage.refuse(__doc__, f"not there: {command}")
+    command = os.path.abspath(command)
+    found = [*wrong_samples(command), *wrong_refusals(command), *wrong_commands(command), *wrong_clauses(), *wrong_numbers(), *wrong_names(), *wrong_rows(), *wrong_contents()]
+    print(*found, sep="\n", end="\n" if found else "")
+    return 1 if found else 0
+
+
+if __name__ == "__main__":
+    sys.exit(main())
