@@ -15,9 +15,9 @@ use lay_depth_nodes::{
 };
 use lay_node::Boxed;
 
-/// The depth of an expression. The body of a closure stands one level deeper.
+/// The depth of an expression, counted up to the greatest number of 32 bits. The body of a closure stands one level deeper.
 #[cycle(code)]
-pub(crate) fn expr_depth(expr: &Expr) -> u32
+pub fn expr_depth(expr: &Expr) -> u32
     ensures { result ≡ counted (least_depth (about_expr expr.now).form) }
 {
     match expr {

@@ -13,13 +13,13 @@ mod expr_ends;
 mod numbers;
 pub mod operands;
 pub mod operators;
-mod places;
+pub mod places;
 mod roots;
 mod structs;
 mod type_ends;
 
 pub use bodies::{ends, is_call, is_lone_body, sheds};
-pub use edges::may_wear_braces;
+pub use edges::{begins_dotted, may_wear_braces};
 pub use numbers::is_number;
 pub use operands::begins_operand;
 pub use operators::{binary, prefix};

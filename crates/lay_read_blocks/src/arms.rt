@@ -17,13 +17,13 @@ ghost use Rattle.lay_read_blocks.specs.Answers.{AreCode, arm_behind, fits};
 use crate::rules::BlockRules;
 use lay_code::{Arm, Attr, Block, Boxed, Expr, Item, Pat, PatPlace, Place, Site, Stmt};
 use lay_ends::undressed;
+use lay_ops::places::{FREE, STATEMENT, plain};
 use lay_ops::{is_free, is_lone_body};
 use lay_read_parts::joins::{both, refused};
 use lay_read_parts::loops::Part;
 use lay_read_pats::pat_ahead;
 use lay_read_shared::boxes::boxed_found;
 use lay_read_shared::loops::{Going, read_parts};
-use lay_read_shared::places::{FREE, STATEMENT, plain};
 use lay_read_tokens::attributes::attrs_ahead;
 use lay_read_tokens::found::greater;
 use lay_read_tokens::front::{

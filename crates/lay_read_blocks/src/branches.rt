@@ -11,12 +11,12 @@ ghost use Rattle.lay_read_blocks.specs.Answers.{AreBranches, AreCode, branches};
 
 use crate::rules::BlockRules;
 use lay_code::{Block, Boxed, Branch, Expr, Item, Lifetime, PatPlace, Place, Site};
+use lay_ops::places::plain;
 use lay_read_parts::joins::{both, prepended, refused};
 use lay_read_parts::loops::Part;
 use lay_read_pats::pat_ahead;
 use lay_read_shared::boxes::boxed_found;
 use lay_read_shared::loops::{Going, read_parts};
-use lay_read_shared::places::plain;
 use lay_read_tokens::found::greater;
 use lay_read_tokens::front::{pass_two, takes_keyword, takes_op};
 use lay_read_tokens::{Ahead, Found, ReadNone};

@@ -16,6 +16,7 @@ ghost use Rattle.lay_read_blocks.specs.Answers.{AreCode, IsAlone, and_operand, c
 use crate::rules::BlockRules;
 use lay_code::{Block, Boxed, Condition, Expr, Item, Link, Op, Pat, PatPlace, Place, Site};
 use lay_ops::ahead::strength;
+use lay_ops::places::{link_place, plain};
 use lay_ops::stands;
 use lay_read_exprs::ExprRules;
 use lay_read_parts::joins::{both, refused};
@@ -23,7 +24,6 @@ use lay_read_parts::loops::Part;
 use lay_read_pats::pat_ahead;
 use lay_read_shared::boxes::boxed_found;
 use lay_read_shared::loops::{Going, read_parts};
-use lay_read_shared::places::{link_place, plain};
 use lay_read_tokens::found::greater;
 use lay_read_tokens::front::{pass_two, takes_keyword, takes_op};
 use lay_read_tokens::stop::{keep, room_for};

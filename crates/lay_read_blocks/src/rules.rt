@@ -8,7 +8,7 @@ ghost use Rattle.lay_read_tokens.specs.Answers.{IsFound};
 ghost use Rattle.lay_read_blocks.specs.Answers.{AreCode};
 
 use lay_code::{Block, Boxed, Expr, Item, Place, Site};
-use lay_read_shared::places::FREE;
+use lay_ops::places::FREE;
 use lay_read_tokens::front::takes_op;
 use lay_read_tokens::{Ahead, Found, ReadNone};
 use std::alloc::Global;

@@ -12,9 +12,9 @@ ghost use Rattle.lay_read_exprs.specs.Answers.{AreExprs, climb_once, climbed};
 use crate::rules::ExprRules;
 use lay_code::{Boxed, Expr, Place, Start};
 use lay_ops::ahead::{is_angle, is_dot_or_try, strength};
+use lay_ops::places::before_op;
 use lay_ops::{is_block_like, stands};
 use lay_read_parts::joins::refused;
-use lay_read_shared::places::before_op;
 use lay_read_tokens::{Ahead, Found, ReadNone};
 use std::alloc::Global;
 

@@ -9,10 +9,10 @@ ghost use Rattle.lay_read_exprs.specs.Answers.{AreExprs, array_by};
 
 use crate::rules::ExprRules;
 use lay_code::{Boxed, Expr, Place};
+use lay_ops::places::FREE;
 use lay_read_parts::joins::{both, prepended, refused};
 use lay_read_parts::loops::{Closer, Part, read_elements};
 use lay_read_shared::boxes::{boxed_found, unboxed};
-use lay_read_shared::places::FREE;
 use lay_read_tokens::found::greater;
 use lay_read_tokens::front::{takes_closer, takes_mark};
 use lay_read_tokens::tokens::read_tokens;

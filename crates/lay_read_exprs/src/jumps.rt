@@ -8,10 +8,10 @@ ghost use Rattle.lay_read_exprs.specs.Answers.{AreExprs};
 use crate::rules::ExprRules;
 use lay_code::{Boxed, Expr, Place};
 use lay_ops::ahead::begins_operand;
+use lay_ops::places::plain;
 use lay_read_parts::joins::both;
 use lay_read_parts::parts::read_lifetime_if;
 use lay_read_shared::boxes::boxed_found;
-use lay_read_shared::places::plain;
 use lay_read_tokens::{Ahead, Found, ReadNone};
 use std::alloc::Global;
 

@@ -7,11 +7,11 @@ ghost use Rattle.lay_read_exprs.specs.Answers.{AreExprs, numbered_field, struct_
 
 use crate::rules::ExprRules;
 use lay_code::{Attr, Boxed, Expr, FieldExpr, Name, Path, Place};
+use lay_ops::places::FREE;
 use lay_read_parts::joins::{both, refused};
 use lay_read_parts::loops::{Opening, Part, read_open_elements};
 use lay_read_pats::structs::read_index_if;
 use lay_read_shared::boxes::boxed_found;
-use lay_read_shared::places::FREE;
 use lay_read_tokens::attributes::attrs_ahead;
 use lay_read_tokens::found::greater;
 use lay_read_tokens::front::{is_at_closer, pass_two, takes_closer, takes_op};
