@@ -108,7 +108,7 @@ fn room(least: Option<usize>, ahead: usize) -> usize {
 }
 
 /// The characters that take so many bytes, and what follows them.
-fn cut(s: &str, len: usize) -> (&str, &str)
+pub fn cut(s: &str, len: usize) -> (&str, &str)
     requires { (piece : Items ℕ) × (more : Items ℕ) × (chars s.now ≡ piece ++ more) × (len ≡ size piece) }
     ensures { (piece more : Items ℕ) → chars s.now ≡ piece ++ more → len ≡ size piece
         → (chars result.0.now ≡ piece) × (chars result.1.now ≡ more) }

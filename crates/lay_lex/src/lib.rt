@@ -13,6 +13,8 @@ mod source;
 mod tokens;
 mod window;
 
-pub use lexer::{lex, lex_window};
+pub use gap::after_gap;
+pub use lexer::{cut, lex, lex_window};
 pub use source::{Source, normalise};
+pub use tokens::{Before, is_point, text_of_piece};
 pub use window::{Stop, Window};

@@ -11,8 +11,8 @@ use lay_token::{Kind, List, NoMemory, Text, Token};
 use std::alloc::Global;
 
 /// What stands before a place.
-#[derive(Clone, Copy, PartialEq, Eq)]
-enum Before {
+#[derive(Clone, Copy, Debug, PartialEq, Eq)]
+pub enum Before {
     /// Anything but a point, or nothing.
     Other,
     /// A point.
@@ -23,7 +23,7 @@ enum Before {
 
 impl Before {
     /// What stands behind punctuation, which is a point or isn't; `touches` says that no gap stands before it.
-    fn behind(self, point: bool, touches: bool) -> Before
+    pub fn behind(self, point: bool, touches: bool) -> Before
         ensures { before result ≡ cond point (cond (is_point (before self) && touches) lexes.Points lexes.Point) lexes.Other }
     {
         if !point {
@@ -37,7 +37,7 @@ impl Before {
 }
 
 /// Whether the bytes are a point.
-fn is_point(bytes: &[u8]) -> bool
+pub fn is_point(bytes: &[u8]) -> bool
     ensures { result ≡ bytes_eq bytes.now (codes ".") }
 {
     matches!(bytes, b".")
@@ -65,7 +65,7 @@ fn token_of(alloc: Global, kind: Kind, piece: &str, at: usize) -> Result<Token, 
 }
 
 /// The text of a token of this piece.
-fn text_of_piece(kind: Kind, piece: &str) -> &[u8]
+pub fn text_of_piece(kind: Kind, piece: &str) -> &[u8]
     ensures { result.now ≡ encode_utf8_all (text_of_piece kind (chars piece.now)) }
 {
     match kind {

@@ -2,6 +2,7 @@ pub mod Words
 pub mod Ahead
 pub mod Begins
 pub mod Follow
+pub mod Lending
 pub mod nodes
 pub mod tokens
 pub mod reader

@@ -78,10 +78,10 @@ abbrev pub behind_fraction : List ℕ → List ℕ
 behind_fraction [] = []
 behind_fraction (c ∷ cs) = cond (c == char.point) (behind_exponent (after in_digits cs)) (behind_exponent (c ∷ cs))
 
--- A number has no suffix (Rust Reference, "Number literals").
+-- A number has no suffix (Rust Reference, "Number literals"). Such a number is ASCII, so its bytes are its characters.
 abbrev pub is_bare_number : Kind → List ℕ → Bool
-is_bare_number kind.Int text = is_bare_int (chars text)
-is_bare_number kind.Float text = is_nil (behind_fraction (after in_digits (chars text)))
+is_bare_number kind.Int text = is_bare_int text
+is_bare_number kind.Float text = is_nil (behind_fraction (after in_digits text))
 is_bare_number _ text = false
 
 -- a string without suffix

@@ -1,5 +1,6 @@
 //! Boxes, through which a tree holds trees of its own type.
 ghost use Rattle.std.specs.Prelude.{◌≡◌, IfOk};
+ghost use Rattle.std.specs.Borrow.{sem};
 
 use lay_token::NoMemory;
 use std::alloc::Global;
@@ -20,11 +21,21 @@ impl<T> Model for Boxed<T> {
 }
 
 impl<T> Boxed<T> {
+    ghost use Rattle.lay_node.specs.Lending.{LendsInner};
+
     /// The value, lent.
     pub fn get(&self) -> &T
         ensures { result.now ≡ self.now }
     {
         &self.inner
+    }
+
+    /// The value, lent to be changed.
+    pub fn get_mut(&mut self) -> &mut T
+        ensures* lent { sem 𝓛 (LendsInner T.row self.entry result) }
+        ensures value { result.now ≡ self.old }
+    {
+        &mut self.inner
     }
 
     /// The value; the box is freed.

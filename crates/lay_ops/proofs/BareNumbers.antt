@@ -1,16 +1,14 @@
--- Numbers without suffix: reading character by character tells them.
-use Rattle.std.proofs.Common.{◌≡◌, inl, inr, ℕ, zero, ◌-◌, ◌<◌, ◌≤◌, false, List, [], ◌∷◌, length, Option, refl, sym, ◌∙◌, arith}
+-- Numbers without suffix: reading byte by byte tells them.
+use Rattle.std.proofs.Common.{◌≡◌, inl, inr, ℕ, false, List, [], ◌∷◌, refl, sym, ◌∙◌}
 use Rattle.std.specs.Prelude.{◌==◌}
-use Rattle.std.specs.Borrow.{Bor}
-use Rattle.std.specs.Str.{chars, chars_after}
-use Rattle.std.proofs.lemmas.Bool.{cases_Bool, eq-eqb, eqb-true, false≢true, le-ltb, lt-ltb}
+use Rattle.std.proofs.lemmas.Bool.{cases_Bool, eq-eqb, eqb-true, false≢true}
 use Rattle.lay_piece.specs.Characters as char
 use Rattle.lay_piece.specs.Chars.{after, in_digits, in_hex, is_nil}
 use Rattle.lay_piece.specs.Number.{is_bare_int, is_exponent_letter, is_sign}
 use Rattle.lay_piece.specs.declared.kind.Kind.{Kind}
 use Rattle.lay_piece.specs.declared.kind.Kind.TheVariants as kind
 use Rattle.lay_node.specs.Words.{behind_exponent, behind_fraction, behind_sign, is_bare_number}
-use Rattle.lay_ops.specs.Numbers.{IsSplit, exponent, run}
+use Rattle.lay_ops.specs.Numbers.{exponent, run}
 use Rattle.lay_ops.specs.declared.numbers.Reading.TheVariants as read
 
 -- ---- what is read goes on to the end
@@ -80,44 +78,8 @@ whole_run (c ∷ cs) = elim (cases_Bool (in_digits c)) [
 
 -- ---- what the code tells
 
-pub of_int : (k : Kind) (text : List ℕ) → k ≡ kind.Int → run read.Start (chars text) ≡ is_bare_number k text
-of_int k text e = rw e (start_run (chars text))
+pub of_int : (k : Kind) (text : List ℕ) → k ≡ kind.Int → run read.Start text ≡ is_bare_number k text
+of_int k text e = rw e (start_run text)
 
-pub of_float : (k : Kind) (text : List ℕ) → k ≡ kind.Float → run read.Whole (chars text) ≡ is_bare_number k text
-of_float k text e = rw e (whole_run (chars text))
-
--- ---- the characters of a text
-
-pub no_chars : (text : List ℕ) → length text < 1 → chars text ≡ []
-unfolding chars
-no_chars [] h = refl
-no_chars (b ∷ bs) h = absurd (omega arith)
-
--- A character that is gathered stands before the others.
-pub gathered : (bits : ℕ) (bs : List ℕ) → chars_after zero bits bs ≡ bits ∷ chars bs
-unfolding chars
-gathered bits [] = refl
-gathered bits (b ∷ bs) = refl
-
--- The first byte of a character tells how many more it has, and its first bits.
-pub one_byte : (b bits : ℕ) (bs : List ℕ) → b < 128 → bits ≡ b → chars (b ∷ bs) ≡ bits ∷ chars bs
-unfolding chars
-one_byte b bits bs h e = rw (e, lt-ltb b 128 h) (gathered b bs)
-
-pub two_bytes : (b bits : ℕ) (bs : List ℕ) → 128 ≤ b → b < 224 → bits ≡ b - 192 → chars_after 1 bits bs ≡ chars (b ∷ bs)
-unfolding chars
-two_bytes b bits bs h k e = rw (e, le-ltb b 128 h, lt-ltb b 224 k) refl
-
-pub three_bytes : (b bits : ℕ) (bs : List ℕ) → 224 ≤ b → b < 240 → bits ≡ b - 224 → chars_after 2 bits bs ≡ chars (b ∷ bs)
-unfolding chars
-three_bytes b bits bs h k e =
-    let low : 128 ≤ b = omega arith in rw (e, le-ltb b 128 low, le-ltb b 224 h, lt-ltb b 240 k) refl
-
-pub four_bytes : (b bits : ℕ) (bs : List ℕ) → 240 ≤ b → bits ≡ b - 240 → chars_after 3 bits bs ≡ chars (b ∷ bs)
-unfolding chars
-four_bytes b bits bs h e =
-    let low : 128 ≤ b = omega arith in
-    let mid : 224 ≤ b = omega arith in rw (e, le-ltb b 128 low, le-ltb b 224 mid, le-ltb b 240 h) refl
-
-pub split_as : (cs ds : List ℕ) (r : Option (ℕ × Bor (List ℕ))) → cs ≡ ds → IsSplit cs r → IsSplit ds r
-split_as cs ds r e h = rw (← e) h
+pub of_float : (k : Kind) (text : List ℕ) → k ≡ kind.Float → run read.Whole text ≡ is_bare_number k text
+of_float k text e = rw e (whole_run text)

@@ -1,7 +1,5 @@
--- Numbers without suffix, read character by character.
-use Rattle.std.specs.Prelude.{ℕ, zero, suc, ◌≡◌, ◌^◌, ◌==◌, ◌||◌, Bool, true, false, if◌then◌else◌, List, [], ◌∷◌, Option, Some, None}
-use Rattle.std.specs.Borrow.{Bor}
-use Rattle.std.specs.Str.{chars}
+-- Numbers without suffix, read byte by byte.
+use Rattle.std.specs.Prelude.{ℕ, ◌==◌, ◌||◌, Bool, true, false, if◌then◌else◌, List, [], ◌∷◌}
 use Rattle.lay_piece.specs.Characters as char
 use Rattle.lay_piece.specs.Chars.{in_digits, in_hex}
 use Rattle.lay_piece.specs.Number.{is_exponent_letter, is_sign}
@@ -29,19 +27,7 @@ abbrev pub is_read : Reading → Bool
 is_read read.Refused = false
 is_read _ = true
 
--- The characters go on to their end with what is read.
+-- The bytes go on to their end with what is read.
 abbrev pub run : Reading → List ℕ → Bool
 run r [] = is_read r
 run r (c ∷ cs) = run (leads_to r c) cs
-
--- The first of the characters, and the bytes of the others.
-abbrev pub IsSplit : List ℕ → Option (ℕ × Bor (List ℕ)) → Type 0
-IsSplit cs None = cs ≡ []
-IsSplit cs (Some p) = cs ≡ p.0 ∷ chars p.1.now
-
--- what the bits of a character are below, where so many bytes of it are to come
-abbrev pub room : ℕ → ℕ
-room zero = 2 ^ 40
-room (suc zero) = 2 ^ 32
-room (suc (suc zero)) = 2 ^ 24
-room (suc (suc (suc n))) = 2 ^ 16

@@ -1,10 +1,9 @@
 //! Numbers without suffix.
-ghost use Rattle.std.specs.Prelude.{◌≡◌, ◌∷◌, ◌<◌, ◌≤◌, length, IfSome};
-ghost use Rattle.std.specs.Str.{chars, chars_after};
+ghost use Rattle.std.specs.Prelude.{◌≡◌};
 ghost use Rattle.lay_piece.specs.Chars.{in_digits, in_hex};
 ghost use Rattle.lay_node.specs.Words as words;
 ghost use Rattle.lay_code.specs.nodes.Code.{about_expr};
-ghost use Rattle.lay_ops.specs.Numbers.{IsSplit, digits, exponent, leads_to, room, run};
+ghost use Rattle.lay_ops.specs.Numbers.{digits, exponent, leads_to, run};
 
 use lay_code::Expr;
 use lay_token::Kind;
@@ -54,21 +53,18 @@ fn is_bare_number(kind: Kind, text: &[u8]) -> bool
 
 /// Whether the text goes on to its end with what is read.
 fn reads(text: &[u8], start: Reading) -> bool
-    ensures { result ≡ run start (chars text.now) }
+    ensures { result ≡ run start text.now }
 {
     let mut reading = start;
     let mut rest = text;
-    while let Some((character, behind)) = split_char(rest) {
-        reading = match u8::try_from(character) {
-            Ok(byte) => leads_to(reading, byte),
-            Err(_) => Reading::Refused,
-        };
+    while let Some((byte, behind)) = rest.split_first() {
+        reading = leads_to(reading, *byte);
         rest = behind;
     }
     !matches!(reading, Reading::Refused)
 }
 
-/// How far a number is read with one more character, of those that are one byte in ASCII or Latin-1.
+/// How far a number is read with one more byte. Nothing but ASCII is read.
 fn leads_to(reading: Reading, byte: u8) -> Reading
     ensures { result ≡ leads_to reading byte }
 {
@@ -112,7 +108,7 @@ fn leads_to(reading: Reading, byte: u8) -> Reading
     }
 }
 
-/// Digits, if the character is one.
+/// Digits, if the byte is one.
 fn digits(byte: u8) -> Reading
     ensures { result ≡ digits byte }
 {
@@ -123,7 +119,7 @@ fn digits(byte: u8) -> Reading
     }
 }
 
-/// An exponent, if the character is its letter.
+/// An exponent, if the byte is its letter.
 fn exponent(byte: u8) -> Reading
     ensures { result ≡ exponent byte }
 {
@@ -134,66 +130,16 @@ fn exponent(byte: u8) -> Reading
     }
 }
 
-/// Whether the character is a digit or an underscore.
+/// Whether the byte is a digit or an underscore.
 fn in_digits(byte: u8) -> bool
     ensures { result ≡ in_digits byte }
 {
     b'0' <= byte && byte <= b'9' || byte == b'_'
 }
 
-/// Whether the character is a hexadecimal digit or an underscore.
+/// Whether the byte is a hexadecimal digit or an underscore.
 fn in_hex(byte: u8) -> bool
     ensures { result ≡ in_hex byte }
 {
     in_digits(byte) || b'A' <= byte && byte <= b'F' || b'a' <= byte && byte <= b'f'
-}
-
-/// The first character of a text and what stands behind it, if there is one. A text needn't be UTF-8.
-fn split_char(text: &[u8]) -> Option<(u64, &[u8])>
-    ensures parts { IsSplit (chars text.now) result }
-    ensures shorter { IfSome result (λ p. length p.1.now < length text.now) }
-{
-    match text {
-        [lead, behind @ ..] => split_behind(*lead, behind),
-        [] => None,
-    }
-}
-
-/// The same of a text that begins with this byte.
-fn split_behind(lead: u8, behind: &[u8]) -> Option<(u64, &[u8])>
-    ensures parts { IsSplit (chars (lead ∷ behind.now)) result }
-    ensures shorter { IfSome result (λ p. length p.1.now ≤ length behind.now) }
-{
-    let bits = u64::from(lead);
-    if lead < 128 {
-        Some((bits, behind))
-    } else if lead < 224 {
-        gather(1, bits.saturating_sub(192), behind)
-    } else if lead < 240 {
-        gather(2, bits - 224, behind)
-    } else {
-        gather(3, bits - 240, behind)
-    }
-}
-
-/// A character of these bits and those of so many bytes more, and what stands behind it.
-fn gather(count: u8, bits: u64, text: &[u8]) -> Option<(u64, &[u8])>
-    requires few { count ≤ 3 }
-    requires room { bits < room count }
-    ensures parts { IsSplit (chars_after count bits text.now) result }
-    ensures shorter { IfSome result (λ p. length p.1.now ≤ length text.now) }
-{
-    if count == 0 {
-        return Some((bits, text));
-    }
-    match text {
-        [byte, behind @ ..] => {
-            gather(
-                count - 1,
-                bits * 64 + u64::from(*byte).saturating_sub(128),
-                behind,
-            )
-        },
-        [] => None,
-    }
 }

@@ -1,5 +1,6 @@
 //! Lists of items.
 ghost use Rattle.std.specs.Prelude.{◌≡◌, ◌++◌, ◌∷◌, [], OnOk, OnErr, IfErr};
+ghost use Rattle.std.specs.Borrow.{sem};
 
 use std::alloc::Global;
 use std::marker::Model;
@@ -23,6 +24,8 @@ impl<T> Model for List<T> {
 }
 
 impl<T> List<T> {
+    ghost use Rattle.lay_text.specs.Lending.{LendsItems};
+
     /// The empty list.
     pub fn new(alloc: Global) -> List<T>
         ensures { result ≡ [] }
@@ -53,6 +56,14 @@ impl<T> List<T> {
         ensures { result.now ≡ self.now }
     {
         self.items.as_slice()
+    }
+
+    /// All the items, lent to be changed.
+    pub fn as_mut_slice(&mut self) -> &mut [T]
+        ensures* lent { sem 𝓛 (LendsItems T.row self.entry result) }
+        ensures value { result.now ≡ self.old }
+    {
+        self.items.as_mut_slice()
     }
 
     /// The list of a vector's items.

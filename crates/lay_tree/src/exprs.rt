@@ -261,6 +261,79 @@ pub fn same_expr(expr: &Expr, other: &Expr) -> bool
     }
 }
 
+/// Whether two lists of expressions are equal.
+#[cycle(code)]
+fn same_exprs(exprs: &[Expr], others: &[Expr]) -> bool
+    ensures { IsTrue result ↔ exprs.now ≡ others.now }
+{
+    if exprs.len() != others.len() {
+        return false;
+    }
+    for (expr, other) in exprs.iter().zip(others) {
+        if !same_expr(expr, other) {
+            return false;
+        }
+    }
+    true
+}
+
+/// Whether two expressions that may be left out are equal.
+#[cycle(code)]
+fn same_operand(operand: &Option<Boxed<Expr>>, other: &Option<Boxed<Expr>>) -> bool
+    ensures { IsTrue result ↔ operand.now ≡ other.now }
+{
+    match operand {
+        None => other.is_none(),
+        Some(operand) => matches!(other, Some(given) if same_expr(operand.get(), given.get())),
+    }
+}
+
+/// Whether the operators and operands of two chains are equal.
+#[cycle(code)]
+fn same_operands(operands: &[(Op, Boxed<Expr>)], others: &[(Op, Boxed<Expr>)]) -> bool
+    ensures { IsTrue result ↔ operands.now ≡ others.now }
+{
+    if operands.len() != others.len() {
+        return false;
+    }
+    for ((op, operand), (other_op, other_operand)) in operands.iter().zip(others) {
+        if !same_op(op, other_op) || !same_expr(operand.get(), other_operand.get()) {
+            return false;
+        }
+    }
+    true
+}
+
+/// Whether the bases of two struct literals are equal, behind a `..` where there is one.
+#[cycle(code)]
+fn same_base(base: &Option<Option<Boxed<Expr>>>, other: &Option<Option<Boxed<Expr>>>) -> bool
+    ensures { IsTrue result ↔ base.now ≡ other.now }
+{
+    match base {
+        None => other.is_none(),
+        Some(None) => matches!(other, Some(None)),
+        Some(Some(base)) => {
+            matches!(other, Some(Some(given)) if same_expr(base.get(), given.get()))
+        }
+    }
+}
+
+/// Whether the targets of two assignments are equal.
+#[cycle(code)]
+fn same_targets(targets: &[(Boxed<Expr>, Op)], others: &[(Boxed<Expr>, Op)]) -> bool
+    ensures { IsTrue result ↔ targets.now ≡ others.now }
+{
+    if targets.len() != others.len() {
+        return false;
+    }
+    for ((target, op), (other_target, other_op)) in targets.iter().zip(others) {
+        if !same_expr(target.get(), other_target.get()) || !same_op(op, other_op) {
+            return false;
+        }
+    }
+    true
+}
+
 /// Whether two fields of struct literals are equal.
 #[cycle(code)]
 fn same_field(field: &FieldExpr, other: &FieldExpr) -> bool
@@ -305,6 +378,22 @@ fn same_field(field: &FieldExpr, other: &FieldExpr) -> bool
     }
 }
 
+/// Whether the fields of two struct literals are equal.
+#[cycle(code)]
+fn same_fields(fields: &[FieldExpr], others: &[FieldExpr]) -> bool
+    ensures { IsTrue result ↔ fields.now ≡ others.now }
+{
+    if fields.len() != others.len() {
+        return false;
+    }
+    for (field, other) in fields.iter().zip(others) {
+        if !same_field(field, other) {
+            return false;
+        }
+    }
+    true
+}
+
 /// Whether two steps are equal.
 #[cycle(code)]
 fn same_step(step: &Step, other: &Step) -> bool
@@ -343,12 +432,39 @@ fn same_step(step: &Step, other: &Step) -> bool
     }
 }
 
+/// Whether the steps behind two expressions are equal.
+#[cycle(code)]
+fn same_steps(steps: &[Step], others: &[Step]) -> bool
+    ensures { IsTrue result ↔ steps.now ≡ others.now }
+{
+    if steps.len() != others.len() {
+        return false;
+    }
+    for (step, other) in steps.iter().zip(others) {
+        if !same_step(step, other) {
+            return false;
+        }
+    }
+    true
+}
+
 /// Whether two blocks are equal.
 #[cycle(code)]
 pub fn same_block(block: &Block, other: &Block) -> bool
     ensures { IsTrue result ↔ block.now ≡ other.now }
 {
     block.attrs.same(&other.attrs) && same_stmts(block.stmts.as_slice(), other.stmts.as_slice())
+}
+
+/// Whether two blocks that may be left out are equal.
+#[cycle(code)]
+fn same_body(body: &Option<Block>, other: &Option<Block>) -> bool
+    ensures { IsTrue result ↔ body.now ≡ other.now }
+{
+    match body {
+        None => other.is_none(),
+        Some(body) => matches!(other, Some(given) if same_block(body, given)),
+    }
 }
 
 /// Whether two statements are equal.
@@ -397,12 +513,44 @@ pub fn same_stmt(stmt: &Stmt, other: &Stmt) -> bool
     }
 }
 
+/// Whether two lists of statements are equal.
+#[cycle(code)]
+fn same_stmts(stmts: &[Stmt], others: &[Stmt]) -> bool
+    ensures { IsTrue result ↔ stmts.now ≡ others.now }
+{
+    if stmts.len() != others.len() {
+        return false;
+    }
+    for (stmt, other) in stmts.iter().zip(others) {
+        if !same_stmt(stmt, other) {
+            return false;
+        }
+    }
+    true
+}
+
 /// Whether two branches are equal.
 #[cycle(code)]
 fn same_branch(branch: &Branch, other: &Branch) -> bool
     ensures { IsTrue result ↔ branch.now ≡ other.now }
 {
     same_condition(&branch.condition, &other.condition) && same_block(&branch.body, &other.body)
+}
+
+/// Whether the branches of two expressions are equal.
+#[cycle(code)]
+fn same_branches(branches: &[Branch], others: &[Branch]) -> bool
+    ensures { IsTrue result ↔ branches.now ≡ others.now }
+{
+    if branches.len() != others.len() {
+        return false;
+    }
+    for (branch, other) in branches.iter().zip(others) {
+        if !same_branch(branch, other) {
+            return false;
+        }
+    }
+    true
 }
 
 /// Whether two conditions are equal.
@@ -432,6 +580,22 @@ fn same_link(link: &Link, other: &Link) -> bool
     }
 }
 
+/// Whether the links of two conditions are equal.
+#[cycle(code)]
+fn same_links(links: &[Link], others: &[Link]) -> bool
+    ensures { IsTrue result ↔ links.now ≡ others.now }
+{
+    if links.len() != others.len() {
+        return false;
+    }
+    for (link, other) in links.iter().zip(others) {
+        if !same_link(link, other) {
+            return false;
+        }
+    }
+    true
+}
+
 /// Whether two arms are equal.
 #[cycle(code)]
 pub fn same_arm(arm: &Arm, other: &Arm) -> bool
@@ -443,6 +607,22 @@ pub fn same_arm(arm: &Arm, other: &Arm) -> bool
         && same_expr(arm.body.get(), other.body.get())
 }
 
+/// Whether the arms of two expressions are equal.
+#[cycle(code)]
+fn same_arms(arms: &[Arm], others: &[Arm]) -> bool
+    ensures { IsTrue result ↔ arms.now ≡ others.now }
+{
+    if arms.len() != others.len() {
+        return false;
+    }
+    for (arm, other) in arms.iter().zip(others) {
+        if !same_arm(arm, other) {
+            return false;
+        }
+    }
+    true
+}
+
 /// Whether two items are equal.
 #[cycle(code)]
 pub fn same_item(item: &Item, other: &Item) -> bool
@@ -451,6 +631,22 @@ pub fn same_item(item: &Item, other: &Item) -> bool
     item.attrs.same(&other.attrs)
         && item.vis.same(&other.vis)
         && same_kind(item.kind.get(), other.kind.get())
+}
+
+/// Whether two lists of items are equal.
+#[cycle(code)]
+pub fn same_items(items: &[Item], others: &[Item]) -> bool
+    ensures { IsTrue result ↔ items.now ≡ others.now }
+{
+    if items.len() != others.len() {
+        return false;
+    }
+    for (item, other) in items.iter().zip(others) {
+        if !same_item(item, other) {
+            return false;
+        }
+    }
+    true
 }
 
 /// Whether two items without their attributes and visibilities are equal.
@@ -575,202 +771,6 @@ fn same_kind(kind: &ItemKind, other: &ItemKind) -> bool
         },
         ItemKind::Call { call } => {
             matches!(other, ItemKind::Call { call: given } if call.same(given))
-        }
-    }
-}
-
-/// Whether two lists of expressions are equal.
-#[cycle(code)]
-fn same_exprs(exprs: &[Expr], others: &[Expr]) -> bool
-    ensures { IsTrue result ↔ exprs.now ≡ others.now }
-{
-    if exprs.len() != others.len() {
-        return false;
-    }
-    for (expr, other) in exprs.iter().zip(others) {
-        if !same_expr(expr, other) {
-            return false;
-        }
-    }
-    true
-}
-
-/// Whether the fields of two struct literals are equal.
-#[cycle(code)]
-fn same_fields(fields: &[FieldExpr], others: &[FieldExpr]) -> bool
-    ensures { IsTrue result ↔ fields.now ≡ others.now }
-{
-    if fields.len() != others.len() {
-        return false;
-    }
-    for (field, other) in fields.iter().zip(others) {
-        if !same_field(field, other) {
-            return false;
-        }
-    }
-    true
-}
-
-/// Whether the steps behind two expressions are equal.
-#[cycle(code)]
-fn same_steps(steps: &[Step], others: &[Step]) -> bool
-    ensures { IsTrue result ↔ steps.now ≡ others.now }
-{
-    if steps.len() != others.len() {
-        return false;
-    }
-    for (step, other) in steps.iter().zip(others) {
-        if !same_step(step, other) {
-            return false;
-        }
-    }
-    true
-}
-
-/// Whether the branches of two expressions are equal.
-#[cycle(code)]
-fn same_branches(branches: &[Branch], others: &[Branch]) -> bool
-    ensures { IsTrue result ↔ branches.now ≡ others.now }
-{
-    if branches.len() != others.len() {
-        return false;
-    }
-    for (branch, other) in branches.iter().zip(others) {
-        if !same_branch(branch, other) {
-            return false;
-        }
-    }
-    true
-}
-
-/// Whether the links of two conditions are equal.
-#[cycle(code)]
-fn same_links(links: &[Link], others: &[Link]) -> bool
-    ensures { IsTrue result ↔ links.now ≡ others.now }
-{
-    if links.len() != others.len() {
-        return false;
-    }
-    for (link, other) in links.iter().zip(others) {
-        if !same_link(link, other) {
-            return false;
-        }
-    }
-    true
-}
-
-/// Whether the arms of two expressions are equal.
-#[cycle(code)]
-fn same_arms(arms: &[Arm], others: &[Arm]) -> bool
-    ensures { IsTrue result ↔ arms.now ≡ others.now }
-{
-    if arms.len() != others.len() {
-        return false;
-    }
-    for (arm, other) in arms.iter().zip(others) {
-        if !same_arm(arm, other) {
-            return false;
-        }
-    }
-    true
-}
-
-/// Whether two lists of statements are equal.
-#[cycle(code)]
-fn same_stmts(stmts: &[Stmt], others: &[Stmt]) -> bool
-    ensures { IsTrue result ↔ stmts.now ≡ others.now }
-{
-    if stmts.len() != others.len() {
-        return false;
-    }
-    for (stmt, other) in stmts.iter().zip(others) {
-        if !same_stmt(stmt, other) {
-            return false;
-        }
-    }
-    true
-}
-
-/// Whether two lists of items are equal.
-#[cycle(code)]
-pub fn same_items(items: &[Item], others: &[Item]) -> bool
-    ensures { IsTrue result ↔ items.now ≡ others.now }
-{
-    if items.len() != others.len() {
-        return false;
-    }
-    for (item, other) in items.iter().zip(others) {
-        if !same_item(item, other) {
-            return false;
-        }
-    }
-    true
-}
-
-/// Whether the operators and operands of two chains are equal.
-#[cycle(code)]
-fn same_operands(operands: &[(Op, Boxed<Expr>)], others: &[(Op, Boxed<Expr>)]) -> bool
-    ensures { IsTrue result ↔ operands.now ≡ others.now }
-{
-    if operands.len() != others.len() {
-        return false;
-    }
-    for ((op, operand), (other_op, other_operand)) in operands.iter().zip(others) {
-        if !same_op(op, other_op) || !same_expr(operand.get(), other_operand.get()) {
-            return false;
-        }
-    }
-    true
-}
-
-/// Whether the targets of two assignments are equal.
-#[cycle(code)]
-fn same_targets(targets: &[(Boxed<Expr>, Op)], others: &[(Boxed<Expr>, Op)]) -> bool
-    ensures { IsTrue result ↔ targets.now ≡ others.now }
-{
-    if targets.len() != others.len() {
-        return false;
-    }
-    for ((target, op), (other_target, other_op)) in targets.iter().zip(others) {
-        if !same_expr(target.get(), other_target.get()) || !same_op(op, other_op) {
-            return false;
-        }
-    }
-    true
-}
-
-/// Whether two expressions that may be left out are equal.
-#[cycle(code)]
-fn same_operand(operand: &Option<Boxed<Expr>>, other: &Option<Boxed<Expr>>) -> bool
-    ensures { IsTrue result ↔ operand.now ≡ other.now }
-{
-    match operand {
-        None => other.is_none(),
-        Some(operand) => matches!(other, Some(given) if same_expr(operand.get(), given.get())),
-    }
-}
-
-/// Whether two blocks that may be left out are equal.
-#[cycle(code)]
-fn same_body(body: &Option<Block>, other: &Option<Block>) -> bool
-    ensures { IsTrue result ↔ body.now ≡ other.now }
-{
-    match body {
-        None => other.is_none(),
-        Some(body) => matches!(other, Some(given) if same_block(body, given)),
-    }
-}
-
-/// Whether the bases of two struct literals are equal, behind a `..` where there is one.
-#[cycle(code)]
-fn same_base(base: &Option<Option<Boxed<Expr>>>, other: &Option<Option<Boxed<Expr>>>) -> bool
-    ensures { IsTrue result ↔ base.now ≡ other.now }
-{
-    match base {
-        None => other.is_none(),
-        Some(None) => matches!(other, Some(None)),
-        Some(Some(base)) => {
-            matches!(other, Some(Some(given)) if same_expr(base.get(), given.get()))
         }
     }
 }

@@ -1,9 +1,7 @@
 -- Expressions pass, kind by kind, of what is told of them, given that the expressions within them pass.
 use Rattle.std.proofs.Common.{◌≡◌, ℕ, List, [], ◌∷◌, ◌++◌, Bool, true, false, cond, not, ◌&&◌, refl, Option, Some, None, is_some}
 use Rattle.std.specs.List.{list_all}
-use Rattle.std.specs.Str.{chars}
 use Rattle.std.proofs.lemmas.Bool.{and_parts}
-use Rattle.lay_piece.specs.Number.{is_bare_int}
 use Rattle.lay_piece.specs.declared.kind.Delim.TheVariants.{Paren, Bracket}
 use Rattle.lay_piece.specs.declared.kind.Kind.{Kind}
 use Rattle.lay_piece.specs.declared.kind.Kind.TheVariants as kind
@@ -75,7 +73,7 @@ literal_ends kind.ByteStr t h w = leaf_passes kind.ByteStr t refl w (ends refl)
 literal_ends kind.RawByteStr t h w = leaf_passes kind.RawByteStr t refl w (ends refl)
 literal_ends kind.CStr t h w = leaf_passes kind.CStr t refl w (ends refl)
 literal_ends kind.RawCStr t h w = leaf_passes kind.RawCStr t refl w (ends refl)
-literal_ends kind.Int t h w = leaf_passes kind.Int t refl w (ends (int_ends (is_bare_int (chars t))))
+literal_ends kind.Int t h w = leaf_passes kind.Int t refl w (ends (int_ends (is_bare_number kind.Int t)))
 literal_ends kind.Float t h w = leaf_passes kind.Float t refl w (ends (float_ends (is_bare_number kind.Float t)))
 literal_ends _ t h w = cc
 

@@ -54,6 +54,14 @@ fn behind_star(alloc: Global, text: &str) -> Option<File> {
     behind(alloc, text, Op::Mul)
 }
 
+/// `_ + a + _`
+fn between_sums(alloc: Global, text: &str) -> Option<File> {
+    let mut rest = one(alloc, (Op::Add, boxed_expr(alloc, text)?))?;
+    rest.push((Op::Add, boxed(alloc, Expr::Underscore)?)).ok()?;
+    let first = boxed(alloc, Expr::Underscore)?;
+    file_of_expr(alloc, Expr::Chain { first, rest })
+}
+
 /// `a || _`
 fn before_or(alloc: Global, text: &str) -> Option<File> {
     before(alloc, text, Op::OrOr)
@@ -74,6 +82,16 @@ fn behind_equals(alloc: Global, text: &str) -> Option<File> {
     behind(alloc, text, Op::EqEq)
 }
 
+/// `_ + _ - _`, of the operators of a row
+fn chain(alloc: Global, row: &str) -> Option<File> {
+    let mut rest = List::new(alloc);
+    for text in row.split_whitespace() {
+        rest.push((op(text)?, boxed(alloc, Expr::Underscore)?)).ok()?;
+    }
+    let first = boxed(alloc, Expr::Underscore)?;
+    file_of_expr(alloc, Expr::Chain { first, rest })
+}
+
 /// `a < _`
 fn before_less(alloc: Global, text: &str) -> Option<File> {
     before(alloc, text, Op::Less)
@@ -87,24 +105,6 @@ fn before_shift(alloc: Global, text: &str) -> Option<File> {
 /// `a <= _`
 fn before_less_or_equal(alloc: Global, text: &str) -> Option<File> {
     before(alloc, text, Op::LessEq)
-}
-
-/// `_ + a + _`
-fn between_sums(alloc: Global, text: &str) -> Option<File> {
-    let mut rest = one(alloc, (Op::Add, boxed_expr(alloc, text)?))?;
-    rest.push((Op::Add, boxed(alloc, Expr::Underscore)?)).ok()?;
-    let first = boxed(alloc, Expr::Underscore)?;
-    file_of_expr(alloc, Expr::Chain { first, rest })
-}
-
-/// `_ + _ - _`, of the operators of a row
-fn chain(alloc: Global, row: &str) -> Option<File> {
-    let mut rest = List::new(alloc);
-    for text in row.split_whitespace() {
-        rest.push((op(text)?, boxed(alloc, Expr::Underscore)?)).ok()?;
-    }
-    let first = boxed(alloc, Expr::Underscore)?;
-    file_of_expr(alloc, Expr::Chain { first, rest })
 }
 
 #[test]
