@@ -1,3 +1,4 @@
+pub mod Ahead
 pub mod Flow
 pub mod Marking
 pub mod Meanings

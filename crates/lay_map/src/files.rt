@@ -1,14 +1,20 @@
 //! The units of the tokens that spell a file.
-ghost use Rattle.std.specs.Prelude.{IfOk};
+ghost use Rattle.std.specs.Prelude.{IfOk, List as Items};
+ghost use Rattle.std.specs.Str.{IsCharBoundary};
+ghost use Rattle.lay_token.specs.Lexes.{Lexes};
+ghost use Rattle.lay_token.specs.declared.token.Token.{Token as TokenValue};
 ghost use Rattle.lay_code.specs.Reading.{SpellsFile, top};
+ghost use Rattle.lay_map.specs.Ahead.{tokens_of};
 ghost use Rattle.lay_map.specs.Places.{ArePlaces};
 ghost use Rattle.lay_read_tokens.specs.Answers.{AreLexed};
 
+use crate::ahead::Ahead;
 use crate::marker::Marker;
 use crate::unit::Unit;
 use lay_code::File;
 use lay_nest::Nested;
 use lay_out_code::put_file;
+use lay_pieces::Cursor;
 use lay_text::{List, NoMemory};
 use std::alloc::Global;
 
@@ -22,7 +28,31 @@ pub fn units(alloc: Global, file: &File, nested: &Nested) -> Result<List<Unit>, 
     ensures { IfOk result (λ list. ArePlaces file.now nested.now list) }
 {
     let cursor = nested.cursor();
-    let mut marker = Marker::new(alloc, cursor.as_slice(), file.shebang.is_some());
+    found(alloc, file, Ahead::Tokens(cursor.as_slice()))
+}
+
+/// The same of a text that isn't lexed yet, from the place on at which it is: where the units of the tokens stand that it lexes to. No list of
+/// tokens is made of it.
+pub fn units_of_text(
+    alloc: Global,
+    file: &File,
+    text: &str,
+    start: usize,
+) -> Result<List<Unit>, NoMemory>
+    requires border { IsCharBoundary text.now start }
+    requires read { (tokens : Items TokenValue) × Lexes text.now start tokens × SpellsFile top file.now tokens }
+    ensures { IfOk result (λ list. (tokens : Items TokenValue) → Lexes text.now start tokens → ArePlaces file.now tokens list) }
+{
+    found(alloc, file, Ahead::Text(Cursor::new(text, start)))
+}
+
+/// Where the units of these tokens stand.
+fn found(alloc: Global, file: &File, tokens: Ahead<'_>) -> Result<List<Unit>, NoMemory>
+    requires lexed { AreLexed (tokens_of tokens) }
+    requires spells { SpellsFile top file.now (tokens_of tokens) }
+    ensures { IfOk result (λ list. ArePlaces file.now (tokens_of tokens) list) }
+{
+    let mut marker = Marker::new(alloc, tokens, file.shebang.is_some());
     put_file(&mut marker, file)?;
     marker.into_units()
 }

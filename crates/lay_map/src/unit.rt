@@ -8,8 +8,8 @@ use std::alloc::Global;
 /// Where a unit stands: from the start of its first token to the end of its last one, in bytes of the text.
 #[derive(Clone, Copy, Debug, PartialEq, Eq)]
 pub struct Unit {
-    pub at: usize,
-    pub len: usize,
+    pub at: u32,
+    pub len: u32,
 }
 
 /// Where what one unit says stands in the source, and where in the output.

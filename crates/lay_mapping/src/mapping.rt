@@ -9,9 +9,8 @@ use crate::lines::write_lines;
 use lay_code::File;
 use lay_files::text_of;
 use lay_io::Sink;
-use lay_lex::{lex, normalise};
-use lay_map::{Unit, units};
-use lay_nest::nest;
+use lay_lex::normalise;
+use lay_map::{Unit, units_of_text};
 use lay_printer::PrintError;
 use lay_token::{List, NoMemory};
 use std::alloc::Global;
@@ -35,7 +34,7 @@ pub fn write_map<K: Sink>(
         Ok(units) => units,
         Err(NoMemory) => return Err(PrintError::NoMemory),
     };
-    let output = match units_of_text(alloc, file) {
+    let output = match units_of_output(alloc, file) {
         Ok(units) => units,
         Err(NoMemory) => return Err(PrintError::NoMemory),
     };
@@ -43,7 +42,7 @@ pub fn write_map<K: Sink>(
 }
 
 /// The units of a file's text, which reads to it.
-fn units_of_text(alloc: Global, file: &File) -> Result<List<Unit>, NoMemory>
+fn units_of_output(alloc: Global, file: &File) -> Result<List<Unit>, NoMemory>
     requires { Reads (text_of_file file.now) file.now }
     ensures { IfOk result (λ units. (reads : Reads (text_of_file file.now) file.now) → units ≡ units_read reads) }
 {
@@ -59,11 +58,5 @@ fn units_in(alloc: Global, bytes: &[u8], file: &File) -> Result<List<Unit>, NoMe
     let Ok(source) = normalise(alloc, bytes) else {
         return Err(NoMemory);
     };
-    let Ok(tokens) = lex(alloc, &source) else {
-        return Err(NoMemory);
-    };
-    let Ok(nested) = nest(alloc, tokens) else {
-        return Err(NoMemory);
-    };
-    units(alloc, file, &nested)
+    units_of_text(alloc, file, source.as_str(), source.start)
 }

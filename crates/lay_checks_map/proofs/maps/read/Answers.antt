@@ -28,3 +28,8 @@ found-requires-clause-lexed c =
     let source = c.in_ok-source.source in
     let ready = c.in_ok-source.ensures.ready in
     all_lexed source.text source.start c.in_ok-tokens.tokens c.in_ok-nested.nested ready.0 ready.1 c.in_ok-tokens.ensures.answer c.in_ok-nested.ensures.answer.0
+
+pub found_of_text-requires-clause-read : goal.found_of_text-requires-clause-read
+found_of_text-requires-clause-read c =
+    let nested = c.in_ok-nested.ensures.answer.0 in
+    (c.in_ok-tokens.tokens, c.in_ok-tokens.ensures.answer, subst (SpellsFile top c.in_ok-file.file) nested c.found-requires.spells)
