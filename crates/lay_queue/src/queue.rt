@@ -250,7 +250,8 @@ impl Queue {
         ensures groups { self.new.groups ≡ self.old.groups }
         ensures ring_spare { self.new.ring.spare ≡ self.old.ring.spare }
         ensures notes_spare { self.new.notes.spare ≡ self.old.notes.spare }
-        ensures number { next_of self.new.ring.first self.new.ring.entries ≡ (next_of self.old.ring.first self.old.ring.entries + 1) % 2 ^ 64 }
+        ensures number { next_of self.new.ring.first self.new.ring.entries
+            ≡ (next_of self.old.ring.first self.old.ring.entries + 1) % 2 ^ 64 }
         ensures ended { self.new.ended ≡ self.old.ended }
     {
         self.ring.pass();
@@ -263,7 +264,8 @@ impl Queue {
         ensures groups { self.new.groups ≡ self.old.groups }
         ensures ring_spare { self.old.ring.spare ≤ self.new.ring.spare }
         ensures notes_spare { self.old.notes.spare ≤ self.new.notes.spare }
-        ensures number { next_of self.new.ring.first self.new.ring.entries ≡ next_of self.old.ring.first self.old.ring.entries }
+        ensures number { next_of self.new.ring.first self.new.ring.entries
+            ≡ next_of self.old.ring.first self.old.ring.entries }
         ensures ended { self.new.ended ≡ self.old.ended }
     {
         if let Some(entry) = self.ring.front() {
@@ -282,7 +284,8 @@ impl Queue {
         ensures groups { self.new.groups ≡ self.old.groups }
         ensures ring_spare { self.old.ring.spare ≤ self.new.ring.spare }
         ensures notes_spare { self.old.notes.spare ≤ self.new.notes.spare }
-        ensures number { next_of self.new.ring.first self.new.ring.entries ≡ next_of self.old.ring.first self.old.ring.entries }
+        ensures number { next_of self.new.ring.first self.new.ring.entries
+            ≡ next_of self.old.ring.first self.old.ring.entries }
         ensures ended { self.new.ended ≡ self.old.ended }
     {
         self.ring.pop_texts(count, len);

@@ -22,7 +22,8 @@ impl Page {
     /// A break in a frame; `big` says that its measure is greater than the space.
     pub fn put_break(&mut self, frame: Frame, brk: Break, big: bool) -> Result<(), NoMemory>
         requires { IsKept frame }
-        ensures { OnOk result ((s : State) → Is self.old s → Is self.new (break_in frame brk big s)) }
+        ensures { OnOk result ((s : State) → Is self.old s
+            → Is self.new (break_in frame brk big s)) }
     {
         if brk.never {
             return self.skip(brk);
@@ -42,7 +43,8 @@ impl Page {
     /// A break that is a newline.
     fn newline(&mut self, brk: Break, indent: u64) -> Result<(), NoMemory>
         requires { indent ≤ greatest_indent }
-        ensures { OnOk result ((s : State) → Is self.old s → Is self.new (on_newline brk indent s)) }
+        ensures { OnOk result ((s : State) → Is self.old s
+            → Is self.new (on_newline brk indent s)) }
     {
         self.put_mark(brk.before)?;
         self.start_line(shifted(indent, brk.offset))?;
@@ -106,7 +108,8 @@ impl Page {
 
     /// The blanks that wait.
     fn write_blanks(&mut self) -> Result<(), NoMemory>
-        ensures text { OnOk result (self.new.text ≡ self.old.text ++ replicate self.old.pending 32) }
+        ensures text { OnOk result (self.new.text
+            ≡ self.old.text ++ replicate self.old.pending 32) }
         ensures pending { OnOk result (self.new.pending ≡ 0) }
         ensures room { self.new.room ≡ self.old.room }
         ensures used { self.new.used ≡ self.old.used }

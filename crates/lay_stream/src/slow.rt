@@ -17,7 +17,8 @@ use std::alloc::Global;
 pub fn plain(alloc: Global, stream: &Stream) -> Result<Text, NoMemory>
     requires { opened stream.now 0 ≡ 0 }
     ensures value { IfOk result (λ t. t ≡ text stream.now) }
-    ensures document { IfOk result (λ t. (d : Document) → stream_of d ≡ stream.now → t ≡ text_of d) }
+    ensures document { IfOk result (λ t. (d : Document) → stream_of d ≡ stream.now
+        → t ≡ text_of d) }
 {
     lay(alloc, stream.toks())
 }
@@ -50,7 +51,8 @@ fn lay(alloc: Global, toks: &[Tok]) -> Result<Text, NoMemory>
 /// One token, which others follow.
 fn lay_one(page: &mut Page, frames: &mut Frames, tok: &Tok, more: &[Tok]) -> Result<(), NoMemory>
     requires { page.old.room ≤ margin }
-    ensures { OnOk result ((m : Layout) → At page.old frames.old m → At page.new frames.new (step tok.now more.now m)) }
+    ensures { OnOk result ((m : Layout) → At page.old frames.old m
+        → At page.new frames.new (step tok.now more.now m)) }
 {
     match tok {
         Tok::Text(text) => page.write(text.as_bytes()),
