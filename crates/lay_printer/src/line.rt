@@ -7,7 +7,9 @@ ghost use Rattle.lay_layout.specs.Indents.{IsKept};
 ghost use Rattle.lay_layout.specs.Margins.{margin, greatest_indent, greatest_blanks};
 
 use lay_io::{Failed, Sink};
-use lay_layout::{Break, Frame, GREATEST_BLANKS, GREATEST_WIDTH, LEAST_SPACE, MARGIN, Mark, shifted};
+use lay_layout::{
+    Break, Frame, GREATEST_BLANKS, GREATEST_WIDTH, LEAST_SPACE, MARGIN, Mark, shifted,
+};
 
 /// The blanks that are to be written before what comes next, the room of the line and what was used of it.
 #[derive(Clone, Copy, Debug)]

@@ -5,7 +5,9 @@ ghost use Rattle.lay_stream.specs.Pages.{Is};
 ghost use Rattle.lay_layout.specs.Indents.{IsKept};
 ghost use Rattle.lay_layout.specs.Margins.{greatest_indent, greatest_blanks, greatest_width};
 
-use lay_layout::{Break, Frame, GREATEST_BLANKS, GREATEST_WIDTH, LEAST_SPACE, MARGIN, Mark, shifted};
+use lay_layout::{
+    Break, Frame, GREATEST_BLANKS, GREATEST_WIDTH, LEAST_SPACE, MARGIN, Mark, shifted,
+};
 use lay_text::{NoMemory, Text};
 
 /// The text so far, the blanks that are to be written before what comes next, the room of this line and what
@@ -102,7 +104,10 @@ impl Page {
     {
         self.write_blanks()?;
         self.text.push_bytes(bytes)?;
-        self.used = self.used.saturating_add(bytes.len() as u64).min(GREATEST_WIDTH);
+        self.used = self
+            .used
+            .saturating_add(bytes.len() as u64)
+            .min(GREATEST_WIDTH);
         Ok(())
     }
 
