@@ -2,10 +2,11 @@
 ghost use Rattle.std.specs.Prelude.{◌≡◌, ◌+◌, ◌-◌, ◌^◌, ◌<◌, ◌≤◌, [], ◌∷◌, ◌++◌, length, MatchOption};
 ghost use Rattle.lay_queue.specs.Closed.{Left, Closed, toks_of, NoteKept};
 
+use lay_layout::GREATEST_WIDTH;
 use lay_ring::{Marks, Row};
 
 /// The greatest size that is kept.
-pub const CAP: u64 = 0x4000_0000_0000_0000;
+pub const CAP: u64 = GREATEST_WIDTH;
 
 /// A note of an entry whose size isn't known.
 #[derive(Clone, Copy)]
