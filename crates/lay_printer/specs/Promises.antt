@@ -34,7 +34,7 @@ space_left s = s.room - s.used
 
 -- the greater of the space and -2^62
 abbrev pub least_space : State → ℤ
-least_space s = pos s.room -ℤ pos (min s.used (s.room + 0x4000_0000_0000_0000))
+least_space s = pos s.room -ℤ pos (min s.used (s.room + cap))
 
 -- so many bytes fit in the space
 abbrev pub FitSpace : Printing → ℕ → Type 0

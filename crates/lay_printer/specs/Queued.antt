@@ -5,6 +5,7 @@ use Rattle.lay_layout.specs.declared.layout.Tok.{Tok}
 use Rattle.lay_layout.specs.declared.layout.Tok.TheVariants as tok
 use Rattle.lay_layout.specs.declared.layout.Frame.{Frame}
 use Rattle.lay_layout.specs.Document.{over}
+use Rattle.lay_layout.specs.Margins.{margin}
 use Rattle.lay_layout.specs.Machine.{Layout, act, begun, measure, play, text}
 use Rattle.lay_ring.specs.declared.entry.Size.{Size}
 use Rattle.lay_ring.specs.declared.entry.Size.TheVariants.{Unknown, Known, Forced}
@@ -25,7 +26,7 @@ pub record Holds (ended : Bool) (s : List Tok) (entries : List Entry) (layout : 
   pub waits : List Tok
   pub all : printed ++ waits ≡ s
   pub are_sized : entries ≡ sized ended waits
-  pub small : layout.state.room ≤ 89
+  pub small : layout.state.room ≤ margin
   pub shown : (r : List Tok) → MayFollow ended r → play printed (waits ++ r) begun ≡ layout
 
 -- Is the oldest entry too big, where it has so many columns at the least and the text that waits? None: undecided.

@@ -4,9 +4,12 @@ ghost use Rattle.lay_layout.specs.Document.{State, write as written_on, put_mark
 ghost use Rattle.lay_io.specs.Calls.{Writes};
 ghost use Rattle.lay_io.specs.Faults.{HasCause, SameLoan};
 ghost use Rattle.lay_layout.specs.Indents.{IsKept};
+ghost use Rattle.lay_layout.specs.Margins.{margin, greatest_indent, greatest_blanks};
 
 use lay_io::{Failed, Sink};
-use lay_layout::{Break, Frame, GREATEST_BLANKS, LEAST_SPACE, MARGIN, Mark, shifted};
+use lay_layout::{
+    Break, Frame, GREATEST_BLANKS, GREATEST_WIDTH, LEAST_SPACE, MARGIN, Mark, shifted,
+};
 
 /// The blanks that are to be written before what comes next, the room of the line and what was used of it.
 #[derive(Clone, Copy, Debug)]
@@ -14,11 +17,11 @@ pub struct Line {
     pub pending: u64,
     pub room: u64,
     pub used: u64,
-    ghost small: { room ≤ 89 },
+    ghost small: { room ≤ margin },
 }
 
 /// The greatest count of what was used of a line: the space is exact down to -2^62.
-const USED: u64 = 0x4000_0000_0000_0000 + MARGIN;
+const USED: u64 = GREATEST_WIDTH + MARGIN;
 
 /// Whether the sum of a width and a length is greater than the space.
 #[inline(always)]
@@ -36,7 +39,7 @@ pub fn exceeds(line: &Line, width: u64, length: u64) -> bool
 }
 
 impl Line {
-    ghost use Rattle.lay_printer.specs.Pages.{Moves};
+    ghost use Rattle.lay_printer.specs.Pages.{Moves, greatest_used};
 
     /// Writes the blanks that wait, if there are any.
     #[inline(always)]
@@ -116,7 +119,7 @@ impl Line {
     /// A break that is a newline, in a frame of this indent.
     #[inline(never)]
     fn newline<K: Sink>(&mut self, sink: &mut K, brk: Break, indent: u64) -> Result<(), Failed>
-        requires { indent ≤ 240 }
+        requires { indent ≤ greatest_indent }
         ensures moves { Moves self.old (K.written sink.old) result self.new (K.written sink.new) (on_newline brk indent) }
         ensures cause { HasCause (K.faults sink.old) (K.faults sink.new) result }
         ensures loan { SameLoan (K.loan sink.old) (K.loan sink.new) }
@@ -126,11 +129,11 @@ impl Line {
         self.put_mark(sink, brk.after)
     }
 
-    /// Blanks that wait, of which there are never more than 1,000,000.
+    /// Blanks that wait, up to the greatest count.
     #[inline(always)]
     fn add_blanks(&mut self, blank: u16)
-        ensures pending { self.new.pending ≡ min (self.old.pending + blank) 1000000 }
-        ensures used { self.new.used ≡ min (self.old.used + blank) USED }
+        ensures pending { self.new.pending ≡ min (self.old.pending + blank) greatest_blanks }
+        ensures used { self.new.used ≡ min (self.old.used + blank) greatest_used }
         ensures room { self.new.room ≡ self.old.room }
     {
         self.pending = self

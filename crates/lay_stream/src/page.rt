@@ -3,13 +3,12 @@ ghost use Rattle.std.specs.Prelude.{◌≡◌, ◌≤◌, min, ◌+◌, ◌++◌
 ghost use Rattle.lay_layout.specs.Document.{State, write as written, put_mark as marked, line as on_line, newline as on_newline, skip as skipped, break_in};
 ghost use Rattle.lay_stream.specs.Pages.{Is};
 ghost use Rattle.lay_layout.specs.Indents.{IsKept};
+ghost use Rattle.lay_layout.specs.Margins.{greatest_indent, greatest_blanks, greatest_width};
 
-use lay_layout::{Break, Frame, GREATEST_BLANKS, LEAST_SPACE, MARGIN, Mark, shifted};
+use lay_layout::{
+    Break, Frame, GREATEST_BLANKS, GREATEST_WIDTH, LEAST_SPACE, MARGIN, Mark, shifted,
+};
 use lay_text::{NoMemory, Text};
-
-/// The greatest count of what was used of a line. No comparison sees more than this, since the room is at
-/// most the margin.
-const CAP: u64 = 0x4000_0000_0000_0000;
 
 /// The text so far, the blanks that are to be written before what comes next, the room of this line and what
 /// was used of it.
@@ -25,7 +24,8 @@ impl Page {
     /// A break in a frame; `big` says that its measure is greater than the space.
     pub fn put_break(&mut self, frame: Frame, brk: Break, big: bool) -> Result<(), NoMemory>
         requires { IsKept frame }
-        ensures { OnOk result ((s : State) → Is self.old s → Is self.new (break_in frame brk big s)) }
+        ensures { OnOk result ((s : State) → Is self.old s
+            → Is self.new (break_in frame brk big s)) }
     {
         if brk.never {
             return self.skip(brk);
@@ -44,8 +44,9 @@ impl Page {
 
     /// A break that is a newline.
     fn newline(&mut self, brk: Break, indent: u64) -> Result<(), NoMemory>
-        requires { indent ≤ 240 }
-        ensures { OnOk result ((s : State) → Is self.old s → Is self.new (on_newline brk indent s)) }
+        requires { indent ≤ greatest_indent }
+        ensures { OnOk result ((s : State) → Is self.old s
+            → Is self.new (on_newline brk indent s)) }
     {
         self.put_mark(brk.before)?;
         self.start_line(shifted(indent, brk.offset))?;
@@ -71,10 +72,10 @@ impl Page {
         self.put_mark(brk.instead)
     }
 
-    /// Blanks that wait, of which there are never more than 1,000,000.
+    /// Blanks that wait, up to the greatest count.
     fn add_blanks(&mut self, blank: u16)
-        ensures pending { self.new.pending ≡ min (self.old.pending + blank) 1000000 }
-        ensures used { self.new.used ≡ min (self.old.used + blank) CAP }
+        ensures pending { self.new.pending ≡ min (self.old.pending + blank) greatest_blanks }
+        ensures used { self.new.used ≡ min (self.old.used + blank) greatest_width }
         ensures room { self.new.room ≡ self.old.room }
         ensures text { self.new.text ≡ self.old.text }
     {
@@ -82,7 +83,7 @@ impl Page {
             .pending
             .saturating_add(blank as u64)
             .min(GREATEST_BLANKS);
-        self.used = self.used.saturating_add(blank as u64).min(CAP);
+        self.used = self.used.saturating_add(blank as u64).min(GREATEST_WIDTH);
     }
 
     /// A mark, if there is one.
@@ -103,13 +104,17 @@ impl Page {
     {
         self.write_blanks()?;
         self.text.push_bytes(bytes)?;
-        self.used = self.used.saturating_add(bytes.len() as u64).min(CAP);
+        self.used = self
+            .used
+            .saturating_add(bytes.len() as u64)
+            .min(GREATEST_WIDTH);
         Ok(())
     }
 
     /// The blanks that wait.
     fn write_blanks(&mut self) -> Result<(), NoMemory>
-        ensures text { OnOk result (self.new.text ≡ self.old.text ++ replicate self.old.pending 32) }
+        ensures text { OnOk result (self.new.text
+            ≡ self.old.text ++ replicate self.old.pending 32) }
         ensures pending { OnOk result (self.new.pending ≡ 0) }
         ensures room { self.new.room ≡ self.old.room }
         ensures used { self.new.used ≡ self.old.used }

@@ -2,6 +2,7 @@
 ghost use Rattle.std.specs.Prelude.{◌≡◌, ◌≤◌, ◌+◌, nat_lt, OnOk, IfOk};
 ghost use Rattle.lay_layout.specs.Machine.{opened, reach, Layout, step, text};
 ghost use Rattle.lay_layout.specs.Document.{Document, stream as stream_of, text_of};
+ghost use Rattle.lay_layout.specs.Margins.{margin};
 ghost use Rattle.lay_stream.specs.Pages.{At};
 
 use crate::frames::{Frames, asks_at_begin};
@@ -16,7 +17,8 @@ use std::alloc::Global;
 pub fn plain(alloc: Global, stream: &Stream) -> Result<Text, NoMemory>
     requires { opened stream.now 0 ≡ 0 }
     ensures value { IfOk result (λ t. t ≡ text stream.now) }
-    ensures document { IfOk result (λ t. (d : Document) → stream_of d ≡ stream.now → t ≡ text_of d) }
+    ensures document { IfOk result (λ t. (d : Document) → stream_of d ≡ stream.now
+        → t ≡ text_of d) }
 {
     lay(alloc, stream.toks())
 }
@@ -48,8 +50,9 @@ fn lay(alloc: Global, toks: &[Tok]) -> Result<Text, NoMemory>
 
 /// One token, which others follow.
 fn lay_one(page: &mut Page, frames: &mut Frames, tok: &Tok, more: &[Tok]) -> Result<(), NoMemory>
-    requires { page.old.room ≤ 89 }
-    ensures { OnOk result ((m : Layout) → At page.old frames.old m → At page.new frames.new (step tok.now more.now m)) }
+    requires { page.old.room ≤ margin }
+    ensures { OnOk result ((m : Layout) → At page.old frames.old m
+        → At page.new frames.new (step tok.now more.now m)) }
 {
     match tok {
         Tok::Text(text) => page.write(text.as_bytes()),
@@ -73,7 +76,7 @@ fn lay_one(page: &mut Page, frames: &mut Frames, tok: &Tok, more: &[Tok]) -> Res
 /// Whether a measure is greater than the space. It is a width and what tokens reach up to a break at depth 0.
 fn is_over(page: &Page, width: u64, more: &[Tok], depth: usize) -> bool
     requires depth { depth ≤ 1 }
-    requires room { page.now.room ≤ 89 }
+    requires room { page.now.room ≤ margin }
     ensures { result ≡ nat_lt page.now.room (page.now.used + (width + reach depth more.now)) }
 {
     if page.used > page.room {
