@@ -80,7 +80,8 @@ last_none cs l (Some r) f =
     let g = longest cs r f in
     let last = last_gap_rest g.gap r g.closed (sym (ap is_last_gap g.whole) ∙ l) in
     let n = g.no_more.unended in
-    absurd (cc)
+    let never : ⊥ = cc in
+    absurd never
 
 -- ---- each part takes a character
 

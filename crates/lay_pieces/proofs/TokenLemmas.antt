@@ -1,17 +1,22 @@
 -- The tokens of the parts that are found.
-use Rattle.std.proofs.Common.{◌≡◌, ℕ, ◌+◌, ◌-◌, ◌≤◌, Bool, List, [], ◌∷◌, ◌++◌, None, Some, length, drop, sym, refl, ap, ap₂, ◌∙◌, arith, IsUtf8}
-use Rattle.std.specs.Prelude.{encode_utf8_all}
-use Rattle.std.specs.Str.{chars}
+use Rattle.std.proofs.Common.{◌≡◌, ℕ, ◌+◌, ◌-◌, ◌≤◌, Bool, false, cond, ◌&&◌, List, [], ◌∷◌, ◌++◌, None, Some, length, drop, sym, refl, ap, ◌∙◌, arith, IsUtf8}
+use Rattle.std.specs.Prelude.{◌==◌, codes, encode_utf8_all}
+use Rattle.std.specs.Str.{bytes_eq, chars}
+use Rattle.std.proofs.lemmas.Bool.{eq-eqb, ne_eqb}
+use Rattle.std.proofs.lemmas.Str.{encodes-chars, length-le-encodes}
+use Rattle.lay_piece.specs.Chars.{is_nil}
 use Rattle.lay_piece.specs.Forms.{Had}
+use Rattle.lay_piece.specs.Found.{front_of}
 use Rattle.lay_piece.specs.Gap.{Outside}
 use Rattle.lay_piece.specs.declared.kind.Kind.{Kind}
-use Rattle.lay_piece.specs.Found.{front_of}
+use Rattle.lay_piece.specs.declared.kind.Kind.TheVariants.{Punct}
 use Rattle.lay_piece.proofs.Exact.{front_complete}
 use Rattle.lay_piece.proofs.Texts.{length_parts}
-use Rattle.lay_token.specs.Lexes.{Before, Lexes, Other, Part, is_index_place, is_joint, size, step, text_of_piece, tokens_from}
+use Rattle.lay_token.specs.Lexes.{Before, Lexes, Other, Part, Point, Points, is_index_place, is_joint, is_point, is_punct, size, step, text_of_piece, tokens_from}
 use Rattle.lay_token.specs.declared.token.Token.{Token}
 use Rattle.lay_lex.specs.Gap.{rest_of}
 use Rattle.lay_lex.proofs.Gaps.{longest}
+use Rattle.lay_lex.proofs.Marks.{same_test}
 use Rattle.lay_pieces.specs.Ahead.{next_part, parts_of}
 use Rattle.lay_pieces.proofs.PartLemmas.{next_found, parts_are, parts_more, parts_none}
 
@@ -26,14 +31,46 @@ lexed bytes start ts l =
 pub none_ahead : (b : Before) (at : ℕ) (cs : List ℕ) → next_part b cs ≡ None → tokens_from at (parts_of b cs) ≡ []
 none_ahead b at cs n = ap (tokens_from at) (parts_none b cs n)
 
+-- A gap is empty where it takes no bytes.
+touch : (gap : List ℕ) (ahead rest : ℕ) → ahead ≡ size gap + rest → rest == ahead ≡ is_nil gap
+touch [] ahead rest e = eq-eqb rest ahead (omega arith)
+touch (c ∷ gap) ahead rest e = ne_eqb rest ahead (λ h. absurd (omega (arith, length-le-encodes (c ∷ gap))))
+
+-- ---- what stands behind a piece
+
+point_bytes : (bytes : List ℕ) → IsUtf8 bytes → bytes_eq bytes (codes ".") ≡ bytes_eq (chars bytes) (codes ".")
+point_bytes bytes u =
+    ap (λ (x : List ℕ). bytes_eq x (codes ".")) (sym (encodes-chars bytes u)) ∙ same_test 46 (chars bytes) (omega arith)
+
+pub stepped : (b r : Before) (kind : Kind) (bytes : List ℕ) (touches point : Bool) (part : Part) → kind ≡ Punct → IsUtf8 bytes → part.kind ≡ kind
+    → part.piece ≡ chars bytes → touches ≡ is_nil part.gap → point ≡ bytes_eq bytes (codes ".")
+    → r ≡ cond point (cond (is_point b && touches) Points Point) Other → r ≡ step b part
+unfolding step
+stepped b r kind bytes touches point part p u k w t h e =
+    e
+    ∙ ap (λ (x : Bool). cond x (cond (is_point b && touches) Points Point) Other) (h ∙ point_bytes bytes u ∙ ap (λ (x : List ℕ). bytes_eq x (codes ".")) (sym w))
+    ∙ ap (λ (x : Bool). cond (bytes_eq part.piece (codes ".")) (cond (is_point b && x) Points Point) Other) t
+    ∙ ap (λ (x : Kind). cond (is_punct x && bytes_eq part.piece (codes ".")) (cond (is_point b && is_nil part.gap) Points Point) Other) (sym (k ∙ p))
+
+no_punct : (k : Kind) → (k ≡ Punct → ⊥) → is_punct k ≡ false
+no_punct Punct n = absurd (n refl)
+no_punct _ n = refl
+
+pub stepped_other : (b : Before) (kind : Kind) (part : Part) → (kind ≡ Punct → ⊥) → part.kind ≡ kind → Other ≡ step b part
+unfolding step
+stepped_other b kind part n k =
+    sym (ap (λ (x : Bool). cond (x && bytes_eq part.piece (codes ".")) (cond (is_point b && is_nil part.gap) Points Point) Other)
+    (ap is_punct k ∙ no_punct kind n))
+
+-- ---- the next token
+
 -- The next token, and what is ahead behind it: behind a gap stands a piece, in a text that ends at this byte.
 pub record Turned (b : Before) (end : ℕ) (ahead rest behind : List ℕ) (kind : Kind) (piece : List ℕ) : Type 0 where
   pub part : Part
   pub kind_is : part.kind ≡ kind
   pub piece_is : part.piece ≡ piece
+  pub touches : length rest == length ahead ≡ is_nil part.gap
   pub within : length rest ≤ end
-  pub shorter : length rest ≤ length ahead
-  pub gap_size : length ahead ≡ size part.gap + length rest
   pub behind_within : length behind ≤ end
   pub tokens : tokens_from (end - length ahead) (parts_of b (chars ahead))
       ≡ record {
@@ -61,9 +98,8 @@ turned b end ahead rest behind piece kind r w h k ua ur ub =
       part = part;
       kind_is = refl;
       piece_is = refl;
+      touches = touch l.gap (length ahead) (length rest) gap_size;
       within = omega (arith, gap_size, k);
-      shorter = omega (arith, gap_size);
-      gap_size = gap_size;
       behind_within = omega (arith, gap_size, piece_size, k);
       tokens = ap (tokens_from (end - length ahead)) (parts_more b (chars ahead) part (chars behind) found)
           ∙ ap (λ (n : ℕ). record {
