@@ -18,6 +18,7 @@ impl<'a> Ahead<'a> {
     ghost use Rattle.lay_map.specs.Ahead.{tokens_of};
 
     /// Goes past the next token and tells it; or nothing, where there is none.
+    #[inline(always)]
     pub(crate) fn next(&mut self) -> Option<Lexeme<'a>>
         ensures { IsNext (tokens_of self.old) result (tokens_of self.new) }
     {

@@ -50,7 +50,7 @@ pub fn units_of_text(
 fn found(alloc: Global, file: &File, tokens: Ahead<'_>) -> Result<List<Unit>, NoMemory>
     requires lexed { AreLexed (tokens_of tokens) }
     requires spells { SpellsFile top file.now (tokens_of tokens) }
-    ensures { IfOk result (λ list. ArePlaces file.now (tokens_of tokens) list) }
+    ensures { IfOk result (λ list. ArePlaces file.now (tokens_of tokens.entry) list) }
 {
     let mut marker = Marker::new(alloc, tokens, file.shebang.is_some());
     put_file(&mut marker, file)?;

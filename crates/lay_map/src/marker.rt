@@ -39,7 +39,7 @@ impl<'a> Model for Marker<'a> {
 impl<'a> Marker<'a> {
     /// Nothing was fed. The flag says that the first line is that of a shebang.
     pub(crate) fn new(alloc: Global, tokens: Ahead<'a>, shebang: bool) -> Marker<'a>
-        ensures { result ≡ record { tokens = tokens_of tokens; shebang = shebang; state = begun (tokens_of tokens) shebang; failed = false } }
+        ensures { result ≡ record { tokens = tokens_of tokens.entry; shebang = shebang; state = begun (tokens_of tokens.entry) shebang; failed = false } }
     {
         Marker {
             tokens,

@@ -61,7 +61,7 @@ impl<'a> Model for Marking<'a> {
 impl<'a> Marking<'a> {
     /// Nothing was fed. The flag says that the first line is that of a shebang, which has no tokens.
     pub(crate) fn new(alloc: Global, ahead: Ahead<'a>, shebang: bool) -> Marking<'a>
-        ensures { result ≡ begun (tokens_of ahead) shebang }
+        ensures { result ≡ begun (tokens_of ahead.entry) shebang }
     {
         Marking {
             walk: Walk::new(alloc, ahead),
@@ -153,6 +153,7 @@ impl<'a> Marking<'a> {
     }
 
     /// Takes the opening braces that wait, before a word that isn't `;`, or that is.
+    #[inline(always)]
     fn settle(&mut self, loose: bool) -> Result<(), NoMemory>
         ensures { OnOk result (self.new ≡ settled loose self.old) }
     {

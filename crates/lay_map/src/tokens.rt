@@ -38,6 +38,7 @@ pub(crate) fn is_semicolon(lexeme: &Lexeme<'_>) -> bool
 }
 
 /// Whether the token says what is looked for, as far as its first byte tells.
+#[inline(always)]
 pub(crate) fn says(sought: Sought, lexeme: &Lexeme<'_>) -> bool
     ensures { result ≡ is_said sought lexeme.now.kind lexeme.now.text.now }
 {
@@ -79,8 +80,9 @@ pub(crate) fn more_doc(inner: bool, kind: Kind) -> usize
 }
 
 /// Goes past so many tokens, as far as they are: the last of them, or else the first one.
+#[inline(always)]
 pub(crate) fn last_of<'a>(first: Lexeme<'a>, ahead: &mut Ahead<'a>, more: usize) -> Lexeme<'a>
-    ensures last { (t : TokenValue) → Tells first t → Tells result (last_of more t (tokens_of ahead.old)) }
+    ensures last { (t : TokenValue) → Tells first.entry t → Tells result (last_of more t (tokens_of ahead.old)) }
     ensures behind { tokens_of ahead.new ≡ drop more (tokens_of ahead.old) }
 {
     let mut last = first;
@@ -98,6 +100,7 @@ pub(crate) fn last_of<'a>(first: Lexeme<'a>, ahead: &mut Ahead<'a>, more: usize)
 }
 
 /// The unit from a token to another. There is no room for one that stands behind 2^32 bytes, or is as long.
+#[inline(always)]
 pub(crate) fn unit_from(first: &Lexeme<'_>, last: &Lexeme<'_>) -> Result<Unit, NoMemory>
     ensures { IfOk result (λ unit. (t u : TokenValue) → Tells first.now t → Tells last.now u → unit ≡ unit_from t u) }
 {

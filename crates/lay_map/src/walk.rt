@@ -46,7 +46,7 @@ impl<'a> Model for Walk<'a> {
 impl<'a> Walk<'a> {
     /// A walk before the first token.
     pub(crate) fn new(alloc: Global, ahead: Ahead<'a>) -> Walk<'a>
-        ensures { result ≡ record { ahead = tokens_of ahead; braces = []; units = [] } }
+        ensures { result ≡ record { ahead = tokens_of ahead.entry; braces = []; units = [] } }
     {
         Walk {
             ahead,
@@ -87,6 +87,7 @@ impl<'a> Walk<'a> {
 
     /// Takes so many opening braces, each as a unit: of those that stand in a row the last ones. The flag says that `;` may stand
     /// between them.
+    #[inline(never)]
     pub(crate) fn place(&mut self, row: usize, loose: bool) -> Result<(), NoMemory>
         ensures { OnOk result (self.new ≡ placed loose row self.old) }
     {
@@ -107,6 +108,7 @@ impl<'a> Walk<'a> {
 }
 
 /// Goes past the token that is looked for and tells it; or past all, where there is none.
+#[inline(always)]
 fn find<'a>(
     braces: &mut Flags,
     ahead: &mut Ahead<'a>,
@@ -124,6 +126,7 @@ fn find<'a>(
 }
 
 /// Whether the token is the one that is looked for.
+#[inline(always)]
 fn is_sought(braces: &Flags, sought: Sought, lexeme: &Lexeme<'_>) -> bool
     ensures { (t : TokenValue) → Tells lexeme.now t → result ≡ is_sought sought braces.now t }
 {
@@ -147,6 +150,7 @@ fn is_closing(sought: Sought) -> bool
 }
 
 /// Goes past a token of this kind, which is in a unit or isn't.
+#[inline(always)]
 fn pass(braces: &mut Flags, kind: Kind, is_kept: bool) -> Result<(), NoMemory>
     ensures { OnOk result (braces.new ≡ behind_token is_kept kind braces.old) }
 {
@@ -160,6 +164,7 @@ fn pass(braces: &mut Flags, kind: Kind, is_kept: bool) -> Result<(), NoMemory>
 }
 
 /// Takes a token, and so many more of those ahead, as a unit.
+#[inline(always)]
 fn take<'a>(
     braces: &mut Flags,
     units: &mut List<Unit>,
@@ -167,7 +172,7 @@ fn take<'a>(
     lexeme: Lexeme<'a>,
     more: usize,
 ) -> Result<(), NoMemory>
-    ensures { OnOk result ((t : TokenValue) → Tells lexeme t → taken_in more (t ∷ tokens_of ahead.old) braces.old units.old
+    ensures { OnOk result ((t : TokenValue) → Tells lexeme.entry t → taken_in more (t ∷ tokens_of ahead.old) braces.old units.old
         ≡ record { ahead = tokens_of ahead.new; braces = braces.new; units = units.new }) }
 {
     let last = last_of(lexeme, ahead, more);
@@ -221,7 +226,7 @@ fn place(
 /// How many opening braces stand in a row ahead. They were counted before, or else the count is 0; so no row is counted twice.
 fn counted(count: usize, ahead: Ahead<'_>, loose: bool) -> usize
     requires { IsCount loose count (tokens_of ahead) }
-    ensures { result ≡ openers loose (tokens_of ahead) }
+    ensures { result ≡ openers loose (tokens_of ahead.entry) }
 {
     if count == 0 {
         count_openers(ahead, loose)
@@ -232,7 +237,7 @@ fn counted(count: usize, ahead: Ahead<'_>, loose: bool) -> usize
 
 /// How many opening braces stand in a row, with any number of `;` between, or with none.
 fn count_openers(ahead: Ahead<'_>, loose: bool) -> usize
-    ensures { result ≡ openers loose (tokens_of ahead) }
+    ensures { result ≡ openers loose (tokens_of ahead.entry) }
 {
     let mut count = 0;
     let mut rest = ahead;

@@ -51,6 +51,7 @@ impl<'a> Cursor<'a> {
     }
 
     /// Goes past the next token and tells it; or nothing, where the text ends or no token is had.
+    #[inline(always)]
     pub fn next(&mut self) -> Option<Lexeme<'a>>
         ensures { IsNext (tokens_ahead self.old) result (tokens_ahead self.new) }
     {
@@ -71,6 +72,7 @@ impl<'a> Cursor<'a> {
 }
 
 /// Whether a number may be an index.
+#[inline]
 fn is_index_place(before: Before) -> bool
     ensures { result ≡ is_index_place (seen before) }
 {
@@ -78,6 +80,7 @@ fn is_index_place(before: Before) -> bool
 }
 
 /// What stands behind a piece; `touches` says that no gap stands before it.
+#[inline]
 fn behind_piece(before: Before, kind: Kind, piece: &str, touches: bool) -> Before
     ensures { (part : Part) → part.kind ≡ kind → part.piece ≡ chars piece.now → touches ≡ is_nil part.gap → seen result ≡ step (seen before) part }
 {
