@@ -7,7 +7,7 @@ ghost use Rattle.lay_map.specs.Marking.{is_free, opening_of, raised, read, read_
 use crate::ahead::Ahead;
 use crate::flags::Flags;
 use crate::unit::Unit;
-use crate::walk::Walk;
+use crate::walk::{Walk, one_more};
 use lay_layout::Break;
 use lay_text::{List, NoMemory};
 use std::alloc::Global;
@@ -245,13 +245,8 @@ impl<'a> Marking<'a> {
     fn raise(&mut self) -> Result<(), NoMemory>
         ensures { OnOk result (self.new ≡ raised self.old) }
     {
-        match self.row.checked_add(1) {
-            Some(row) => {
-                self.row = row;
-                Ok(())
-            }
-            None => Err(NoMemory),
-        }
+        self.row = one_more(self.row)?;
+        Ok(())
     }
 }
 

@@ -1,5 +1,5 @@
 //! A walk over tokens, which finds the first one that begins as a word does.
-ghost use Rattle.std.specs.Prelude.{◌≡◌, ◌++◌, ◌∷◌, [], IfOk, OnOk};
+ghost use Rattle.std.specs.Prelude.{◌≡◌, ◌+◌, ◌++◌, ◌∷◌, [], IfOk, OnOk};
 ghost use Rattle.lay_token.specs.declared.token.Token.{Token as TokenValue};
 ghost use Rattle.lay_units.specs.Choice.{behind_token, openers};
 ghost use Rattle.lay_pieces.specs.Ahead.{Tells};
@@ -204,7 +204,7 @@ fn place(
     let mut left = row;
     let mut count = 0;
     while left > 0 {
-        count = counted(count, *ahead, loose);
+        count = counted(count, *ahead, loose)?;
         match ahead.next() {
             Some(lexeme) => {
                 let is_kept = opens(lexeme.kind) && count <= left;
@@ -224,29 +224,39 @@ fn place(
 }
 
 /// How many opening braces stand in a row ahead. They were counted before, or else the count is 0; so no row is counted twice.
-fn counted(count: usize, ahead: Ahead<'_>, loose: bool) -> usize
+fn counted(count: usize, ahead: Ahead<'_>, loose: bool) -> Result<usize, NoMemory>
     requires { IsCount loose count (tokens_of ahead) }
-    ensures { result ≡ openers loose (tokens_of ahead.entry) }
+    ensures { IfOk result (λ given. given ≡ openers loose (tokens_of ahead.entry)) }
 {
     if count == 0 {
         count_openers(ahead, loose)
     } else {
-        count
+        Ok(count)
     }
 }
 
 /// How many opening braces stand in a row, with any number of `;` between, or with none.
-fn count_openers(ahead: Ahead<'_>, loose: bool) -> usize
-    ensures { result ≡ openers loose (tokens_of ahead.entry) }
+fn count_openers(ahead: Ahead<'_>, loose: bool) -> Result<usize, NoMemory>
+    ensures { IfOk result (λ count. count ≡ openers loose (tokens_of ahead.entry)) }
 {
     let mut count = 0;
     let mut rest = ahead;
     while let Some(lexeme) = rest.next() {
         if opens(lexeme.kind) {
-            count += 1;
+            count = one_more(count)?;
         } else if !(loose && is_semicolon(&lexeme)) {
-            return count;
+            return Ok(count);
         }
     }
-    count
+    Ok(count)
+}
+
+/// One more. There is no room to count beyond the greatest number.
+pub(crate) fn one_more(count: usize) -> Result<usize, NoMemory>
+    ensures { IfOk result (λ more. more ≡ count + 1) }
+{
+    match count.checked_add(1) {
+        Some(more) => Ok(more),
+        None => Err(NoMemory),
+    }
 }
