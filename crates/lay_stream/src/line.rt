@@ -37,7 +37,7 @@ pub fn exceeds(line: &Line, width: u64, length: u64) -> bool
 }
 
 impl Line {
-    ghost use Rattle.lay_printer.specs.Pages.{Moves, greatest_used};
+    ghost use Rattle.lay_stream.specs.Pages.{Moves, greatest_used};
 
     /// Writes the blanks that wait, if there are any.
     #[inline(always)]
