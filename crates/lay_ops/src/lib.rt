@@ -24,4 +24,4 @@ pub use numbers::is_number;
 pub use operands::begins_operand;
 pub use operators::{binary, prefix};
 pub use places::{may, stands};
-pub use roots::{is_block_like, is_free, level};
+pub use roots::{first_level, is_block_like, is_free, level};

@@ -12,7 +12,7 @@ use lay_read_tokens::front::is_keyword;
 use lay_token::Kind;
 
 /// The level of an operator between operands, from 0 of an assignment to 10 of a product.
-pub fn op_level(op: Op) -> u8
+pub(crate) fn op_level(op: Op) -> u8
     ensures { result ≡ operators.op_level op }
 {
     match op {

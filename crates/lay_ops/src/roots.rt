@@ -32,8 +32,8 @@ pub fn level(expr: &Expr) -> u8
     }
 }
 
-/// The level of the operators of a chain.
-fn first_level(rest: &[(Op, Boxed<Expr>)]) -> u8
+/// The level of the operators of a chain, of which these are the operands behind the first.
+pub fn first_level(rest: &[(Op, Boxed<Expr>)]) -> u8
     ensures { result ≡ first_level rest.now }
 {
     match rest {

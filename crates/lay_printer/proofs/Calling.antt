@@ -9,13 +9,13 @@ use Rattle.lay_ring.specs.declared.entry.Entry.{Entry}
 use Rattle.lay_ring.specs.declared.entry.Size.{Size}
 use Rattle.lay_ring.specs.declared.entry.Size.TheVariants.{Unknown, Known, Forced}
 use Rattle.lay_stream.specs.Fed.{Start, Puts, Stops, FedFront, Did}
-use Rattle.lay_printer.specs.declared.line.Line.{Line}
+use Rattle.lay_stream.specs.declared.line.Line.{Line}
 use Rattle.lay_printer.specs.declared.engine.PrintError.{PrintError}
 use Rattle.lay_printer.specs.declared.engine.PrintError.TheVariants.{WriteFailed, NoMemory}
 use Rattle.lay_printer.specs.Printing.{Printing}
 use Rattle.lay_printer.specs.Queued.{Holds}
 use Rattle.lay_queue.specs.Scan.{waiting}
-use Rattle.lay_printer.specs.Pages.{Wrote, Cut}
+use Rattle.lay_stream.specs.Pages.{Wrote, Cut}
 use Rattle.lay_queue.specs.Entries.{least_width, next_of}
 use Rattle.lay_printer.specs.Queued.{Advances, Says, Decided}
 use Rattle.lay_printer.specs.Printers.{at, Runs, Fails, FedBy, CauseOf, Blames, LostBy, Went, Lost, Calls, Finishes, printer_meanings}

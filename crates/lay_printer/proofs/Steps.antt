@@ -11,6 +11,7 @@ use Rattle.lay_layout.specs.declared.layout.Tok.{Tok}
 use Rattle.lay_layout.specs.declared.layout.Tok.TheVariants as tok
 use Rattle.lay_layout.specs.Document.{State, width_of_break, over, put_mark, skip, newline, line, shift, break_by}
 use Rattle.lay_layout.specs.Machine.{outer, reach, measure, play, step, act, Layout, begun, text, top}
+use Rattle.lay_stream.proofs.Paging.{Grows}
 use Rattle.lay_ring.specs.declared.entry.Size.{Size}
 use Rattle.lay_ring.specs.declared.entry.Size.TheVariants.{Unknown, Known}
 use Rattle.lay_ring.specs.declared.entry.Entry.{Entry}
@@ -223,9 +224,6 @@ pub text_ended : (s : List Tok) (m : Layout) → Holds true s [] m → text s �
 text_ended s m h = text_ended_of s m h.printed h.waits h.all h.are_sized h.shown
 
 -- what was printed is a front of what will be
-abbrev pub Grows : List ℕ → List ℕ → Type 0
-Grows a b = (u : List ℕ) × (b ≡ a ++ u)
-
 pub grows_same : (a : List ℕ) → Grows a a
 grows_same a = ([], sym (append-nil a))
 

@@ -10,7 +10,7 @@ use Rattle.lay_queue.specs.Closed.{toks_of}
 use Rattle.lay_queue.specs.Entries.{least_width}
 use Rattle.lay_queue.specs.Scan.{text_length}
 use Rattle.lay_queue.specs.Queues.{IsAdded}
-use Rattle.lay_printer.specs.declared.line.Line.{Line}
+use Rattle.lay_stream.specs.declared.line.Line.{Line}
 use Rattle.lay_printer.specs.Queued.{Decided, IsLimit, IsUndecided, MayStay, Says}
 
 pub undecided_of : (es : List Entry) (wait : ℕ) (p : Line) → Decided es wait p None → IsUndecided es p

@@ -8,11 +8,11 @@ use Rattle.lay_layout.specs.Machine.{outer, measure, layout_after, shown}
 use Rattle.lay_queue.specs.Scan.{cap}
 use Rattle.lay_queue.specs.Closed.{toks_of}
 use Rattle.lay_printer.specs.Printing.{Printing}
-use Rattle.lay_printer.specs.Pages.{Is, Wrote}
+use Rattle.lay_stream.specs.Pages.{Is, Wrote}
 use Rattle.lay_printer.specs.Printers.{Runs, at}
 use Rattle.lay_ring.specs.declared.entry.Size.TheVariants.{Unknown, Known, Forced}
 use Rattle.lay_ring.specs.declared.entry.Entry.{Entry}
-use Rattle.lay_printer.specs.declared.line.Line.{Line}
+use Rattle.lay_stream.specs.declared.line.Line.{Line}
 
 -- The sink grew by what is shown at the last printed token, the line is as there, and the tokens of s after it wait.
 pub record InStep (es : List Entry) (p : Line) (w : Option (List ℕ)) (content : List ℕ) (s r : List Tok) : Type 0 where

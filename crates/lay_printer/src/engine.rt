@@ -12,12 +12,12 @@ ghost use Rattle.lay_queue.specs.Queues.{IsAdded};
 ghost use Rattle.lay_printer.specs.Queued.{Advances, Decided, Ends, IsClear, IsLimit, IsOpenAtFront, IsUndecided, MayStay};
 ghost use Rattle.lay_queue.specs.Entries.{next_of};
 
-use crate::line::exceeds;
 use crate::page::Page;
 use lay_io::{Failed, Sink};
 use lay_layout::Break;
 use lay_queue::{Queue, least_width};
 use lay_ring::LentTok;
+use lay_stream::exceeds;
 use lay_text::NoMemory;
 
 /// Why a call of a printer failed.

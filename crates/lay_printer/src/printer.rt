@@ -4,7 +4,7 @@ ghost use Rattle.lay_layout.specs.declared.layout.Tok.TheVariants as tok;
 ghost use Rattle.lay_layout.specs.Machine.{IsNested};
 ghost use Rattle.lay_layout.specs.Margins.{margin};
 ghost use Rattle.lay_io.specs.Faults.{SameLoan};
-ghost use Rattle.lay_printer.specs.Pages.{greatest_used};
+ghost use Rattle.lay_stream.specs.Pages.{greatest_used};
 ghost use Rattle.lay_printer.specs.Printers.{Calls, Finishes, IsWhole, Repeats, TakesRoom};
 ghost use Rattle.lay_printer.specs.Promises.{FitSpace, IsSame, IsSpace, KeepsStep, RunsAs, RunsFresh};
 ghost use Rattle.lay_printer.specs.Queued.{IsClear};
@@ -15,12 +15,12 @@ ghost use Rattle.lay_printer.specs.declared.engine.PrintError.TheVariants.{Write
 
 use crate::engine::{Engine, PrintError};
 use crate::frames::Frames;
-use crate::line::Line;
 use crate::page::Page;
 use lay_io::{Failed, Sink};
 use lay_layout::{Break, GREATEST_WIDTH, MARGIN};
 use lay_queue::Queue;
 use lay_ring::LentTok;
+use lay_stream::Line;
 use lay_text::{NoMemory, Text};
 use std::alloc::Global;
 use std::marker::Model;

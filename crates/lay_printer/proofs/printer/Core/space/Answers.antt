@@ -1,7 +1,7 @@
 use Rattle.std.proofs.Common.{rules, ◌≡◌, ◌++◌, ℕ, ◌+◌, min, pos, ◌-ℤ◌, ap, ap₂, ◌∙◌, arith}
 use Rattle.lay_layout.specs.Machine.{layout_after}
 use Rattle.lay_queue.specs.Scan.{cap}
-use Rattle.lay_printer.specs.declared.line.Line.{Line}
+use Rattle.lay_stream.specs.declared.line.Line.{Line}
 use Rattle.lay_printer.specs.Printing.{Printing}
 use Rattle.lay_printer.specs.Printers.{at}
 use Rattle.lay_printer.specs.Promises.{least_space}

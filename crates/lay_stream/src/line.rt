@@ -39,12 +39,13 @@ pub fn exceeds(line: &Line, width: u64, length: u64) -> bool
 }
 
 impl Line {
-    ghost use Rattle.lay_printer.specs.Pages.{Moves, greatest_used};
+    ghost use Rattle.lay_stream.specs.Pages.{Moves, greatest_used};
 
     /// Writes the blanks that wait, if there are any.
     #[inline(always)]
     fn write_blanks<K: Sink>(&mut self, sink: &mut K) -> Result<(), Failed>
-        ensures bytes { Writes (K.written sink.old) (K.written sink.new) result (replicate self.old.pending 32) }
+        ensures bytes { Writes (K.written sink.old) (K.written sink.new) result
+            (replicate self.old.pending 32) }
         ensures pending { OnOk result (self.new.pending ≡ 0) }
         ensures room { self.new.room ≡ self.old.room }
         ensures used { self.new.used ≡ self.old.used }
@@ -60,7 +61,8 @@ impl Line {
     /// Writes the blanks that wait, up to 64 at once.
     #[inline(never)]
     fn write_pending<K: Sink>(&mut self, sink: &mut K) -> Result<(), Failed>
-        ensures bytes { Writes (K.written sink.old) (K.written sink.new) result (replicate self.old.pending 32) }
+        ensures bytes { Writes (K.written sink.old) (K.written sink.new) result
+            (replicate self.old.pending 32) }
         ensures pending { OnOk result (self.new.pending ≡ 0) }
         ensures room { self.new.room ≡ self.old.room }
         ensures used { self.new.used ≡ self.old.used }
@@ -78,7 +80,8 @@ impl Line {
 
     /// Writes the blanks that wait, and then the bytes.
     pub fn write<K: Sink>(&mut self, sink: &mut K, bytes: &[u8]) -> Result<(), Failed>
-        ensures moves { Moves self.old (K.written sink.old) result self.new (K.written sink.new) (written_on bytes.now) }
+        ensures moves { Moves self.old (K.written sink.old) result self.new (K.written sink.new)
+            (written_on bytes.now) }
         ensures cause { HasCause (K.faults sink.old) (K.faults sink.new) result }
         ensures loan { SameLoan (K.loan sink.old) (K.loan sink.new) }
     {
@@ -91,7 +94,8 @@ impl Line {
     /// Writes a mark, if there is one.
     #[inline(always)]
     fn put_mark<K: Sink>(&mut self, sink: &mut K, mark: Mark) -> Result<(), Failed>
-        ensures moves { Moves self.old (K.written sink.old) result self.new (K.written sink.new) (marked mark) }
+        ensures moves { Moves self.old (K.written sink.old) result self.new (K.written sink.new)
+            (marked mark) }
         ensures cause { HasCause (K.faults sink.old) (K.faults sink.new) result }
         ensures loan { SameLoan (K.loan sink.old) (K.loan sink.new) }
     {
@@ -105,7 +109,8 @@ impl Line {
 
     /// Begins a line with so many blanks, which wait.
     fn start_line<K: Sink>(&mut self, sink: &mut K, blanks: u64) -> Result<(), Failed>
-        ensures moves { Moves self.old (K.written sink.old) result self.new (K.written sink.new) (on_line blanks) }
+        ensures moves { Moves self.old (K.written sink.old) result self.new (K.written sink.new)
+            (on_line blanks) }
         ensures cause { HasCause (K.faults sink.old) (K.faults sink.new) result }
         ensures loan { SameLoan (K.loan sink.old) (K.loan sink.new) }
     {
@@ -120,7 +125,8 @@ impl Line {
     #[inline(never)]
     fn newline<K: Sink>(&mut self, sink: &mut K, brk: Break, indent: u64) -> Result<(), Failed>
         requires { indent ≤ greatest_indent }
-        ensures moves { Moves self.old (K.written sink.old) result self.new (K.written sink.new) (on_newline brk indent) }
+        ensures moves { Moves self.old (K.written sink.old) result self.new (K.written sink.new)
+            (on_newline brk indent) }
         ensures cause { HasCause (K.faults sink.old) (K.faults sink.new) result }
         ensures loan { SameLoan (K.loan sink.old) (K.loan sink.new) }
     {
@@ -146,7 +152,8 @@ impl Line {
     /// A break that is no newline.
     #[inline(always)]
     fn skip<K: Sink>(&mut self, sink: &mut K, brk: Break) -> Result<(), Failed>
-        ensures moves { Moves self.old (K.written sink.old) result self.new (K.written sink.new) (skipped brk) }
+        ensures moves { Moves self.old (K.written sink.old) result self.new (K.written sink.new)
+            (skipped brk) }
         ensures cause { HasCause (K.faults sink.old) (K.faults sink.new) result }
         ensures loan { SameLoan (K.loan sink.old) (K.loan sink.new) }
     {
@@ -164,7 +171,8 @@ impl Line {
         big: bool,
     ) -> Result<(), Failed>
         requires { IsKept frame }
-        ensures moves { Moves self.old (K.written sink.old) result self.new (K.written sink.new) (break_in frame brk big) }
+        ensures moves { Moves self.old (K.written sink.old) result self.new (K.written sink.new)
+            (break_in frame brk big) }
         ensures cause { HasCause (K.faults sink.old) (K.faults sink.new) result }
         ensures loan { SameLoan (K.loan sink.old) (K.loan sink.new) }
     {

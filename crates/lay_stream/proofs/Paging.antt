@@ -5,10 +5,9 @@ use Rattle.lay_layout.specs.Document.{State, write, put_mark, skip}
 use Rattle.lay_layout.specs.declared.layout.Break.{Break}
 use Rattle.lay_io.specs.Told.{GrewBy, GrewByPrefix}
 use Rattle.lay_io.specs.Calls.{Writes}
-use Rattle.lay_printer.specs.declared.line.Line.{Line}
+use Rattle.lay_stream.specs.declared.line.Line.{Line}
 use Rattle.lay_io.proofs.Growth.{grew_by-more, grew_by_prefix-more, grew_by_prefix-longer}
-use Rattle.lay_printer.specs.Pages.{greatest_used, Is, Wrote, Cut, Moves}
-use Rattle.lay_printer.proofs.Steps.{Grows}
+use Rattle.lay_stream.specs.Pages.{greatest_used, Is, Wrote, Cut, Moves}
 
 take-replicate : (k n x : ℕ) → k ≤ n → take k (replicate n x) ≡ replicate k x
 take-replicate zero n x l = refl
@@ -24,6 +23,10 @@ replicate-add (suc m) n x =
 blanked : (p q : Line) (k : Break) (s : State) → q.pending ≡ min (p.pending + k.blank) greatest_blanks → q.used ≡ min (p.used + k.blank) greatest_used → q.room ≡ p.room → Is p s →
     Is q (record { text = s.text; pending = min (s.pending + k.blank) greatest_blanks; room = s.room; used = s.used + k.blank })
 blanked p q k s e f g i = record { pending = omega (arith, i.pending); room = omega (arith, i.room); small = i.small; used = omega (arith, i.used) }
+
+-- what was written is a front of what will be
+abbrev pub Grows : List ℕ → List ℕ → Type 0
+Grows a b = (u : List ℕ) × (b ≡ a ++ u)
 
 -- a front of what is a front
 pub cut_more : (now : Option (List ℕ)) (content t u : List ℕ) → Cut now content t → Grows t u → Cut now content u
