@@ -4,7 +4,8 @@ use Rattle.lay_token.specs.declared.token.Token.{Token}
 use Rattle.lay_units.specs.Choice.{behind_token}
 use Rattle.lay_pieces.specs.Ahead.{IsNext, Tells}
 use Rattle.lay_pieces.specs.declared.cursor.Lexeme.{Lexeme}
-use Rattle.lay_map.specs.Walks.{Finds, Place, is_sought, last_of, sought_in}
+use Rattle.lay_map.specs.Finding.{Finds}
+use Rattle.lay_map.specs.Walks.{Place, is_sought, last_of, sought_in}
 use Rattle.lay_map.specs.declared.unit.Unit.{Unit}
 use Rattle.lay_map.specs.declared.walk.Sought.{Sought}
 

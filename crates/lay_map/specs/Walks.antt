@@ -1,12 +1,10 @@
 -- A walk over tokens that is told what begins the words, one by one: the first token is taken that begins so, and what stands before
 -- it is in no unit. Braces alone need more than that, as `Choice` of lay_units says.
-use Rattle.std.specs.Prelude.{◌≡◌, ◌⊎◌, ℕ, zero, suc, ◌+◌, ◌-◌, min, Bool, true, false, cond, ◌&&◌, ◌==◌, nat_le, List, [], ◌∷◌, ◌++◌, drop, length, Option}
+use Rattle.std.specs.Prelude.{◌≡◌, ◌⊎◌, ℕ, zero, suc, ◌+◌, ◌-◌, min, Bool, true, false, cond, ◌&&◌, ◌==◌, nat_le, List, [], ◌∷◌, ◌++◌, drop, length}
 use Rattle.lay_piece.specs.Characters as char
 use Rattle.lay_piece.specs.declared.kind.Kind.{Kind}
 use Rattle.lay_token.specs.declared.token.Token.{Token}
 use Rattle.lay_units.specs.Choice.{alike, begins_doc, behind_token, closes, more_doc, openers, opens, top}
-use Rattle.lay_pieces.specs.Ahead.{IsNext}
-use Rattle.lay_pieces.specs.declared.cursor.Lexeme.{Lexeme}
 use Rattle.lay_map.specs.declared.unit.Unit.{Unit}
 use Rattle.lay_map.specs.declared.walk.Sought.{Sought}
 use Rattle.lay_map.specs.declared.walk.Sought.TheVariants.{First, Docs}
@@ -72,16 +70,6 @@ first_length (t ∷ ts) = length t.text
 abbrev pub more_of : Bool → List Token → ℕ
 more_of inner [] = 0
 more_of inner (t ∷ ts) = more_doc inner t.kind
-
--- Documentation is looked for, and is a unit.
-abbrev pub documented_from : Bool → Place → Place
-documented_from inner p = let q = sought_from Docs p in taken_from (more_of inner q.ahead) q
-
--- What is looked for is told, if it is there, and these tokens are behind it; or there is none.
-pub record Finds (sought : Sought) (ts : List Token) (old : List Bool) (result : Option Lexeme) (behind : List Token) (new : List Bool) : Type 0 where
-  pub there : List Token
-  pub next : IsNext there result behind
-  pub are : (units : List Unit) → sought_in sought ts old units ≡ record { ahead = there; braces = new; units = units }
 
 -- ---- rows of opening braces
 

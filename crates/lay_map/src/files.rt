@@ -21,7 +21,8 @@ use std::alloc::Global;
 /// Where the units of the tokens stand that spell the file, in their order: each token that says something of it, and the tokens of one
 /// documentation together. A mark that the grammar lets stand or not is in none.
 ///
-/// The tokens are those that some text lexes to.
+/// The tokens are those that some text lexes to. There is no room, as where memory is wanting, for a unit that begins behind 2^32 bytes or is
+/// as long.
 pub fn units(alloc: Global, file: &File, nested: &Nested) -> Result<List<Unit>, NoMemory>
     requires lexed { AreLexed nested.now }
     requires spells { SpellsFile top file.now nested.now }
@@ -31,8 +32,7 @@ pub fn units(alloc: Global, file: &File, nested: &Nested) -> Result<List<Unit>, 
     found(alloc, file, Ahead::Tokens(cursor.as_slice()))
 }
 
-/// The same of a text that isn't lexed yet, from the place on at which it is: where the units of the tokens stand that it lexes to. No list of
-/// tokens is made of it.
+/// The same of a text, from a place on: where the units of the tokens stand that it lexes to. No list of these tokens is made.
 pub fn units_of_text(
     alloc: Global,
     file: &File,

@@ -4,7 +4,8 @@ ghost use Rattle.lay_token.specs.declared.token.Token.{Token as TokenValue};
 ghost use Rattle.lay_units.specs.Choice.{behind_token, openers};
 ghost use Rattle.lay_pieces.specs.Ahead.{Tells};
 ghost use Rattle.lay_map.specs.Ahead.{tokens_of};
-ghost use Rattle.lay_map.specs.Walks.{Finds, IsCount, documented_from, first_length, is_closing, is_sought, placed, placed_in, sought_from, taken_from, taken_in};
+ghost use Rattle.lay_map.specs.Finding.{Finds, documented_from};
+ghost use Rattle.lay_map.specs.Walks.{IsCount, first_length, is_closing, is_sought, placed, placed_in, sought_from, taken_from, taken_in};
 
 use crate::ahead::Ahead;
 use crate::flags::Flags;
@@ -64,7 +65,13 @@ impl<'a> Walk<'a> {
         let found = find(&mut self.braces, &mut self.ahead, Sought::First(byte))?;
         match found {
             Some(lexeme) => {
-                take(&mut self.braces, &mut self.units, &mut self.ahead, lexeme, 0)?;
+                take(
+                    &mut self.braces,
+                    &mut self.units,
+                    &mut self.ahead,
+                    lexeme,
+                    0,
+                )?;
                 Ok(lexeme.text.len())
             }
             None => Ok(0),
@@ -79,7 +86,13 @@ impl<'a> Walk<'a> {
         match found {
             Some(lexeme) => {
                 let more = more_doc(inner, lexeme.kind);
-                take(&mut self.braces, &mut self.units, &mut self.ahead, lexeme, more)
+                take(
+                    &mut self.braces,
+                    &mut self.units,
+                    &mut self.ahead,
+                    lexeme,
+                    more,
+                )
             }
             None => Ok(()),
         }
@@ -91,7 +104,13 @@ impl<'a> Walk<'a> {
     pub(crate) fn place(&mut self, row: usize, loose: bool) -> Result<(), NoMemory>
         ensures { OnOk result (self.new ≡ placed loose row self.old) }
     {
-        place(&mut self.braces, &mut self.units, &mut self.ahead, row, loose)
+        place(
+            &mut self.braces,
+            &mut self.units,
+            &mut self.ahead,
+            row,
+            loose,
+        )
     }
 
     /// The units that were found.

@@ -4,7 +4,6 @@ use Rattle.std.specs.Prelude.{ℕ, zero, suc, ◌-◌, ◌≡◌, Bool, List, []
 use Rattle.std.specs.Str.{chars}
 use Rattle.lay_piece.specs.Found.{FrontPiece, front_of}
 use Rattle.lay_piece.specs.Gap.{Outside}
-use Rattle.lay_piece.specs.declared.kind.Kind.{Kind}
 use Rattle.lay_token.specs.Lexes.{Before, Part, is_index_place, step, tokens_from}
 use Rattle.lay_token.specs.declared.token.Token.{Token}
 use Rattle.lay_lex.specs.Added.{before}

@@ -1,5 +1,4 @@
-use Rattle.std.proofs.Common.{◌≡◌, sym, ◌∙◌, subst}
-use Rattle.lay_token.specs.declared.token.Token.{Token}
+use Rattle.std.proofs.Common.{sym, ◌∙◌, subst}
 use Rattle.lay_pieces.specs.Ahead.{Tells}
 use Rattle.lay_map.specs.Ahead.{tokens_of}
 use Rattle.lay_map.proofs.WalkLemmas.{drop_step, last_none, last_step, last_zero}
