@@ -46,27 +46,26 @@ fn found_of_text(alloc: Global, file: &File, source: &Source) -> Result<List<Uni
     units_of_text(alloc, file, source.as_str(), source.start)
 }
 
-/// What is found of a text without a first line.
+/// The units of a text without a first line, found of its tokens and of itself, and its output.
 #[derive(Drop)]
-struct Found {
-    units: List<Unit>,
-    /// The same, found of the text.
+struct Both {
+    of_tokens: List<Unit>,
     of_text: List<Unit>,
     output: Text,
 }
 
 /// The units of a text without a first line, and its output.
-fn read(alloc: Global, text: &[u8]) -> Result<Found, FormatError> {
+fn read(alloc: Global, text: &[u8]) -> Result<Both, FormatError> {
     let source = normalise(alloc, text)?;
     let tokens = lex(alloc, &source)?;
     let nested = nest(alloc, tokens)?;
     let file = read_file(alloc, &nested, None, DEPTH)?;
-    let Ok((units, output)) = found(alloc, &file, &nested) else {
+    let Ok((of_tokens, output)) = found(alloc, &file, &nested) else {
         return Err(FormatError::NoMemory);
     };
     match found_of_text(alloc, &file, &source) {
-        Ok(of_text) => Ok(Found {
-            units,
+        Ok(of_text) => Ok(Both {
+            of_tokens,
             of_text,
             output,
         }),
@@ -75,8 +74,8 @@ fn read(alloc: Global, text: &[u8]) -> Result<Found, FormatError> {
 }
 
 /// The units that were found of the text are those that were found of its tokens.
-fn is_same(found: &Found) -> bool {
-    found.units.as_slice() == found.of_text.as_slice()
+fn is_same(both: &Both) -> bool {
+    both.of_tokens.as_slice() == both.of_text.as_slice()
 }
 
 /// The lines of a text.
@@ -88,7 +87,7 @@ fn lines(alloc: Global, text: &str) -> Result<String, Fail> {
         lines.push_str("the units of a text aren't those of its tokens")?;
         return Ok(lines);
     }
-    let (source, target) = (source.units.as_slice(), target.units.as_slice());
+    let (source, target) = (source.of_tokens.as_slice(), target.of_tokens.as_slice());
     if source.len() != target.len() {
         return Ok(lines);
     }
