@@ -8,7 +8,7 @@ ghost use Rattle.lay_mapping.specs.Lines.{line_of, map_text, unit_text};
 
 use itoa::Buffer;
 use lay_io::{Failed, Sink};
-use lay_map::Unit;
+use lay_map::{Span, Unit};
 use lay_printer::PrintError;
 use lay_token::NoMemory;
 use std::alloc::Global;
@@ -16,8 +16,8 @@ use std::alloc::Global;
 /// Writes a line for each unit of the source and the unit of the output that has the same number.
 pub fn write_lines<K: Sink>(
     alloc: Global,
-    source: &[Unit],
-    output: &[Unit],
+    source: &[Span],
+    output: &[Span],
     out: &mut K,
 ) -> Result<(), PrintError>
     ensures whole { OnOk result (GrewBy (K.written out.old) (K.written out.new) (map_text (paired source.now output.now))) }
@@ -32,7 +32,7 @@ pub fn write_lines<K: Sink>(
     while let Some((unit, more)) = units.split_first() {
         match others.split_first() {
             Some((other, behind)) => {
-                match write_line(&mut line, *unit, *other, out) {
+                match write_line(&mut line, unit.unit(), other.unit(), out) {
                     Ok(()) => {}
                     Err(error) => return Err(error),
                 }
