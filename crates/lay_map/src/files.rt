@@ -42,8 +42,10 @@ pub fn units_of_text(
     start: usize,
 ) -> Result<List<Span>, NoMemory>
     requires border { IsCharBoundary text.now start }
-    requires read { (tokens : Items TokenValue) × Lexes text.now start tokens × SpellsFile top file.now tokens }
-    ensures { IfOk result (λ list. (tokens : Items TokenValue) → Lexes text.now start tokens → ArePlaces file.now tokens list) }
+    requires read { (tokens : Items TokenValue) × Lexes text.now start tokens
+        × SpellsFile top file.now tokens }
+    ensures { IfOk result (λ list. (tokens : Items TokenValue) → Lexes text.now start tokens
+        → ArePlaces file.now tokens list) }
 {
     found(alloc, file, Ahead::Text(Cursor::new(text, start)))
 }

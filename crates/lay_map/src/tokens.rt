@@ -82,7 +82,8 @@ pub(crate) fn more_doc(inner: bool, kind: Kind) -> usize
 /// Goes past so many tokens, as far as they are: the last of them, or else the first one.
 #[inline(always)]
 pub(crate) fn last_of<'a>(first: Lexeme<'a>, ahead: &mut Ahead<'a>, more: usize) -> Lexeme<'a>
-    ensures last { (t : TokenValue) → Tells first.entry t → Tells result (last_of more t (tokens_of ahead.old)) }
+    ensures last { (t : TokenValue) → Tells first.entry t
+        → Tells result (last_of more t (tokens_of ahead.old)) }
     ensures behind { tokens_of ahead.new ≡ drop more (tokens_of ahead.old) }
 {
     let mut last = first;

@@ -97,7 +97,8 @@ pub(crate) fn units_of_spans(alloc: Global, spans: &[Span]) -> Result<List<Unit>
 
 /// Adds a pair at the end.
 fn add(list: &mut List<Pair>, source: Unit, output: Unit) -> Result<(), NoMemory>
-    ensures { OnOk result (list.new ≡ list.old ++ record { source = source; output = output } ∷ []) }
+    ensures { OnOk result (list.new ≡ list.old ++ record { source = source; output = output }
+        ∷ []) }
 {
     match list.push(Pair { source, output }) {
         Ok(()) => Ok(()),

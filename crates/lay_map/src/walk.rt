@@ -59,8 +59,10 @@ impl<'a> Walk<'a> {
     /// Takes the first token whose text begins with this byte as a unit: how many bytes its text has. The tokens before it are in no
     /// unit.
     pub(crate) fn word(&mut self, byte: u8) -> Result<usize, NoMemory>
-        ensures word { OnOk result (self.new ≡ taken_from 0 (sought_from (Sought.First byte) self.old)) }
-        ensures length { IfOk result (λ length. length ≡ first_length (sought_from (Sought.First byte) self.old).ahead) }
+        ensures word { OnOk result (self.new ≡ taken_from 0
+            (sought_from (Sought.First byte) self.old)) }
+        ensures length { IfOk result (λ length. length
+            ≡ first_length (sought_from (Sought.First byte) self.old).ahead) }
     {
         let found = find(&mut self.braces, &mut self.ahead, Sought::First(byte))?;
         match found {
@@ -133,7 +135,8 @@ fn find<'a>(
     ahead: &mut Ahead<'a>,
     sought: Sought,
 ) -> Result<Option<Lexeme<'a>>, NoMemory>
-    ensures { IfOk result (λ found. Finds sought (tokens_of ahead.old) braces.old found (tokens_of ahead.new) braces.new) }
+    ensures { IfOk result (λ found. Finds sought (tokens_of ahead.old) braces.old found
+        (tokens_of ahead.new) braces.new) }
 {
     while let Some(lexeme) = ahead.next() {
         if is_sought(braces, sought, &lexeme) {
@@ -191,7 +194,8 @@ fn take<'a>(
     lexeme: Lexeme<'a>,
     more: usize,
 ) -> Result<(), NoMemory>
-    ensures { OnOk result ((t : TokenValue) → Tells lexeme.entry t → taken_in more (t ∷ tokens_of ahead.old) braces.old units.old
+    ensures { OnOk result ((t : TokenValue) → Tells lexeme.entry t
+        → taken_in more (t ∷ tokens_of ahead.old) braces.old units.old
         ≡ record { ahead = tokens_of ahead.new; braces = braces.new; units = units.new }) }
 {
     let last = last_of(lexeme, ahead, more);

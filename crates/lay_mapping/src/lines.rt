@@ -20,9 +20,12 @@ pub fn write_lines<K: Sink>(
     output: &[Span],
     out: &mut K,
 ) -> Result<(), PrintError>
-    ensures whole { OnOk result (GrewBy (K.written out.old) (K.written out.new) (map_text (paired source.now output.now))) }
-    ensures part { OnErr result (GrewByPrefix (K.written out.old) (K.written out.new) (map_text (paired source.now output.now))) }
-    ensures cause { IsErrOf result PrintError.WriteFailed → Rose (K.faults out.old) (K.faults out.new) }
+    ensures whole { OnOk result (GrewBy (K.written out.old) (K.written out.new)
+        (map_text (paired source.now output.now))) }
+    ensures part { OnErr result (GrewByPrefix (K.written out.old) (K.written out.new)
+        (map_text (paired source.now output.now))) }
+    ensures cause { IsErrOf result PrintError.WriteFailed
+        → Rose (K.faults out.old) (K.faults out.new) }
     ensures later { K.faults out.old ≤ K.faults out.new }
     ensures loan { SameLoan (K.loan out.old) (K.loan out.new) }
 {
@@ -52,9 +55,12 @@ fn write_line<K: Sink>(
     output: Unit,
     out: &mut K,
 ) -> Result<(), PrintError>
-    ensures whole { OnOk result (GrewBy (K.written out.old) (K.written out.new) (line_of (record { source = source; output = output }))) }
-    ensures part { OnErr result (GrewByPrefix (K.written out.old) (K.written out.new) (line_of (record { source = source; output = output }))) }
-    ensures cause { IsErrOf result PrintError.WriteFailed → Rose (K.faults out.old) (K.faults out.new) }
+    ensures whole { OnOk result (GrewBy (K.written out.old) (K.written out.new)
+        (line_of (record { source = source; output = output }))) }
+    ensures part { OnErr result (GrewByPrefix (K.written out.old) (K.written out.new)
+        (line_of (record { source = source; output = output }))) }
+    ensures cause { IsErrOf result PrintError.WriteFailed
+        → Rose (K.faults out.old) (K.faults out.new) }
     ensures later { K.faults out.old ≤ K.faults out.new }
     ensures loan { SameLoan (K.loan out.old) (K.loan out.new) }
 {
@@ -71,7 +77,8 @@ fn write_line<K: Sink>(
 
 /// Adds the line of two units: where the one stands, and where the other does.
 fn add_line(line: &mut Vec<u8>, source: Unit, output: Unit) -> Result<(), NoMemory>
-    ensures { OnOk result (line.new.items ≡ line.old.items ++ line_of (record { source = source; output = output })) }
+    ensures { OnOk result (line.new.items ≡ line.old.items
+        ++ line_of (record { source = source; output = output })) }
 {
     add_unit(line, source, b' ')?;
     add_unit(line, output, b'\n')
