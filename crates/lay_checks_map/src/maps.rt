@@ -10,7 +10,7 @@ use lay_code::File;
 use lay_files::{DEPTH, text_of};
 use lay_given::{BETWEEN, parts};
 use lay_lex::{Source, lex, normalise};
-use lay_map::{Unit, pairs, units, units_of_text};
+use lay_map::{Span, Unit, pairs, units, units_of_text};
 use lay_nest::{Nested, nest};
 use lay_read_code::read_file;
 use lay_text::{FormatError, List, NoMemory, Text};
@@ -38,7 +38,7 @@ fn found(alloc: Global, file: &File, nested: &Nested) -> Result<(List<Unit>, Tex
 }
 
 /// The units of a text of which no tokens are handed in.
-fn found_of_text(alloc: Global, file: &File, source: &Source) -> Result<List<Unit>, NoMemory>
+fn found_of_text(alloc: Global, file: &File, source: &Source) -> Result<List<Span>, NoMemory>
     requires utf8 { IsUtf8 source.now.text }
     requires border { IsCharBoundary source.now.text source.now.start }
     requires read { (tokens : Items TokenValue) × Lexes source.now.text source.now.start tokens × SpellsFile top file.now tokens }
@@ -50,7 +50,7 @@ fn found_of_text(alloc: Global, file: &File, source: &Source) -> Result<List<Uni
 #[derive(Drop)]
 struct Both {
     of_tokens: List<Unit>,
-    of_text: List<Unit>,
+    of_text: List<Span>,
     output: Text,
 }
 
@@ -75,7 +75,12 @@ fn read(alloc: Global, text: &[u8]) -> Result<Both, FormatError> {
 
 /// The units that were found of the text are those that were found of its tokens.
 fn is_same(both: &Both) -> bool {
-    both.of_tokens.as_slice() == both.of_text.as_slice()
+    let (units, spans) = (both.of_tokens.as_slice(), both.of_text.as_slice());
+    units.len() == spans.len()
+        && units
+            .iter()
+            .zip(spans)
+            .all(|(unit, span)| *unit == span.unit())
 }
 
 /// The lines of a text.

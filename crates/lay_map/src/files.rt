@@ -10,7 +10,7 @@ ghost use Rattle.lay_read_tokens.specs.Answers.{AreLexed};
 
 use crate::ahead::Ahead;
 use crate::marker::Marker;
-use crate::unit::Unit;
+use crate::unit::{Span, Unit, units_of_spans};
 use lay_code::File;
 use lay_nest::Nested;
 use lay_out_code::put_file;
@@ -29,25 +29,29 @@ pub fn units(alloc: Global, file: &File, nested: &Nested) -> Result<List<Unit>, 
     ensures { IfOk result (λ list. ArePlaces file.now nested.now list) }
 {
     let cursor = nested.cursor();
-    found(alloc, file, Ahead::Tokens(cursor.as_slice()))
+    let spans = found(alloc, file, Ahead::Tokens(cursor.as_slice()))?;
+    units_of_spans(alloc, spans.as_slice())
 }
 
-/// The same of a text, from a place on: where the units of the tokens stand that it lexes to. No list of these tokens is made.
+/// The same of a text, from a place on: where the units of the tokens stand that it lexes to. No list of these tokens is made, and each place
+/// is kept in 8 bytes.
 pub fn units_of_text(
     alloc: Global,
     file: &File,
     text: &str,
     start: usize,
-) -> Result<List<Unit>, NoMemory>
+) -> Result<List<Span>, NoMemory>
     requires border { IsCharBoundary text.now start }
-    requires read { (tokens : Items TokenValue) × Lexes text.now start tokens × SpellsFile top file.now tokens }
-    ensures { IfOk result (λ list. (tokens : Items TokenValue) → Lexes text.now start tokens → ArePlaces file.now tokens list) }
+    requires read { (tokens : Items TokenValue) × Lexes text.now start tokens
+        × SpellsFile top file.now tokens }
+    ensures { IfOk result (λ list. (tokens : Items TokenValue) → Lexes text.now start tokens
+        → ArePlaces file.now tokens list) }
 {
     found(alloc, file, Ahead::Text(Cursor::new(text, start)))
 }
 
 /// Where the units of these tokens stand.
-fn found(alloc: Global, file: &File, tokens: Ahead<'_>) -> Result<List<Unit>, NoMemory>
+fn found(alloc: Global, file: &File, tokens: Ahead<'_>) -> Result<List<Span>, NoMemory>
     requires lexed { AreLexed (tokens_of tokens) }
     requires spells { SpellsFile top file.now (tokens_of tokens) }
     ensures { IfOk result (λ list. ArePlaces file.now (tokens_of tokens.entry) list) }

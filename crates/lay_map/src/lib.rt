@@ -18,4 +18,4 @@ mod walk;
 
 pub use files::{units, units_of_text};
 pub use law::{found_law, map_law};
-pub use unit::{Pair, Unit, pairs};
+pub use unit::{Pair, Span, Unit, pairs};

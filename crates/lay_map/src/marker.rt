@@ -8,7 +8,7 @@ ghost use Rattle.lay_map.specs.Meanings.{mark_meanings};
 
 use crate::ahead::Ahead;
 use crate::marking::Marking;
-use crate::unit::Unit;
+use crate::unit::Span;
 use lay_layout::Break;
 use lay_stream::Emit;
 use lay_text::{List, NoMemory};
@@ -50,7 +50,7 @@ impl<'a> Marker<'a> {
     }
 
     /// The units, where nothing more is fed.
-    pub(crate) fn into_units(self) -> Result<List<Unit>, NoMemory>
+    pub(crate) fn into_units(self) -> Result<List<Span>, NoMemory>
         ensures { IfOk result (λ units. units ≡ units_of self.entry.state) }
     {
         let Marker {

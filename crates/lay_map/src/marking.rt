@@ -6,7 +6,7 @@ ghost use Rattle.lay_map.specs.Marking.{is_free, opening_of, raised, read, read_
 
 use crate::ahead::Ahead;
 use crate::flags::Flags;
-use crate::unit::Unit;
+use crate::unit::Span;
 use crate::walk::{Walk, one_more};
 use lay_layout::Break;
 use lay_text::{List, NoMemory};
@@ -124,7 +124,7 @@ impl<'a> Marking<'a> {
     }
 
     /// The units that were found, where nothing more is fed.
-    pub(crate) fn into_units(self) -> Result<List<Unit>, NoMemory>
+    pub(crate) fn into_units(self) -> Result<List<Span>, NoMemory>
         ensures { IfOk result (λ units. units ≡ units_of self.entry) }
     {
         let mut marking = self;

@@ -82,7 +82,8 @@ pub(crate) fn more_doc(inner: bool, kind: Kind) -> usize
 /// Goes past so many tokens, as far as they are: the last of them, or else the first one.
 #[inline(always)]
 pub(crate) fn last_of<'a>(first: Lexeme<'a>, ahead: &mut Ahead<'a>, more: usize) -> Lexeme<'a>
-    ensures last { (t : TokenValue) → Tells first.entry t → Tells result (last_of more t (tokens_of ahead.old)) }
+    ensures last { (t : TokenValue) → Tells first.entry t
+        → Tells result (last_of more t (tokens_of ahead.old)) }
     ensures behind { tokens_of ahead.new ≡ drop more (tokens_of ahead.old) }
 {
     let mut last = first;
@@ -99,14 +100,13 @@ pub(crate) fn last_of<'a>(first: Lexeme<'a>, ahead: &mut Ahead<'a>, more: usize)
     last
 }
 
-/// The unit from a token to another. There is no room for one that stands behind 2^32 bytes, or is as long.
+/// The unit from a token to another.
 #[inline(always)]
-pub(crate) fn unit_from(first: &Lexeme<'_>, last: &Lexeme<'_>) -> Result<Unit, NoMemory>
-    ensures { IfOk result (λ unit. (t u : TokenValue) → Tells first.now t → Tells last.now u → unit ≡ unit_from t u) }
+pub(crate) fn unit_from(first: &Lexeme<'_>, last: &Lexeme<'_>) -> Unit
+    ensures { (t u : TokenValue) → Tells first.now t → Tells last.now u → result ≡ unit_from t u }
 {
-    let len = last.at.saturating_add(last.len).saturating_sub(first.at);
-    match (u32::try_from(first.at), u32::try_from(len)) {
-        (Ok(at), Ok(len)) => Ok(Unit { at, len }),
-        _ => Err(NoMemory),
+    Unit {
+        at: first.at,
+        len: last.at.saturating_add(last.len).saturating_sub(first.at),
     }
 }

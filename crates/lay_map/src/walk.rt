@@ -10,7 +10,7 @@ ghost use Rattle.lay_map.specs.Walks.{IsCount, first_length, is_closing, is_soug
 use crate::ahead::Ahead;
 use crate::flags::Flags;
 use crate::tokens::{closes, is_semicolon, last_of, more_doc, opens, says, unit_from};
-use crate::unit::Unit;
+use crate::unit::{Span, Unit};
 use lay_pieces::Lexeme;
 use lay_text::{List, NoMemory};
 use lay_token::Kind;
@@ -32,7 +32,7 @@ pub(crate) struct Walk<'a> {
     ahead: Ahead<'a>,
     /// Of each brace that is open, whether it is in a unit.
     braces: Flags,
-    units: List<Unit>,
+    units: List<Span>,
 }
 
 impl<'a> Model for Walk<'a> {
@@ -59,8 +59,10 @@ impl<'a> Walk<'a> {
     /// Takes the first token whose text begins with this byte as a unit: how many bytes its text has. The tokens before it are in no
     /// unit.
     pub(crate) fn word(&mut self, byte: u8) -> Result<usize, NoMemory>
-        ensures word { OnOk result (self.new ≡ taken_from 0 (sought_from (Sought.First byte) self.old)) }
-        ensures length { IfOk result (λ length. length ≡ first_length (sought_from (Sought.First byte) self.old).ahead) }
+        ensures word { OnOk result (self.new ≡ taken_from 0
+            (sought_from (Sought.First byte) self.old)) }
+        ensures length { IfOk result (λ length. length
+            ≡ first_length (sought_from (Sought.First byte) self.old).ahead) }
     {
         let found = find(&mut self.braces, &mut self.ahead, Sought::First(byte))?;
         match found {
@@ -114,7 +116,7 @@ impl<'a> Walk<'a> {
     }
 
     /// The units that were found.
-    pub(crate) fn into_units(self) -> List<Unit>
+    pub(crate) fn into_units(self) -> List<Span>
         ensures { result ≡ self.entry.units }
     {
         let Walk {
@@ -133,7 +135,8 @@ fn find<'a>(
     ahead: &mut Ahead<'a>,
     sought: Sought,
 ) -> Result<Option<Lexeme<'a>>, NoMemory>
-    ensures { IfOk result (λ found. Finds sought (tokens_of ahead.old) braces.old found (tokens_of ahead.new) braces.new) }
+    ensures { IfOk result (λ found. Finds sought (tokens_of ahead.old) braces.old found
+        (tokens_of ahead.new) braces.new) }
 {
     while let Some(lexeme) = ahead.next() {
         if is_sought(braces, sought, &lexeme) {
@@ -186,24 +189,25 @@ fn pass(braces: &mut Flags, kind: Kind, is_kept: bool) -> Result<(), NoMemory>
 #[inline(always)]
 fn take<'a>(
     braces: &mut Flags,
-    units: &mut List<Unit>,
+    units: &mut List<Span>,
     ahead: &mut Ahead<'a>,
     lexeme: Lexeme<'a>,
     more: usize,
 ) -> Result<(), NoMemory>
-    ensures { OnOk result ((t : TokenValue) → Tells lexeme.entry t → taken_in more (t ∷ tokens_of ahead.old) braces.old units.old
+    ensures { OnOk result ((t : TokenValue) → Tells lexeme.entry t
+        → taken_in more (t ∷ tokens_of ahead.old) braces.old units.old
         ≡ record { ahead = tokens_of ahead.new; braces = braces.new; units = units.new }) }
 {
     let last = last_of(lexeme, ahead, more);
-    add(units, unit_from(&lexeme, &last)?)?;
+    add(units, unit_from(&lexeme, &last))?;
     pass(braces, lexeme.kind, true)
 }
 
 /// Adds a unit at the end.
-fn add(units: &mut List<Unit>, unit: Unit) -> Result<(), NoMemory>
+fn add(units: &mut List<Span>, unit: Unit) -> Result<(), NoMemory>
     ensures { OnOk result (units.new ≡ units.old ++ unit ∷ []) }
 {
-    match units.push(unit) {
+    match units.push(Span::new(unit)?) {
         Ok(()) => Ok(()),
         Err(_) => Err(NoMemory),
     }
@@ -212,7 +216,7 @@ fn add(units: &mut List<Unit>, unit: Unit) -> Result<(), NoMemory>
 /// Takes so many opening braces, each as a unit.
 fn place(
     braces: &mut Flags,
-    units: &mut List<Unit>,
+    units: &mut List<Span>,
     ahead: &mut Ahead<'_>,
     row: usize,
     loose: bool,
@@ -228,7 +232,7 @@ fn place(
             Some(lexeme) => {
                 let is_kept = opens(lexeme.kind) && count <= left;
                 if is_kept {
-                    add(units, unit_from(&lexeme, &lexeme)?)?;
+                    add(units, unit_from(&lexeme, &lexeme))?;
                     left -= 1;
                 }
                 if opens(lexeme.kind) {

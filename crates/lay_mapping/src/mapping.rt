@@ -10,7 +10,7 @@ use lay_code::File;
 use lay_files::text_of;
 use lay_io::Sink;
 use lay_lex::normalise;
-use lay_map::{Unit, units_of_text};
+use lay_map::{Span, units_of_text};
 use lay_printer::PrintError;
 use lay_token::{List, NoMemory};
 use std::alloc::Global;
@@ -24,9 +24,12 @@ pub fn write_map<K: Sink>(
     out: &mut K,
 ) -> Result<(), PrintError>
     requires { Reads bytes.now file.now }
-    ensures whole { OnOk result (WroteMap bytes.now file.now (K.written out.old) (K.written out.new)) }
-    ensures part { OnErr result (WroteMapPart bytes.now file.now (K.written out.old) (K.written out.new)) }
-    ensures cause { IsErrOf result PrintError.WriteFailed → Rose (K.faults out.old) (K.faults out.new) }
+    ensures whole { OnOk result (WroteMap bytes.now file.now (K.written out.old)
+        (K.written out.new)) }
+    ensures part { OnErr result (WroteMapPart bytes.now file.now (K.written out.old)
+        (K.written out.new)) }
+    ensures cause { IsErrOf result PrintError.WriteFailed
+        → Rose (K.faults out.old) (K.faults out.new) }
     ensures later { K.faults out.old ≤ K.faults out.new }
     ensures loan { SameLoan (K.loan out.old) (K.loan out.new) }
 {
@@ -42,16 +45,17 @@ pub fn write_map<K: Sink>(
 }
 
 /// The units of a file's text, which reads to it.
-fn units_of_output(alloc: Global, file: &File) -> Result<List<Unit>, NoMemory>
+fn units_of_output(alloc: Global, file: &File) -> Result<List<Span>, NoMemory>
     requires { Reads (text_of_file file.now) file.now }
-    ensures { IfOk result (λ units. (reads : Reads (text_of_file file.now) file.now) → units ≡ units_read reads) }
+    ensures { IfOk result (λ units. (reads : Reads (text_of_file file.now) file.now)
+        → units ≡ units_read reads) }
 {
     let text = text_of(alloc, file)?;
     units_in(alloc, text.as_bytes(), file)
 }
 
 /// The units of bytes that read to a file. No step of reading them is refused, so an error of one is want of memory.
-fn units_in(alloc: Global, bytes: &[u8], file: &File) -> Result<List<Unit>, NoMemory>
+fn units_in(alloc: Global, bytes: &[u8], file: &File) -> Result<List<Span>, NoMemory>
     requires { Reads bytes.now file.now }
     ensures { IfOk result (λ units. (reads : Reads bytes.now file.now) → units ≡ units_read reads) }
 {

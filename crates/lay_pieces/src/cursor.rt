@@ -41,7 +41,8 @@ impl<'a> Cursor<'a> {
     /// The place in the text from which on it is lexed.
     pub fn new(text: &'a str, start: usize) -> Cursor<'a>
         requires { IsCharBoundary text.now start }
-        ensures { (tokens : List TokenValue) → Lexes text.now start tokens → tokens_ahead result ≡ tokens }
+        ensures { (tokens : List TokenValue) → Lexes text.now start tokens
+            → tokens_ahead result ≡ tokens }
     {
         Cursor {
             ahead: &text[start..],
@@ -82,7 +83,8 @@ fn is_index_place(before: Before) -> bool
 /// What stands behind a piece; `touches` says that no gap stands before it.
 #[inline]
 fn behind_piece(before: Before, kind: Kind, piece: &str, touches: bool) -> Before
-    ensures { (part : Part) → part.kind ≡ kind → part.piece ≡ chars piece.now → touches ≡ is_nil part.gap → seen result ≡ step (seen before) part }
+    ensures { (part : Part) → part.kind ≡ kind → part.piece ≡ chars piece.now
+        → touches ≡ is_nil part.gap → seen result ≡ step (seen before) part }
 {
     match kind {
         Kind::Punct => before.behind(is_point(piece.as_bytes()), touches),
