@@ -81,7 +81,7 @@ literal_ends kind.ByteStr t h w = leaf_passes kind.ByteStr t refl w (ends refl)
 literal_ends kind.RawByteStr t h w = leaf_passes kind.RawByteStr t refl w (ends refl)
 literal_ends kind.CStr t h w = leaf_passes kind.CStr t refl w (ends refl)
 literal_ends kind.RawCStr t h w = leaf_passes kind.RawCStr t refl w (ends refl)
-literal_ends kind.Int t h w = leaf_passes kind.Int t refl w 
+literal_ends kind.Int t h w = leaf_passes kind.Int t refl w
     (ends (int_ends (is_bare_int (chars t)) (is_bare_number kind.Int t) (bytes_bare t (utf8_int t w))))
 literal_ends kind.Float t h w = leaf_passes kind.Float t refl w (ends (float_ends (is_bare_number kind.Float t)))
 literal_ends _ t h w = cc
