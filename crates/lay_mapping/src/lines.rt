@@ -93,7 +93,7 @@ fn add_unit(line: &mut Vec<u8>, unit: Unit, behind: u8) -> Result<(), NoMemory>
 }
 
 /// Adds a number in decimal digits, and a byte behind it.
-fn add_number(line: &mut Vec<u8>, number: u32, behind: u8) -> Result<(), NoMemory>
+fn add_number(line: &mut Vec<u8>, number: usize, behind: u8) -> Result<(), NoMemory>
     ensures { OnOk result (line.new.items ≡ line.old.items ++ (decimal number ++ behind ∷ [])) }
 {
     line.extend_from_slice(Buffer::new().format(number).as_bytes())?;

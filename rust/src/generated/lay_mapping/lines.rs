@@ -65,7 +65,7 @@ fn add_unit(line: &mut Vec<u8>, unit: Unit, behind: u8) -> Result<(), NoMemory> 
     add_number(line, unit.len, behind)
 }
 /// Adds a number in decimal digits, and a byte behind it.
-fn add_number(line: &mut Vec<u8>, number: u32, behind: u8) -> Result<(), NoMemory> {
+fn add_number(line: &mut Vec<u8>, number: usize, behind: u8) -> Result<(), NoMemory> {
     line.extend_from_slice(Buffer::new().format(number).as_bytes())?;
     line.push(behind)?;
     Ok(())
