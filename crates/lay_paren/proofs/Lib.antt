@@ -28,3 +28,7 @@ pub mod CountedParts
 pub mod CountedExprs
 pub mod CountedBlocks
 pub mod CountedFamily
+pub mod Levels
+pub mod Becoming
+pub mod Beginning
+pub mod Turning

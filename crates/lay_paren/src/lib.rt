@@ -6,6 +6,15 @@
 //! be left out.
 #![tactic(auto)]
 
+mod blocks;
+mod conditions;
+mod exprs;
+mod items;
 mod laws;
+mod leads;
+mod parenthesize;
+mod places;
+mod slots;
 
 pub use laws::parenthesize_law;
+pub use parenthesize::{ParenError, parenthesize};

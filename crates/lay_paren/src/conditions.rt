@@ -1,0 +1,72 @@
+//! Conditions and their links.
+ghost use Rattle.std.specs.Prelude.{◌≡◌, OnOk, if◌then◌else◌, true};
+ghost use Rattle.lay_node.specs.nodes.Types.{is_there};
+ghost use Rattle.lay_code.specs.nodes.Places as places;
+ghost use Rattle.lay_paren.specs.InPlace.{condition_least, is_single, link_least, links_least};
+
+use crate::exprs::place_expr;
+use crate::slots::Slot;
+use lay_code::{Condition, Link, Place};
+use lay_ops::places::{link_place, plain};
+use lay_token::NoMemory;
+use std::alloc::Global;
+
+/// Gives what stands in a condition its parentheses.
+#[cycle(code)]
+#[tactic(auto, using(crate::proofs::Becoming::condition_becomes))]
+pub(crate) fn place_condition(alloc: Global, condition: &mut Condition) -> Result<(), NoMemory>
+    ensures { OnOk result (condition.new ≡ condition_least condition.old) }
+{
+    place_links(alloc, condition.links.as_mut_slice())
+}
+
+/// The same of links.
+#[cycle(code)]
+fn place_links(alloc: Global, links: &mut [Link]) -> Result<(), NoMemory>
+    ensures { OnOk result (links.new ≡ links_least links.old) }
+{
+    let alone = is_single(links);
+    for index in 0..links.len() {
+        let more = is_there(&links[index + 1..]);
+        let link = &mut links[index];
+        place_link(alloc, link, alone, more)?;
+    }
+    Ok(())
+}
+
+/// Whether it is one link alone.
+fn is_single(links: &[Link]) -> bool
+    ensures { result ≡ is_single links.now }
+{
+    matches!(links, [_])
+}
+
+/// Whether there is a link.
+fn is_there(links: &[Link]) -> bool
+    ensures { result ≡ is_there links.now }
+{
+    !links.is_empty()
+}
+
+/// The same of a link, which is a condition by itself, or has a further one behind it, if it is said.
+#[cycle(code)]
+#[tactic(auto, using(crate::proofs::Becoming::link_becomes))]
+fn place_link(alloc: Global, link: &mut Link, alone: bool, more: bool) -> Result<(), NoMemory>
+    ensures { OnOk result (link.new ≡ link_least alone more link.old) }
+{
+    match link {
+        Link::Expr { expr } => {
+            place_expr(alloc, expr.get_mut(), whole_place(alone, more), Slot::Any)
+        },
+        Link::Let { value, .. } => {
+            place_expr(alloc, value.get_mut(), link_place(more), Slot::Any)
+        },
+    }
+}
+
+/// The place of a link that is an expression.
+fn whole_place(alone: bool, more: bool) -> Place
+    ensures { result ≡ (if alone then places.plain 0 true else places.link_place more) }
+{
+    if alone { plain(0, true) } else { link_place(more) }
+}
