@@ -66,5 +66,5 @@ Description: lays out Rust source that a generator wrote
 END
 chmod -R go-w,a+rX "$deb"
 find "$deb" -exec touch -h -d @0 {} +
-dpkg-deb --root-owner-group -Zgzip --build "$deb" "$folder/froesaffron_${version}_amd64.deb" > /dev/null
+dpkg-deb --root-owner-group -Zgzip --build "$deb" "$folder/froesaffron_${version}_amd64.deb" > "$made/log"
 (cd "$folder" && sha256sum "$name.tar.gz" "froesaffron_${version}_amd64.deb")

@@ -17,9 +17,9 @@ fail() {
     echo "release: $1" >&2
     exit 1
 }
-"$top/scripts/release.sh" 0.1.0 "$made/first" "$@" > /dev/null
-"$top/scripts/release.sh" 0.1.0 "$made/second" "$@" > /dev/null
-diff -r "$made/first" "$made/second" || fail "a second run makes other bytes"
+"$top/scripts/release.sh" 0.1.0 "$made/first" "$@" > "$made/sums"
+"$top/scripts/release.sh" 0.1.0 "$made/second" "$@" | cmp - "$made/sums" || fail "a second run makes other bytes"
+(cd "$made/first" && sha256sum --check --quiet "$made/sums") || fail "the sums aren't those of the files"
 mkdir "$made/tar" "$made/deb"
 tar -xzf "$made/first/froesaffron-0.1.0-x86_64-linux.tar.gz" -C "$made/tar" --strip-components=1
 dpkg-deb -x "$made/first/froesaffron_0.1.0_amd64.deb" "$made/deb"

@@ -301,4 +301,8 @@ fn texts_and_lists(rt: HostRuntime) {
     let mut list = List::new(alloc);
     assert!(rt; matches!(list.push(3u8), Ok(())));
     assert_eq!(rt; list.as_slice(), [3].as_slice());
+    for item in list.as_mut_slice() {
+        *item += 4;
+    }
+    assert_eq!(rt; list.as_slice(), [7].as_slice());
 }

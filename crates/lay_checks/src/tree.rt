@@ -28,6 +28,16 @@ impl Chain {
     }
 }
 
+// A number in a box is lent, and changed there.
+#[test]
+fn boxes(rt: HostRuntime) -> Result<(), Fail> {
+    let mut number = Boxed::new(rt.alloc(), 3u8)?;
+    *number.get_mut() += 4;
+    assert_eq!(rt; *number.get(), 7);
+    assert_eq!(rt; number.into_inner(), 7);
+    Ok(())
+}
+
 // Three links, built from the last one on, are read back from the first on: lent, and then taken.
 #[test]
 fn links(rt: HostRuntime) -> Result<(), Fail> {

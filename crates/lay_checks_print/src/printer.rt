@@ -177,7 +177,8 @@ fn rows(rt: HostRuntime) -> Result<(), Fail> {
 
 /// Feeds two texts and a break between them, in a group.
 fn put_pair<E: Emit>(out: &mut E, left: &[u8], between: Break, right: &[u8]) -> Result<(), E::Fault>
-    ensures { Did E.meanings out.old (tok.Begin true (pos 4) ∷ tok.Text left.now ∷ tok.Break between ∷ tok.Text right.now ∷ tok.End ∷ []) result out.new }
+    ensures { Did E.meanings out.old (tok.Begin true (pos 4) ∷ tok.Text left.now ∷ tok.Break between
+        ∷ tok.Text right.now ∷ tok.End ∷ []) result out.new }
 {
     out.begin(true, 4)?;
     out.text(left)?;
@@ -194,8 +195,12 @@ fn print_pair<K: Sink>(
     between: Break,
     right: &[u8],
 ) -> Result<(), PrintError>
-    ensures ok { OnOk result (GrewBy (K.written out.old) (K.written out.new) (text_of (tok.Begin true (pos 4) ∷ tok.Text left.now ∷ tok.Break between ∷ tok.Text right.now ∷ tok.End ∷ []))) }
-    ensures err { OnErr result (GrewByPrefix (K.written out.old) (K.written out.new) (text_of (tok.Begin true (pos 4) ∷ tok.Text left.now ∷ tok.Break between ∷ tok.Text right.now ∷ tok.End ∷ []))) }
+    ensures ok { OnOk result (GrewBy (K.written out.old) (K.written out.new)
+        (text_of (tok.Begin true (pos 4) ∷ tok.Text left.now ∷ tok.Break between
+        ∷ tok.Text right.now ∷ tok.End ∷ []))) }
+    ensures err { OnErr result (GrewByPrefix (K.written out.old) (K.written out.new)
+        (text_of (tok.Begin true (pos 4) ∷ tok.Text left.now ∷ tok.Break between
+        ∷ tok.Text right.now ∷ tok.End ∷ []))) }
     ensures cause { Blames (K.faults out.old) (K.faults out.new) result }
 {
     let mut core = match Core::new(alloc) {

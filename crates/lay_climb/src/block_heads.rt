@@ -26,7 +26,8 @@ pub trait BlockHeads {
         lead: ExprLead,
     ) -> Result<Found<Boxed<Expr>>, ReadNone>
         requires { are_ready self.now }
-        ensures read { IsFound (fits (depth self.now + 1) (block_head (code_within (depth self.now)) no_struct lead at.old)) result at.new }
+        ensures read { IsFound (fits (depth self.now + 1)
+            (block_head (code_within (depth self.now)) no_struct lead at.old)) result at.new }
         ensures within { IfOk result (λ found. found.need ≤ depth self.now + 1) };
 }
 

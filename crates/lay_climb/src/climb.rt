@@ -28,10 +28,12 @@ impl<
     #[tactic(auto, unfolding(lay_code::specs::reader::Exprs::expr_by))]
     #[inline(never)]
     pub fn expr_by(&self, at: &mut Ahead<'_>, place: Place) -> Result<Found<Boxed<Expr>>, ReadNone>
-        requires deeper { AreExprs self.now.rules.depth (P.pre self.now.rules.exprs) (P.post self.now.rules.exprs) }
+        requires deeper { AreExprs self.now.rules.depth (P.pre self.now.rules.exprs)
+            (P.post self.now.rules.exprs) }
         requires heads { H.are_ready self.now.heads }
         requires same { H.depth self.now.heads ≡ self.now.rules.depth }
-        ensures read { IsFound (reader.expr_by (code_within self.now.rules.depth) (self.now.rules.depth + 1) place at.old) result at.new }
+        ensures read { IsFound (reader.expr_by (code_within self.now.rules.depth)
+            (self.now.rules.depth + 1) place at.old) result at.new }
         ensures within { IfOk result (λ found. found.need ≤ self.now.rules.depth + 1) }
     {
         let head = self.head(at, place.no_struct)?;

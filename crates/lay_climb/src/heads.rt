@@ -38,10 +38,13 @@ impl<
     /// What begins an expression, without the operators behind it, unless it is deeper than may be.
     #[inline(never)]
     pub fn head(&self, at: &mut Ahead<'_>, no_struct: bool) -> Result<Found<Boxed<Expr>>, ReadNone>
-        requires deeper { AreExprs self.now.rules.depth (P.pre self.now.rules.exprs) (P.post self.now.rules.exprs) }
+        requires deeper { AreExprs self.now.rules.depth (P.pre self.now.rules.exprs)
+            (P.post self.now.rules.exprs) }
         requires heads { H.are_ready self.now.heads }
         requires same { H.depth self.now.heads ≡ self.now.rules.depth }
-        ensures read { IsFound (fits (self.now.rules.depth + 1) (reader.head_by (code_within self.now.rules.depth) no_struct (expr_lead_at at.old) at.old)) result at.new }
+        ensures read { IsFound (fits (self.now.rules.depth + 1)
+            (reader.head_by (code_within self.now.rules.depth) no_struct (expr_lead_at at.old)
+            at.old)) result at.new }
         ensures within { IfOk result (λ found. found.need ≤ self.now.rules.depth + 1) }
     {
         match expr_lead_at(at) {
@@ -58,10 +61,13 @@ impl<
         no_struct: bool,
         lead: ExprLead,
     ) -> Result<Found<Boxed<Expr>>, ReadNone>
-        requires deeper { AreExprs self.now.rules.depth (P.pre self.now.rules.exprs) (P.post self.now.rules.exprs) }
+        requires deeper { AreExprs self.now.rules.depth (P.pre self.now.rules.exprs)
+            (P.post self.now.rules.exprs) }
         requires heads { H.are_ready self.now.heads }
         requires same { H.depth self.now.heads ≡ self.now.rules.depth }
-        ensures read { IsFound (fits (self.now.rules.depth + 1) (reader.head_by (code_within self.now.rules.depth) no_struct (Some (told lead)) at.old)) result at.new }
+        ensures read { IsFound (fits (self.now.rules.depth + 1)
+            (reader.head_by (code_within self.now.rules.depth) no_struct (Some (told lead)) at.old))
+            result at.new }
         ensures within { IfOk result (λ found. found.need ≤ self.now.rules.depth + 1) }
     {
         match lead {

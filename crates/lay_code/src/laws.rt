@@ -23,23 +23,31 @@ ghost use Rattle.lay_code.specs.declared.operators.Prefix.{Prefix};
 /// The functions that read expressions and items read exactly what stands at the front of the tokens; and the shebang line of
 /// each source is one that a file may have.
 pub fn reading_law()
-    ensures exprs { (place : Place) → Exact (expr_at place) (λ (x : Expr). ExprFront place (about_expr x)) }
+    ensures exprs { (place : Place) → Exact (expr_at place)
+        (λ (x : Expr). ExprFront place (about_expr x)) }
     ensures items { (site : Site) → Exact (item_at site) (λ (x : Item). Front (about_item site x)) }
-    ensures good_shebang { (bytes : List ℕ) (from : Source) → source bytes ≡ Ok from → IsTrue (is_good_shebang from.shebang) }
+    ensures good_shebang { (bytes : List ℕ) (from : Source) → source bytes ≡ Ok from
+        → IsTrue (is_good_shebang from.shebang) }
 {}
 
 /// The table of the places of expressions. A place where an operator follows asks that of each expression that ends where the
 /// node ends: the definitions ask it of what the node ends in, and this table hands it down to the last child.
 pub fn places_law()
     ensures unary { (place : Place) (ops : List Prefix) (operand : ExprFacts)
-        → Iff (IsTrue (placed (expr_facts (Expr-F.Unary ops operand)) place)) (UnaryRow place ops operand) }
+        → Iff (IsTrue (placed (expr_facts (Expr-F.Unary ops operand)) place))
+        (UnaryRow place ops operand) }
     ensures range { (place : Place) (start : Option ExprFacts) (inclusive : Bool) (end : ExprFacts)
-        → Iff (IsTrue (placed (expr_facts (Expr-F.Range start inclusive (Some end))) place)) (RangeRow place start inclusive end) }
+        → Iff (IsTrue (placed (expr_facts (Expr-F.Range start inclusive (Some end))) place))
+        (RangeRow place start inclusive end) }
     ensures assign { (place : Place) (targets : List (ExprFacts × Op)) (value : ExprFacts)
-        → Iff (IsTrue (placed (expr_facts (Expr-F.Assign targets value)) place)) (AssignRow place targets value) }
-    ensures chain { (place : Place) (first : ExprFacts) (next : Op × ExprFacts) (more : List (Op × ExprFacts))
-        → Iff (IsTrue (placed (expr_facts (Expr-F.Chain first (next ∷ more))) place)) (ChainRow place first next more) }
-    ensures others { (place : Place) (node : ExprFacts) → is_open node.tail ≡ (node.jumps || node.endless)
+        → Iff (IsTrue (placed (expr_facts (Expr-F.Assign targets value)) place))
+        (AssignRow place targets value) }
+    ensures chain { (place : Place) (first : ExprFacts) (next : Op × ExprFacts)
+        (more : List (Op × ExprFacts))
+        → Iff (IsTrue (placed (expr_facts (Expr-F.Chain first (next ∷ more))) place))
+        (ChainRow place first next more) }
+    ensures others { (place : Place) (node : ExprFacts)
+        → is_open node.tail ≡ (node.jumps || node.endless)
         → is_typed node.tail ≡ node.typed → ByRoot place node }
 {}
 
@@ -48,18 +56,24 @@ pub fn places_law()
 /// the places: of what stands where a body stands, `starts` and `tight` say whether it may be a statement; of what may be a
 /// statement, `structless` says whether it may stand where no struct literal may.
 pub fn body_law()
-    ensures as_statement { (node : Expr) (no_struct : Bool) → IsTrue (placed (about_expr node) (plain 0 no_struct))
-        → ((about_expr node).starts && (about_expr node).tight) ≡ placed (about_expr node) statement }
+    ensures as_statement { (node : Expr) (no_struct : Bool)
+        → IsTrue (placed (about_expr node) (plain 0 no_struct))
+        → ((about_expr node).starts && (about_expr node).tight)
+        ≡ placed (about_expr node) statement }
     ensures as_body { (node : Expr) (no_struct : Bool) → IsTrue (placed (about_expr node) statement)
-        → (not no_struct || (about_expr node).structless) ≡ placed (about_expr node) (plain 0 no_struct) }
+        → (not no_struct || (about_expr node).structless)
+        ≡ placed (about_expr node) (plain 0 no_struct) }
 {}
 
 /// At most one expression or item and one count of tokens fit at a place, and one file a list of tokens.
 pub fn node_law()
     ensures one_expr { (node other : Expr) (place : Place) (ts : List Token) (n m depth : ℕ)
-        → ExprFront place (about_expr node) ts n depth → ExprFront place (about_expr other) ts m depth → (node ≡ other) × (n ≡ m) }
+        → ExprFront place (about_expr node) ts n depth
+        → ExprFront place (about_expr other) ts m depth → (node ≡ other) × (n ≡ m) }
     ensures one_item { (node other : Item) (site : Site) (ts : List Token) (n m depth : ℕ)
-        → Front (about_item site node) ts n depth → Front (about_item site other) ts m depth → (node ≡ other) × (n ≡ m) }
-    ensures one_file { (depth : ℕ) (file other : File) (ts : List Token) → file.shebang ≡ other.shebang
+        → Front (about_item site node) ts n depth → Front (about_item site other) ts m depth
+        → (node ≡ other) × (n ≡ m) }
+    ensures one_file { (depth : ℕ) (file other : File) (ts : List Token)
+        → file.shebang ≡ other.shebang
         → SpellsFile depth file ts → SpellsFile depth other ts → file ≡ other }
 {}

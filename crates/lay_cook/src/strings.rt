@@ -14,7 +14,8 @@ use lay_token::{NoMemory, Text};
 /// Adds the value of a string to a text.
 pub fn push_value(value: &mut Text, inside: &str) -> Result<(), NoMemory>
     requires { Closes Plain (chars inside.now) }
-    ensures { OnOk result (value.new ≡ value.old ++ encode_utf8_all (string_value Plain (chars inside.now))) }
+    ensures { OnOk result (value.new ≡ value.old
+        ++ encode_utf8_all (string_value Plain (chars inside.now))) }
 {
     let mut rest = inside;
     'runs: loop {

@@ -39,7 +39,8 @@ impl Tally {
     /// Counts a piece behind the text.
     pub(crate) fn add(&mut self, piece: &[u8])
         requires { self.old.bytes + length piece.now < 2 ^ 64 }
-        ensures { (text : List ℕ) → IsTallyOf self.old text → IsTallyOf self.new (text ++ piece.now) }
+        ensures { (text : List ℕ) → IsTallyOf self.old text
+            → IsTallyOf self.new (text ++ piece.now) }
     {
         for byte in piece {
             self.push(*byte);
@@ -50,7 +51,8 @@ impl Tally {
     fn push(&mut self, byte: u8)
         requires { self.old.bytes + 1 < 2 ^ 64 }
         ensures one { self.new.bytes ≡ self.old.bytes + 1 }
-        ensures counted { (text : List ℕ) → IsTallyOf self.old text → IsTallyOf self.new (text ++ byte ∷ []) }
+        ensures counted { (text : List ℕ) → IsTallyOf self.old text
+            → IsTallyOf self.new (text ++ byte ∷ []) }
     {
         self.bytes += 1;
         if byte == b'\n' {

@@ -165,7 +165,8 @@ fn field_depth(field: &FieldExpr) -> u32
 /// The depth of the base of a struct literal, and 0 without one.
 #[cycle(code)]
 fn base_depth(base: &Option<Option<Boxed<Expr>>>) -> u32
-    ensures { result ≡ counted (greatest (base_form (option_map (option_map about_expr) base.now))) }
+    ensures { result ≡ counted (greatest (base_form
+        (option_map (option_map about_expr) base.now))) }
 {
     match base {
         Some(base) => match base {

@@ -76,7 +76,8 @@ fn write_source<K: Sink>(
 ) -> Result<(), NotPut<PrintError>>
     requires text { IsUtf8 source.now.text }
     requires border { IsCharBoundary source.now.text source.now.start }
-    ensures { OnOk result (WritesSource top (seen source.now) (K.written out.old) (K.written out.new)) }
+    ensures { OnOk result (WritesSource top (seen source.now) (K.written out.old)
+        (K.written out.new)) }
 {
     let mut core = match Core::new(alloc) {
         Ok(core) => core,

@@ -35,9 +35,12 @@ pub fn bytes_of(alloc: Global, file: &File) -> Result<List<u8>, NoMemory>
 pub fn write_file<K: Sink>(alloc: Global, file: &File, out: &mut K) -> Result<(), PrintError>
     ensures later { K.faults out.old ≤ K.faults out.new }
     ensures loan { SameLoan (K.loan out.old) (K.loan out.new) }
-    ensures whole { OnOk result (GrewBy (K.written out.old) (K.written out.new) (text_of_file file.now)) }
-    ensures part { OnErr result (GrewByPrefix (K.written out.old) (K.written out.new) (text_of_file file.now)) }
-    ensures cause { IsErrOf result PrintError.WriteFailed → Rose (K.faults out.old) (K.faults out.new) }
+    ensures whole { OnOk result (GrewBy (K.written out.old) (K.written out.new)
+        (text_of_file file.now)) }
+    ensures part { OnErr result (GrewByPrefix (K.written out.old) (K.written out.new)
+        (text_of_file file.now)) }
+    ensures cause { IsErrOf result PrintError.WriteFailed
+        → Rose (K.faults out.old) (K.faults out.new) }
 {
     let mut core = match Core::new(alloc) {
         Ok(core) => core,

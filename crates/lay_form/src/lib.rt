@@ -27,7 +27,8 @@ pub fn form_law()
         → Spells f depth ts rest → least_depth f ≤ depth }
     ensures deeper { (f : Form) (depth more : ℕ) (ts rest : List Token)
         → depth ≤ more → Spells f depth ts rest → Spells f more ts rest }
-    ensures braced { (f : Form) (depth : ℕ) (ts rest : List Token) → EndsBraced f depth ts rest → Spells f depth ts rest }
+    ensures braced { (f : Form) (depth : ℕ) (ts rest : List Token) → EndsBraced f depth ts rest
+        → Spells f depth ts rest }
     ensures braced_deeper { (f : Form) (depth more : ℕ) (ts rest : List Token)
         → depth ≤ more → EndsBraced f depth ts rest → EndsBraced f more ts rest }
     ensures stream { (f : Form) → stream (document f) ≡ stream_of f }

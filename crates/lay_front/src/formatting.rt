@@ -42,7 +42,8 @@ pub fn format(alloc: Global, bytes: &[u8]) -> Result<Text, FormatError>
         → (result ≡ Err (FormatError.Refused refusal)) ⊎ (result ≡ Err FormatError.NoMemory) }
 
     // The text is formatted again to the same bytes.
-    ensures again { (given : Items ℕ) (file : File) → Reads given file → bytes.now ≡ text_of_file file
+    ensures again { (given : Items ℕ) (file : File) → Reads given file
+        → bytes.now ≡ text_of_file file
         → (result ≡ Ok bytes.now) ⊎ (result ≡ Err FormatError.NoMemory) }
 {
     format_text(alloc, bytes)
@@ -69,15 +70,19 @@ pub fn format_into<K: Sink>(alloc: Global, bytes: &[u8], out: &mut K) -> Result<
     ensures formats { Formats K.written K.faults bytes.now out.old out.new result }
 
     // With no fault the answer is the one that the bytes have.
-    ensures complete { (file : File) → ¬ (Rose (K.faults out.old) (K.faults out.new)) → Reads bytes.now file
-        → (IsOk result × GrewBy (K.written out.old) (K.written out.new) (text_of_file file)) ⊎ (result ≡ Err IntoError.NoMemory) }
+    ensures complete { (file : File) → ¬ (Rose (K.faults out.old) (K.faults out.new))
+        → Reads bytes.now file
+        → (IsOk result × GrewBy (K.written out.old) (K.written out.new) (text_of_file file))
+        ⊎ (result ≡ Err IntoError.NoMemory) }
     ensures complete_refused { (refusal : Refusal) → IsRefused bytes.now refusal
         → (result ≡ Err (IntoError.Refused refusal)) ⊎ (result ≡ Err IntoError.NoMemory) }
 
     // What was written is formatted again to the same bytes.
-    ensures again { (given : Items ℕ) (file : File) → Reads given file → bytes.now ≡ text_of_file file
+    ensures again { (given : Items ℕ) (file : File) → Reads given file
+        → bytes.now ≡ text_of_file file
         → ¬ (Rose (K.faults out.old) (K.faults out.new))
-        → (IsOk result × GrewBy (K.written out.old) (K.written out.new) bytes.now) ⊎ (result ≡ Err IntoError.NoMemory) }
+        → (IsOk result × GrewBy (K.written out.old) (K.written out.new) bytes.now)
+        ⊎ (result ≡ Err IntoError.NoMemory) }
 {
     format_bytes(alloc, bytes, out)
 }

@@ -30,7 +30,8 @@ pub fn tell<E: Sink>(ended: Result<(), Stop>, err: &mut E)
 
 /// Says on `err` that a write failed: its line, or a front of it where `err` fails too.
 pub fn tell_failed_write<E: Sink>(err: &mut E)
-    ensures part { GrewByPrefix (E.written err.old) (E.written err.new) (message [] Status.WriteFailed) }
+    ensures part { GrewByPrefix (E.written err.old) (E.written err.new)
+        (message [] Status.WriteFailed) }
     ensures whole { ¬ (Rose (E.faults err.old) (E.faults err.new))
         → GrewBy (E.written err.old) (E.written err.new) (message [] Status.WriteFailed) }
 {
@@ -60,7 +61,8 @@ fn write_line<E: Sink>(stop: Stop, err: &mut E) -> Result<(), Failed>
 
 /// Writes the line of a refusal: where it stands, and why.
 fn write_refusal<E: Sink>(refusal: Refusal, place: Place2, err: &mut E) -> Result<(), Failed>
-    ensures bytes { Writes (E.written err.old) (E.written err.new) result (refusal_line refusal place) }
+    ensures bytes { Writes (E.written err.old) (E.written err.new) result
+        (refusal_line refusal place) }
     ensures cause { HasCause (E.faults err.old) (E.faults err.new) result }
     ensures loan { SameLoan (E.loan err.old) (E.loan err.new) }
 {
@@ -72,7 +74,8 @@ fn write_refusal<E: Sink>(refusal: Refusal, place: Place2, err: &mut E) -> Resul
 
 /// Writes a number in decimal digits, and a piece behind it.
 fn write_number<E: Sink>(number: usize, behind: &[u8], err: &mut E) -> Result<(), Failed>
-    ensures bytes { Writes (E.written err.old) (E.written err.new) result (decimal number ++ behind.now) }
+    ensures bytes { Writes (E.written err.old) (E.written err.new) result
+        (decimal number ++ behind.now) }
     ensures cause { HasCause (E.faults err.old) (E.faults err.new) result }
     ensures loan { SameLoan (E.loan err.old) (E.loan err.new) }
 {

@@ -24,7 +24,8 @@ use std::alloc::Global;
 /// is counted as it is made.
 pub fn sum_up_sample<K: Sink>(alloc: Global, seed: u64, items: u32, out: &mut K) -> Result<(), Stop>
     requires { items ≤ 200000 }
-    ensures run { SampleRun K.written K.faults items (sample_text seed items) out.old out.new (status_of result) }
+    ensures run { SampleRun K.written K.faults items (sample_text seed items) out.old out.new
+        (status_of result) }
     ensures placed { IsPlaced (Some (sample_text seed items)) result }
     ensures later { K.faults out.old ≤ K.faults out.new }
     ensures loan { SameLoan (K.loan out.old) (K.loan out.new) }
@@ -75,7 +76,8 @@ fn add(line: &mut Text, piece: &[u8], number: u64) -> Result<(), NoMemory>
 fn count(alloc: Global, file: &File) -> Result<Counts, NoMemory>
     ensures bytes { IfOk result (λ counts. counts.bytes ≡ length (text_of_file file.now)) }
     ensures lines { IfOk result (λ counts. counts.lines ≡ lines_of (text_of_file file.now)) }
-    ensures longest { IfOk result (λ counts. counts.longest ≡ longest_line (text_of_file file.now)) }
+    ensures longest { IfOk result (λ counts. counts.longest
+        ≡ longest_line (text_of_file file.now)) }
 {
     let mut counter = Counter::new();
     match write_file(alloc, file, &mut counter) {

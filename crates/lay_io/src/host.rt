@@ -98,7 +98,8 @@ impl<'a, R: Input + Files> Inputs for HostInputs<'a, R> {
         ensures chosen { ⟦<HostInputs<'a, R> as Inputs>⟧.chosen self.new
             ≡ ⟦<HostInputs<'a, R> as Inputs>⟧.chosen self.old }
         ensures others { (w : Which) → ⟦<HostInputs<'a, R> as Inputs>⟧.chosen self.old ≢ Some w
-            → ⟦<HostInputs<'a, R> as Inputs>⟧.left self.new w ≡ ⟦<HostInputs<'a, R> as Inputs>⟧.left self.old w }
+            → ⟦<HostInputs<'a, R> as Inputs>⟧.left self.new w
+            ≡ ⟦<HostInputs<'a, R> as Inputs>⟧.left self.old w }
         ensures bytes { let chosen = ⟦<HostInputs<'a, R> as Inputs>⟧.chosen self.old in
             Takes (left_of chosen (⟦<HostInputs<'a, R> as Inputs>⟧.left self.old))
             (left_of chosen (⟦<HostInputs<'a, R> as Inputs>⟧.left self.new)) result buf.new }

@@ -24,7 +24,8 @@ impl QuietInputs {
     /// Inputs of which none is chosen, with these bytes to come.
     pub fn new(stdin: List<u8>, files: List<NamedFile>) -> QuietInputs
         ensures chosen { ⟦<QuietInputs as Inputs>⟧.chosen result ≡ None }
-        ensures left { (which : Which) → ⟦<QuietInputs as Inputs>⟧.left result which ≡ Some (unwrap_or (content_of stdin files which) []) }
+        ensures left { (which : Which) → ⟦<QuietInputs as Inputs>⟧.left result which
+            ≡ Some (unwrap_or (content_of stdin files which) []) }
     {
         QuietInputs {
             stdin,
@@ -51,11 +52,14 @@ impl Inputs for QuietInputs {
 
         // As for all inputs.
         ensures bound { ReadsAtMost result buf.new }
-        ensures chosen { ⟦<QuietInputs as Inputs>⟧.chosen self.new ≡ ⟦<QuietInputs as Inputs>⟧.chosen self.old }
+        ensures chosen { ⟦<QuietInputs as Inputs>⟧.chosen self.new
+            ≡ ⟦<QuietInputs as Inputs>⟧.chosen self.old }
         ensures others { (w : Which) → ⟦<QuietInputs as Inputs>⟧.chosen self.old ≢ Some w
-            → ⟦<QuietInputs as Inputs>⟧.left self.new w ≡ ⟦<QuietInputs as Inputs>⟧.left self.old w }
+            → ⟦<QuietInputs as Inputs>⟧.left self.new w
+            ≡ ⟦<QuietInputs as Inputs>⟧.left self.old w }
         ensures bytes { let chosen = ⟦<QuietInputs as Inputs>⟧.chosen self.old in
-            Takes (left_of chosen (⟦<QuietInputs as Inputs>⟧.left self.old)) (left_of chosen (⟦<QuietInputs as Inputs>⟧.left self.new)) result buf.new }
+            Takes (left_of chosen (⟦<QuietInputs as Inputs>⟧.left self.old))
+            (left_of chosen (⟦<QuietInputs as Inputs>⟧.left self.new)) result buf.new }
         ensures cause { HasCause 0 0 result }
 
         ensures never { IsOk result }
@@ -90,7 +94,8 @@ impl MemoryInputs {
     /// Inputs of which none is chosen, with these bytes to come.
     pub fn new(stdin: List<u8>, files: List<NamedFile>, fail: List<u64>) -> MemoryInputs
         ensures chosen { ⟦<MemoryInputs as Inputs>⟧.chosen result ≡ None }
-        ensures left { (which : Which) → ⟦<MemoryInputs as Inputs>⟧.left result which ≡ content_of stdin files which }
+        ensures left { (which : Which) → ⟦<MemoryInputs as Inputs>⟧.left result which
+            ≡ content_of stdin files which }
         ensures faults { ⟦<MemoryInputs as Inputs>⟧.faults result ≡ 0 }
         ensures reads { reads_of result ≡ 0 }
         ensures failing { failing_reads result ≡ fail }
@@ -119,8 +124,10 @@ impl Inputs for MemoryInputs {
     fn choose(&mut self, which: Which)
         requires { ⟦<MemoryInputs as Inputs>⟧.chosen self.old ≡ None }
         ensures chosen { ⟦<MemoryInputs as Inputs>⟧.chosen self.new ≡ Some which }
-        ensures left { (w : Which) → ⟦<MemoryInputs as Inputs>⟧.left self.new w ≡ ⟦<MemoryInputs as Inputs>⟧.left self.old w }
-        ensures faults { ⟦<MemoryInputs as Inputs>⟧.faults self.new ≡ ⟦<MemoryInputs as Inputs>⟧.faults self.old }
+        ensures left { (w : Which) → ⟦<MemoryInputs as Inputs>⟧.left self.new w
+            ≡ ⟦<MemoryInputs as Inputs>⟧.left self.old w }
+        ensures faults { ⟦<MemoryInputs as Inputs>⟧.faults self.new
+            ≡ ⟦<MemoryInputs as Inputs>⟧.faults self.old }
         ensures reads { reads_of self.new ≡ reads_of self.old }
         ensures failing { failing_reads self.new ≡ failing_reads self.old }
     {
@@ -132,19 +139,25 @@ impl Inputs for MemoryInputs {
 
         // As for all inputs.
         ensures bound { ReadsAtMost result buf.new }
-        ensures chosen { ⟦<MemoryInputs as Inputs>⟧.chosen self.new ≡ ⟦<MemoryInputs as Inputs>⟧.chosen self.old }
+        ensures chosen { ⟦<MemoryInputs as Inputs>⟧.chosen self.new
+            ≡ ⟦<MemoryInputs as Inputs>⟧.chosen self.old }
         ensures others { (w : Which) → ⟦<MemoryInputs as Inputs>⟧.chosen self.old ≢ Some w
-            → ⟦<MemoryInputs as Inputs>⟧.left self.new w ≡ ⟦<MemoryInputs as Inputs>⟧.left self.old w }
+            → ⟦<MemoryInputs as Inputs>⟧.left self.new w
+            ≡ ⟦<MemoryInputs as Inputs>⟧.left self.old w }
         ensures bytes { let chosen = ⟦<MemoryInputs as Inputs>⟧.chosen self.old in
-            Takes (left_of chosen (⟦<MemoryInputs as Inputs>⟧.left self.old)) (left_of chosen (⟦<MemoryInputs as Inputs>⟧.left self.new)) result buf.new }
-        ensures cause { HasCause (⟦<MemoryInputs as Inputs>⟧.faults self.old) (⟦<MemoryInputs as Inputs>⟧.faults self.new) result }
+            Takes (left_of chosen (⟦<MemoryInputs as Inputs>⟧.left self.old))
+            (left_of chosen (⟦<MemoryInputs as Inputs>⟧.left self.new)) result buf.new }
+        ensures cause { HasCause (⟦<MemoryInputs as Inputs>⟧.faults self.old)
+            (⟦<MemoryInputs as Inputs>⟧.faults self.new) result }
 
         // A read fails exactly where its number is among those that fail, or the chosen input isn't there.
         ensures failed { IsErr result ↔ (Contains (failing_reads self.old) (reads_of self.old)
-            ⊎ IsNone (left_of (⟦<MemoryInputs as Inputs>⟧.chosen self.old) (⟦<MemoryInputs as Inputs>⟧.left self.old))) }
+            ⊎ IsNone (left_of (⟦<MemoryInputs as Inputs>⟧.chosen self.old)
+            (⟦<MemoryInputs as Inputs>⟧.left self.old))) }
 
         // Each failure is counted once, and each read; which reads fail stays as it was.
-        ensures once { CountsOnce (⟦<MemoryInputs as Inputs>⟧.faults self.old) (⟦<MemoryInputs as Inputs>⟧.faults self.new) result }
+        ensures once { CountsOnce (⟦<MemoryInputs as Inputs>⟧.faults self.old)
+            (⟦<MemoryInputs as Inputs>⟧.faults self.new) result }
         ensures numbered { reads_of self.new ≡ one_more (reads_of self.old) }
         ensures same { failing_reads self.new ≡ failing_reads self.old }
     {

@@ -45,8 +45,10 @@ pub trait Inputs {
         requires { IsSome (chosen self.old) }
         ensures bound { ReadsAtMost result buf.new }
         ensures chosen { chosen self.new ≡ chosen self.old }
-        ensures others { (w : Which) → chosen self.old ≢ Some w → left self.new w ≡ left self.old w }
-        ensures bytes { Takes (left_of (chosen self.old) (left self.old)) (left_of (chosen self.old) (left self.new)) result buf.new }
+        ensures others { (w : Which) → chosen self.old ≢ Some w
+            → left self.new w ≡ left self.old w }
+        ensures bytes { Takes (left_of (chosen self.old) (left self.old))
+            (left_of (chosen self.old) (left self.new)) result buf.new }
         ensures cause { HasCause (faults self.old) (faults self.new) result };
 }
 

@@ -32,16 +32,20 @@ pub fn read_all<I: Inputs>(
 
     // What each answer leaves: of the chosen input an end of what was left, and of each other what was left.
     ensures same { I.chosen inputs.new ≡ I.chosen inputs.old }
-    ensures rest { IsEnd (left_of (I.chosen inputs.old) (I.left inputs.old)) (left_of (I.chosen inputs.old) (I.left inputs.new)) }
-    ensures others { (w : Which) → I.chosen inputs.old ≢ Some w → I.left inputs.new w ≡ I.left inputs.old w }
+    ensures rest { IsEnd (left_of (I.chosen inputs.old) (I.left inputs.old))
+        (left_of (I.chosen inputs.old) (I.left inputs.new)) }
+    ensures others { (w : Which) → I.chosen inputs.old ≢ Some w
+        → I.left inputs.new w ≡ I.left inputs.old w }
     ensures later { I.faults inputs.old ≤ I.faults inputs.new }
 
     // Ok is all that was left, read to its end.
-    ensures ok { IfOk result (λ bytes. TellsAs (left_of (I.chosen inputs.old) (I.left inputs.old)) bytes) }
+    ensures ok { IfOk result (λ bytes. TellsAs
+        (left_of (I.chosen inputs.old) (I.left inputs.old)) bytes) }
     ensures at_end { OnOk result (TellsAs (left_of (I.chosen inputs.old) (I.left inputs.new)) []) }
     ensures within { IfOk result (λ bytes. length bytes ≤ limit) }
 
-    ensures read_failed { IsErrOf result ReadError.ReadFailed → Rose (I.faults inputs.old) (I.faults inputs.new) }
+    ensures read_failed { IsErrOf result ReadError.ReadFailed
+        → Rose (I.faults inputs.old) (I.faults inputs.new) }
     ensures too_long { IsErrOf result ReadError.TooLong →
         IfSome (left_of (I.chosen inputs.old) (I.left inputs.old)) (λ all. limit < length all) }
 {

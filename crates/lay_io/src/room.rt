@@ -68,8 +68,10 @@ impl Room {
 
     /// Keeps the piece. Where it doesn't fit, nothing is told any more. It takes no memory.
     pub fn put(&mut self, piece: &[u8])
-        ensures fits { length piece.now ≤ (kept_in self.old).spare → kept_in self.new ≡ kept_behind (kept_in self.old) piece.now }
-        ensures too_much { (kept_in self.old).spare < length piece.now → kept_in self.new ≡ untold (kept_in self.old) }
+        ensures fits { length piece.now ≤ (kept_in self.old).spare
+            → kept_in self.new ≡ kept_behind (kept_in self.old) piece.now }
+        ensures too_much { (kept_in self.old).spare < length piece.now
+            → kept_in self.new ≡ untold (kept_in self.old) }
         ensures grew { GrewBy (kept_in self.old).bytes (kept_in self.new).bytes piece.now }
     {
         if piece.len() > self.left() {

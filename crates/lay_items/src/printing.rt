@@ -54,7 +54,8 @@ pub(crate) fn output_of(alloc: Global, item: &Item) -> Result<Text, NoMemory>
 
 /// Writes the text of a file with this item alone.
 fn write_alone<K: Sink>(alloc: Global, item: &Item, out: &mut K) -> Result<(), PrintError>
-    ensures { OnOk result (GrewBy (K.written out.old) (K.written out.new) (text_of_file (alone item.now))) }
+    ensures { OnOk result (GrewBy (K.written out.old) (K.written out.new)
+        (text_of_file (alone item.now))) }
 {
     let mut core = match Core::new(alloc) {
         Ok(core) => core,

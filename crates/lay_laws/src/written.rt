@@ -20,7 +20,8 @@ use std::alloc::Global;
 /// was read can be written. This takes time and memory in proportion to the text, and of the stack what a file of its
 /// depth needs: its names may spell a deeper one, which is refused there.
 pub fn is_written(alloc: Global, file: &File) -> Result<bool, NoMemory>
-    ensures { IfOk result (λ answer. IsTrue answer ↔ (Written file.now × (least_depth (form_of_file file.now) ≤ top))) }
+    ensures { IfOk result (λ answer. IsTrue answer
+        ↔ (Written file.now × (least_depth (form_of_file file.now) ≤ top))) }
 {
     let depth = file_depth(file);
     if depth > DEPTH {

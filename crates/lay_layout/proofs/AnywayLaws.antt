@@ -6,27 +6,28 @@ use Rattle.lay_layout.specs.declared.layout.Mark.{Mark}
 use Rattle.lay_layout.specs.declared.layout.Mark.TheVariants.{Absent, Comma, OpenBrace, CloseBrace}
 use Rattle.lay_layout.specs.declared.layout.Frame.{Frame}
 use Rattle.lay_layout.specs.declared.layout.Frame.TheVariants.{Flat, Broken}
+use Rattle.lay_layout.specs.Margins.{margin}
 use Rattle.lay_layout.specs.Document.{Document, Empty, AddText, AddBreak, AddGroup, State, flat, ahead, render, width_of_break, over, write, put_mark, newline, enter, break_by, break_in, outside, start, text_of}
 use Rattle.lay_layout.specs.Anyway.{is_hard, has_hard, Enters, Leads, Anyway}
 
-mark_room : (m : Mark) (s : State) → s.room ≤ 89 → (put_mark m s).room ≤ 89
+mark_room : (m : Mark) (s : State) → s.room ≤ margin → (put_mark m s).room ≤ margin
 mark_room Absent s h = h
 mark_room Comma s h = h
 mark_room OpenBrace s h = h
 mark_room CloseBrace s h = h
 
-newline_room : (b : Break) (i : ℕ) (s : State) → (newline b i s).room ≤ 89
+newline_room : (b : Break) (i : ℕ) (s : State) → (newline b i s).room ≤ margin
 newline_room b i s = mark_room b.after _ (omega arith)
 
-break_room : (never : Bool) (f : Frame) (b : Break) (big : Bool) (s : State) → s.room ≤ 89 → (break_by never f b big s).room ≤ 89
+break_room : (never : Bool) (f : Frame) (b : Break) (big : Bool) (s : State) → s.room ≤ margin → (break_by never f b big s).room ≤ margin
 break_room true f b big s h = mark_room b.instead _ h
 break_room false Flat b big s h = mark_room b.instead _ h
 break_room false (Broken true i) b big s h = newline_room b i s
 break_room false (Broken false i) b true s h = newline_room b i s
 break_room false (Broken false i) b false s h = mark_room b.instead _ h
 
--- A line has no more than 89 columns of room.
-render_room : (d : Document) (f : Frame) (s : State) (follow : ℕ) → s.room ≤ 89 → (render d f s follow).room ≤ 89
+-- A line has no more room than the margin.
+render_room : (d : Document) (f : Frame) (s : State) (follow : ℕ) → s.room ≤ margin → (render d f s follow).room ≤ margin
 render_room Empty f s follow h = h
 render_room (AddText t rest) f s follow h = render_room rest f (write t s) follow h
 render_room (AddBreak b rest) f s follow h =
@@ -52,11 +53,11 @@ hard_flat (AddGroup c o inner rest) h = elim (or_cases (has_hard inner) (has_har
   | inr e ↦ let a = hard_flat rest e in omega arith
 ]
 
-over_far : (n : ℕ) (s : State) → s.room ≤ 89 → 65535 ≤ n → over n s ≡ true
+over_far : (n : ℕ) (s : State) → s.room ≤ margin → 65535 ≤ n → over n s ≡ true
 over_far n s h k = lt-ltb s.room (s.used + n) (omega arith)
 
 -- what isn't too wide holds none
-none_hard : (hard : Bool) (n : ℕ) (s : State) → s.room ≤ 89 → over n s ≡ false → (hard ≡ true → 65535 ≤ n) → hard ≡ false
+none_hard : (hard : Bool) (n : ℕ) (s : State) → s.room ≤ margin → over n s ≡ false → (hard ≡ true → 65535 ≤ n) → hard ≡ false
 none_hard hard n s h o w = false_from_ne_true hard (λ e. both_ways (over n s) o (over_far n s h (w e)))
 
 -- the tests of a frame
@@ -93,7 +94,7 @@ group_enters Flat c o inner big h w = (refl, h)
 group_enters (Broken outer i) c o inner true h w = (inl refl, λ e. cc)
 group_enters (Broken outer i) c o inner false h w = (inr (w refl, refl), λ e. w refl)
 
-render_leads : (d : Document) (f : Frame) (s : State) (follow : ℕ) → s.room ≤ 89 → HardFree f (has_hard d) → Leads f d s (render d f s follow)
+render_leads : (d : Document) (f : Frame) (s : State) (follow : ℕ) → s.room ≤ margin → HardFree f (has_hard d) → Leads f d s (render d f s follow)
 render_leads Empty f s follow h k = refl
 render_leads (AddText t rest) f s follow h k = render_leads rest f (write t s) follow h k
 render_leads (AddBreak b rest) f s follow h k =

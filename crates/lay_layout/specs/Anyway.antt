@@ -3,6 +3,7 @@ use Rattle.std.specs.Prelude.{ℕ, ◌≡◌, ◌⊎◌, min, Bool, false, ◌&&
 use Rattle.lay_layout.specs.declared.layout.Break.{Break}
 use Rattle.lay_layout.specs.declared.layout.Frame.{Frame}
 use Rattle.lay_layout.specs.declared.layout.Frame.TheVariants.{Flat, Broken}
+use Rattle.lay_layout.specs.Margins.{greatest_indent}
 use Rattle.lay_layout.specs.Document.{Document, Empty, AddText, AddBreak, AddGroup, State, write, newline, skip, shift, outside, start}
 
 -- A hard break has so many blanks that no space holds them.
@@ -18,7 +19,7 @@ has_hard (AddGroup c o inner rest) = has_hard inner || has_hard rest
 -- the frames of a group: flat in a flat frame; else broken, or flat where it holds no hard break
 abbrev pub Enters : Frame → Bool → ℤ → Document → Frame → Type 0
 Enters Flat c o inner g = g ≡ Flat
-Enters (Broken outer i) c o inner g = (g ≡ Broken c (min (shift i o) 240)) ⊎ (IsFalse (has_hard inner) × (g ≡ Flat))
+Enters (Broken outer i) c o inner g = (g ≡ Broken c (min (shift i o) greatest_indent)) ⊎ (IsFalse (has_hard inner) × (g ≡ Flat))
 
 -- A break that is never a newline, and one in a flat frame, is none. In a broken frame a hard break is a newline, each
 -- other one too where the frame is consistent, and else it is one or none. (No flat frame holds a hard break.)

@@ -1,5 +1,6 @@
 -- Documents, and the text that each is laid out as (Oppen, "Prettyprinting", TOPLAS 2(4), 1980, over texts, breaks
--- and groups). A line has 89 columns, a width counts bytes, and an indent is kept between 0 and 240.
+-- and groups). A line has 89 columns, and a new one a space of 60 at the least. A width counts bytes, an indent is kept
+-- between 0 and 240, and no more than 1,000,000 blanks wait to be written.
 use Rattle.std.specs.Prelude.{◌≡◌, ℕ, ◌+◌, ◌-◌, min, max, Bool, true, false, nat_lt, List, [], ◌∷◌, ◌++◌, length, replicate, ℤ, pos, negsuc, ◌-ℤ◌}
 use Rattle.lay_layout.specs.declared.layout.Mark.{Mark}
 use Rattle.lay_layout.specs.declared.layout.Mark.TheVariants.{Absent, Comma, OpenBrace, CloseBrace}
@@ -8,6 +9,7 @@ use Rattle.lay_layout.specs.declared.layout.Frame.{Frame}
 use Rattle.lay_layout.specs.declared.layout.Frame.TheVariants.{Flat, Broken}
 use Rattle.lay_layout.specs.declared.layout.Tok.{Tok}
 use Rattle.lay_layout.specs.declared.layout.Tok.TheVariants as tok
+use Rattle.lay_layout.specs.Margins.{margin, least_space, greatest_indent, greatest_blanks}
 
 -- A document is texts, breaks and groups, in order.
 pub data Document : Type 0 where
@@ -81,24 +83,24 @@ put_mark Comma s = write (bytes_of_mark Comma) s
 put_mark OpenBrace s = write (bytes_of_mark OpenBrace) s
 put_mark CloseBrace s = write (bytes_of_mark CloseBrace) s
 
--- An LF, and a line of k blanks begins: pending blanks are forgotten, and the space is what is left of 89 columns, but
--- 60 at the least.
+-- An LF, and a line of k blanks begins: pending blanks are forgotten, and the space is what is left of the margin, but
+-- no less than the least space.
 abbrev pub line : ℕ → State → State
-line k s = record { text = s.text ++ 10 ∷ []; pending = k; room = max (89 - k) 60; used = 0 }
+line k s = record { text = s.text ++ 10 ∷ []; pending = k; room = max (margin - k) least_space; used = 0 }
 
 -- A break that is a newline: its mark before, a new line, its mark after.
 abbrev pub newline : Break → ℕ → State → State
 newline b indent s = put_mark b.after (line (shift indent b.offset) (put_mark b.before s))
 
--- A break that is none: its blanks are pending, of which there are never more than 1,000,000, and its mark instead.
+-- A break that is none: its blanks are pending, of which no more than the greatest count wait, and its mark instead.
 abbrev pub skip : Break → State → State
-skip b s = put_mark b.instead (record { text = s.text; pending = min (s.pending + b.blank) 1000000; room = s.room; used = s.used + b.blank })
+skip b s = put_mark b.instead (record { text = s.text; pending = min (s.pending + b.blank) greatest_blanks; room = s.room; used = s.used + b.blank })
 
 -- The frame of a group in a frame, by whether its measure is greater than the space: flat in a flat frame and where it
 -- fits; else broken, with its offset added to the indent.
 abbrev pub enter : Frame → Bool → ℤ → Bool → Frame
 enter Flat c o big = Flat
-enter (Broken outer i) c o true = Broken c (min (shift i o) 240)
+enter (Broken outer i) c o true = Broken c (min (shift i o) greatest_indent)
 enter (Broken outer i) c o false = Flat
 
 -- A break in a frame, by whether it is never a newline and whether its measure is greater than the space.
@@ -127,7 +129,7 @@ outside = Broken false 0
 
 -- before all tokens
 abbrev pub start : State
-start = record { text = []; pending = 0; room = 89; used = 0 }
+start = record { text = []; pending = 0; room = margin; used = 0 }
 
 -- the text of a document
 abbrev pub text_of : Document → List ℕ

@@ -1,11 +1,12 @@
--- Frames as they come: an indent is at most 240.
+-- Frames as they come: no indent is greater than the greatest one.
 use Rattle.std.specs.Prelude.{◌≤◌, List, [], ◌∷◌}
 use Rattle.lay_layout.specs.declared.layout.Frame.{Frame}
 use Rattle.lay_layout.specs.declared.layout.Frame.TheVariants.{Flat, Broken}
+use Rattle.lay_layout.specs.Margins.{greatest_indent}
 
 abbrev pub IsKept : Frame → Type 0
 IsKept Flat = Unit {0}
-IsKept (Broken consistent indent) = indent ≤ 240
+IsKept (Broken consistent indent) = indent ≤ greatest_indent
 
 abbrev pub AreKept : List Frame → Type 0
 AreKept [] = Unit {0}

@@ -2,6 +2,7 @@
 ghost use Rattle.std.specs.Prelude.{◌≡◌, ◌<◌, ◌≤◌, Bool, IsFalse};
 ghost use Rattle.lay_layout.specs.Document.{State, break_in, enter, shift};
 ghost use Rattle.lay_layout.specs.Indents.{IsKept};
+ghost use Rattle.lay_layout.specs.Margins.{greatest_indent};
 
 use crate::layout::{Break, Frame};
 
@@ -17,7 +18,7 @@ pub const OUTSIDE: Frame = Frame::Broken {
 /// What an indent and an offset make, or 0 where that is below 0.
 #[inline]
 pub fn shifted(indent: u64, offset: i8) -> u64
-    requires { indent ≤ 240 }
+    requires { indent ≤ greatest_indent }
     ensures value { result ≡ shift indent offset }
     ensures small { result < 368 }
 {

@@ -74,12 +74,16 @@ pub fn layout_law()
     ensures some_document { (s : List Tok) → IsClosed 0 s → (d : Document) × (stream d ≡ s) }
     ensures one_document { (d e : Document) → stream d ≡ stream e → d ≡ e }
     ensures measured_group { (c : Bool) (o : ℤ) (inner rest : Document) (more : List Tok)
-        → measure (tok.Begin c o) (stream inner ++ tok.End ∷ (stream rest ++ more)) ≡ flat inner + ahead rest (reach 0 more) }
+        → measure (tok.Begin c o) (stream inner ++ tok.End ∷ (stream rest ++ more))
+        ≡ flat inner + ahead rest (reach 0 more) }
     ensures measured_break { (b : Break) (rest : Document) (more : List Tok)
-        → measure (tok.Break b) (stream rest ++ more) ≡ width_of_break b + ahead rest (reach 0 more) }
+        → measure (tok.Break b) (stream rest ++ more)
+        ≡ width_of_break b + ahead rest (reach 0 more) }
     ensures shown_front { (d : Document) (more : List Tok)
-        → shown (stream d ++ more) (length (stream d)) ≡ (render d outside start (reach 0 more)).text }
+        → shown (stream d ++ more) (length (stream d))
+        ≡ (render d outside start (reach 0 more)).text }
     ensures space_front { (d : Document) (more : List Tok)
-        → space (stream d ++ more) (length (stream d)) ≡ space_of (render d outside start (reach 0 more)) }
+        → space (stream d ++ more) (length (stream d))
+        ≡ space_of (render d outside start (reach 0 more)) }
     ensures anyway { (d : Document) → Anyway d (text_of d) }
 {}

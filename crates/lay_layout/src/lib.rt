@@ -12,4 +12,4 @@ pub mod widths;
 
 pub use frames::{GREATEST_INDENT, OUTSIDE, asks_at_break, entered, shifted};
 pub use layout::{Break, Frame, Mark, Tok, layout_law};
-pub use widths::{GREATEST_BLANKS, LEAST_SPACE, MARGIN, width_of};
+pub use widths::{GREATEST_BLANKS, GREATEST_WIDTH, LEAST_SPACE, MARGIN, width_of};

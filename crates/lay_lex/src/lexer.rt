@@ -24,7 +24,8 @@ pub fn lex(alloc: Global, source: &Source) -> Result<List<Token>, FormatError>
     ensures tokens { (tokens : Items TokenValue) → Lexes source.now.text source.now.start tokens
         → (result ≡ Ok tokens) ⊎ (result ≡ Err FormatError.NoMemory) }
     ensures no_token { (at : ℕ) → NoTokenAt source.now.text source.now.start at
-        → (result ≡ Err (FormatError.Refused (Refusal.NoToken at))) ⊎ (result ≡ Err FormatError.NoMemory) }
+        → (result ≡ Err (FormatError.Refused (Refusal.NoToken at)))
+        ⊎ (result ≡ Err FormatError.NoMemory) }
 {
     let text = unsafe { std::str::from_utf8_unchecked(source.text.as_slice()) };
     tokens_of(alloc, text, source.start)
@@ -109,7 +110,8 @@ fn room(least: Option<usize>, ahead: usize) -> usize {
 
 /// The characters that take so many bytes, and what follows them.
 pub fn cut(s: &str, len: usize) -> (&str, &str)
-    requires { (piece : Items ℕ) × (more : Items ℕ) × (chars s.now ≡ piece ++ more) × (len ≡ size piece) }
+    requires { (piece : Items ℕ) × (more : Items ℕ) × (chars s.now ≡ piece ++ more)
+        × (len ≡ size piece) }
     ensures { (piece more : Items ℕ) → chars s.now ≡ piece ++ more → len ≡ size piece
         → (chars result.0.now ≡ piece) × (chars result.1.now ≡ more) }
 {

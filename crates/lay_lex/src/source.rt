@@ -37,7 +37,8 @@ impl Source {
 pub fn normalise(alloc: Global, bytes: &[u8]) -> Result<Source, FormatError>
     ensures answer { Answers (source bytes.now) result }
     // The text can be lexed from its start on.
-    ensures ready { IfOk result (λ given. IsUtf8 given.text × IsCharBoundary given.text given.start) }
+    ensures ready { IfOk result (λ given. IsUtf8 given.text
+        × IsCharBoundary given.text given.start) }
 {
     let text = match std::str::from_utf8(bytes) {
         Ok(text) => text,

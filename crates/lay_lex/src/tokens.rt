@@ -24,7 +24,8 @@ pub enum Before {
 impl Before {
     /// What stands behind punctuation, which is a point or isn't; `touches` says that no gap stands before it.
     pub fn behind(self, point: bool, touches: bool) -> Before
-        ensures { before result ≡ cond point (cond (is_point (before self) && touches) lexes.Points lexes.Point) lexes.Other }
+        ensures { before result ≡ cond point (cond
+            (is_point (before self) && touches) lexes.Points lexes.Point) lexes.Other }
     {
         if !point {
             Before::Other
@@ -161,7 +162,8 @@ impl Tokens {
         at: usize,
         touches: bool,
     ) -> Result<(), NoMemory>
-        ensures { OnOk result (Adds touches (token_of at kind (chars piece.now)) self.old self.new) }
+        ensures { OnOk result (Adds touches (token_of at kind (chars piece.now)) self.old
+            self.new) }
     {
         let token = token_of(alloc, kind, piece, at)?;
         match kind {

@@ -10,7 +10,8 @@ use std::str;
 /// All the words as texts, or none of them where one isn't UTF-8.
 pub fn texts(alloc: Global, words: &[Text]) -> Result<Option<Vec<&str>>, NoMemory>
     ensures { IfOk result (λ answer. MatchOption answer (list_all is_utf8 words.now ≡ false)
-        (λ texts. (list_all is_utf8 words.now ≡ true) × (map (λ text. text.now) texts.items ≡ words.now))) }
+        (λ texts. (list_all is_utf8 words.now ≡ true)
+        × (map (λ text. text.now) texts.items ≡ words.now))) }
 {
     let mut texts = Vec::new(alloc);
     for word in words {
@@ -24,7 +25,8 @@ pub fn texts(alloc: Global, words: &[Text]) -> Result<Option<Vec<&str>>, NoMemor
 
 /// A word as a text, where it is UTF-8.
 fn text(word: &Text) -> Option<&str>
-    ensures { MatchOption result (is_utf8 word.now ≡ false) (λ text. (is_utf8 word.now ≡ true) × (text.now ≡ word.now)) }
+    ensures { MatchOption result (is_utf8 word.now ≡ false)
+        (λ text. (is_utf8 word.now ≡ true) × (text.now ≡ word.now)) }
 {
     match str::from_utf8(word.as_bytes()) {
         Ok(text) => Some(text),

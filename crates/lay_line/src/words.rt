@@ -50,7 +50,8 @@ fn from_values(
     items: Option<&str>,
     file: Option<&str>,
 ) -> Result<Line, NoMemory>
-    ensures { IfOk result (λ line. line ≡ line_for check map (option_map (λ text. text.now) sample.entry)
+    ensures { IfOk result (λ line. line ≡ line_for check map
+        (option_map (λ text. text.now) sample.entry)
         (option_map (λ text. text.now) items.entry) (option_map (λ name. name.now) file.entry)) }
 {
     match (check, map, sample, items, file) {

@@ -51,7 +51,8 @@ impl<'a> Cursor<'a> {
     /// The token behind this many others, or `None` where no more than so many are ahead.
     pub fn peek(&self, ahead: usize) -> Option<&'a Token>
         ensures token { option_copied result ≡ slice_get self.now ahead }
-        ensures within { MatchOption result (length self.now ≤ ahead) (λ _. ahead < length self.now) }
+        ensures within { MatchOption result (length self.now ≤ ahead)
+            (λ _. ahead < length self.now) }
     {
         self.tokens.get(ahead)
     }

@@ -8,7 +8,8 @@ ghost use Rattle.lay_token.specs.declared.token.Token.{Token};
 pub fn nesting_law()
     ensures one_place { (tokens : List Token) (at other : ℕ)
         → UnbalancedAt tokens at → UnbalancedAt tokens other → at ≡ other }
-    ensures never_both { (tokens : List Token) (at : ℕ) → UnbalancedAt tokens at → Balanced tokens → ⊥ }
+    ensures never_both { (tokens : List Token) (at : ℕ) → UnbalancedAt tokens at
+        → Balanced tokens → ⊥ }
     ensures one_group { (inside others rest more : List Token) (closer last : Token)
         → IsTrue (is_closer closer.kind) → IsTrue (is_closer last.kind)
         → inside ++ closer ∷ rest ≡ others ++ last ∷ more → Balanced inside → Balanced others

@@ -46,9 +46,11 @@ impl Nested {
 /// closer, that of the last opener left open.
 pub fn nest(alloc: Global, tokens: List<Token>) -> Result<Nested, FormatError>
     ensures answer { NestedAs tokens result }
-    ensures balanced { Balanced tokens → (result ≡ Ok tokens) ⊎ (result ≡ Err FormatError.NoMemory) }
+    ensures balanced { Balanced tokens → (result ≡ Ok tokens)
+        ⊎ (result ≡ Err FormatError.NoMemory) }
     ensures unbalanced { (at : ℕ) → UnbalancedAt tokens at
-        → (result ≡ Err (FormatError.Refused (refusal.Unbalanced at))) ⊎ (result ≡ Err FormatError.NoMemory) }
+        → (result ≡ Err (FormatError.Refused (refusal.Unbalanced at)))
+        ⊎ (result ≡ Err FormatError.NoMemory) }
 {
     match spans_of(alloc, tokens.as_slice()) {
         Ok(spans) => Ok(Nested { tokens, spans }),

@@ -99,7 +99,8 @@ impl Reading {
     /// Adds an opener.
     fn open(&mut self) -> Result<(), NoMemory>
         ensures spans { OnOk result (self.new.spans.items ≡ self.old.spans.items ++ 0 ∷ []) }
-        ensures places { OnOk result (self.new.places.items ≡ self.old.places.items ++ length self.old.spans.items ∷ []) }
+        ensures places { OnOk result (self.new.places.items
+            ≡ self.old.places.items ++ length self.old.spans.items ∷ []) }
     {
         self.places.push(self.spans.len())?;
         self.pass()
@@ -109,7 +110,8 @@ impl Reading {
     fn close(&mut self, place: usize) -> Result<(), NoMemory>
         requires { place < length self.old.spans.items }
         ensures spans { OnOk result (self.new.spans.items
-            ≡ slice_set self.old.spans.items place (length self.old.spans.items - place - 1) ++ 0 ∷ []) }
+            ≡ slice_set self.old.spans.items place (length self.old.spans.items - place - 1) ++ 0
+            ∷ []) }
         ensures places { self.new.places ≡ self.old.places }
     {
         self.spans[place] = self.spans.len() - place - 1;

@@ -55,76 +55,114 @@ ghost use Rattle.lay_node.specs.declared.vis.Vis.{Vis};
 
 /// The functions that read nodes read exactly what stands at the front of the tokens.
 pub fn reading_law()
-    ensures simple_paths { Exact (needless simple_path) (λ (x : SimplePath). Front (about_simple_path x)) }
+    ensures simple_paths { Exact (needless simple_path)
+        (λ (x : SimplePath). Front (about_simple_path x)) }
     ensures groups { Exact (needless group) (λ (x : Group). Front (about_group x)) }
     ensures calls { Exact (needless call) (λ (x : MacroCall). Front (about_call x)) }
-    ensures attrs { (inner : Bool) → Exact (needless (attribute inner)) (λ (x : Attr). Front (about_attr inner x)) }
-    ensures types { (place : TypePlace) → Exact (type_at place) (λ (x : Ty). TypeFront place (about_type x)) }
-    ensures paths { (style : PathStyle) → Exact (path_at style) (λ (x : Path). Front (alone (about_path x style))) }
-    ensures args { (style : PathStyle) → Exact (args_at style) (λ (x : Args). Front (alone (in_style style (about_args x)))) }
+    ensures attrs { (inner : Bool) → Exact (needless (attribute inner))
+        (λ (x : Attr). Front (about_attr inner x)) }
+    ensures types { (place : TypePlace) → Exact (type_at place)
+        (λ (x : Ty). TypeFront place (about_type x)) }
+    ensures paths { (style : PathStyle) → Exact (path_at style)
+        (λ (x : Path). Front (alone (about_path x style))) }
+    ensures args { (style : PathStyle) → Exact (args_at style)
+        (λ (x : Args). Front (alone (in_style style (about_args x)))) }
     ensures bounds { Exact bounds_at (λ (x : List Bound). BoundsFront x) }
     ensures generics { Exact generics_at (λ (x : Generics × Bool). GenericsAt x.1 x.0) }
     ensures wheres { Exact wheres_at (λ (x : Wheres × Bool). WheresAt x.1 x.0) }
-    ensures pats { (place : PatPlace) → Exact (pat_at place) (λ (x : Pat). PatFront place (about_pat x)) }
+    ensures pats { (place : PatPlace) → Exact (pat_at place)
+        (λ (x : Pat). PatFront place (about_pat x)) }
     ensures use_trees { Exact use_at (λ (x : UseTree). Front (about_use x)) }
     ensures visibilities { Exact (needless visibility) (λ (x : Vis). ToldFront (about_vis x)) }
-    ensures extern_crates { Exact (needless extern_crate) (λ (x : ExternCrate). ToldFront (headed (about_extern_crate x))) }
-    ensures aliases { (site : Site) → Exact (head_at (λ w ts. alias site w.kinds ts)) (λ (x : Alias). ToldFront (by_itself (headed (about_alias site x)))) }
-    ensures structs { Exact (head_at (λ w ts. struct w.kinds ts)) (λ (x : Struct). ToldFront (by_itself (headed (about_struct x)))) }
-    ensures unions { Exact (head_at (λ w ts. union w.kinds ts)) (λ (x : Union). ToldFront (by_itself (headed (about_union x)))) }
-    ensures enums { Exact (head_at (λ w ts. enum w.kinds ts)) (λ (x : Enum). ToldFront (by_itself (headed (about_enum x)))) }
-    ensures fn_heads { (site : Site) → Exact (head_at (fn_head site)) (λ (x : FnHead). ToldFront (by_itself (about_fn_head site x))) }
-    ensures value_heads { Exact (head_at (λ w ts. value_head w.kinds ts)) (λ (x : ValueHead). ToldFront (by_itself (about_value_head x))) }
-    ensures trait_heads { Exact (head_at (λ w ts. trait_head w.kinds ts)) (λ (x : TraitHead × (Bool × Bool)). TraitHeadAt x.1.0 x.1.1 x.0) }
-    ensures impl_heads { Exact (head_at (λ w ts. impl_head w.kinds ts)) (λ (x : ImplHead). ToldFront (by_itself (about_impl_head x))) }
+    ensures extern_crates { Exact (needless extern_crate)
+        (λ (x : ExternCrate). ToldFront (headed (about_extern_crate x))) }
+    ensures aliases { (site : Site) → Exact (head_at (λ w ts. alias site w.kinds ts))
+        (λ (x : Alias). ToldFront (by_itself (headed (about_alias site x)))) }
+    ensures structs { Exact (head_at (λ w ts. struct w.kinds ts))
+        (λ (x : Struct). ToldFront (by_itself (headed (about_struct x)))) }
+    ensures unions { Exact (head_at (λ w ts. union w.kinds ts))
+        (λ (x : Union). ToldFront (by_itself (headed (about_union x)))) }
+    ensures enums { Exact (head_at (λ w ts. enum w.kinds ts))
+        (λ (x : Enum). ToldFront (by_itself (headed (about_enum x)))) }
+    ensures fn_heads { (site : Site) → Exact (head_at (fn_head site))
+        (λ (x : FnHead). ToldFront (by_itself (about_fn_head site x))) }
+    ensures value_heads { Exact (head_at (λ w ts. value_head w.kinds ts))
+        (λ (x : ValueHead). ToldFront (by_itself (about_value_head x))) }
+    ensures trait_heads { Exact (head_at (λ w ts. trait_head w.kinds ts))
+        (λ (x : TraitHead × (Bool × Bool)). TraitHeadAt x.1.0 x.1.1 x.0) }
+    ensures impl_heads { Exact (head_at (λ w ts. impl_head w.kinds ts))
+        (λ (x : ImplHead). ToldFront (by_itself (about_impl_head x))) }
 {}
 
 /// At most one node and one count of tokens fit at a place, for each kind of node.
 pub fn node_law()
     ensures one_simple_path { (node other : SimplePath) (ts : List Token) (n m depth : ℕ)
-        → Front (about_simple_path node) ts n depth → Front (about_simple_path other) ts m depth → (node ≡ other) × (n ≡ m) }
+        → Front (about_simple_path node) ts n depth → Front (about_simple_path other) ts m depth
+        → (node ≡ other) × (n ≡ m) }
     ensures one_group { (node other : Group) (ts : List Token) (n m depth : ℕ)
-        → Front (about_group node) ts n depth → Front (about_group other) ts m depth → (node ≡ other) × (n ≡ m) }
+        → Front (about_group node) ts n depth → Front (about_group other) ts m depth
+        → (node ≡ other) × (n ≡ m) }
     ensures one_call { (node other : MacroCall) (ts : List Token) (n m depth : ℕ)
-        → Front (about_call node) ts n depth → Front (about_call other) ts m depth → (node ≡ other) × (n ≡ m) }
+        → Front (about_call node) ts n depth → Front (about_call other) ts m depth
+        → (node ≡ other) × (n ≡ m) }
     ensures one_attr { (node other : Attr) (inner : Bool) (ts : List Token) (n m depth : ℕ)
-        → Front (about_attr inner node) ts n depth → Front (about_attr inner other) ts m depth → (node ≡ other) × (n ≡ m) }
+        → Front (about_attr inner node) ts n depth → Front (about_attr inner other) ts m depth
+        → (node ≡ other) × (n ≡ m) }
     ensures one_type { (node other : Ty) (place : TypePlace) (ts : List Token) (n m depth : ℕ)
-        → TypeFront place (about_type node) ts n depth → TypeFront place (about_type other) ts m depth → (node ≡ other) × (n ≡ m) }
+        → TypeFront place (about_type node) ts n depth
+        → TypeFront place (about_type other) ts m depth → (node ≡ other) × (n ≡ m) }
     ensures one_path { (node other : Path) (style : PathStyle) (ts : List Token) (n m depth : ℕ)
-        → Front (alone (about_path node style)) ts n depth → Front (alone (about_path other style)) ts m depth
+        → Front (alone (about_path node style)) ts n depth
+        → Front (alone (about_path other style)) ts m depth
         → (node ≡ other) × (n ≡ m) }
     ensures one_args { (node other : Args) (style : PathStyle) (ts : List Token) (n m depth : ℕ)
-        → Front (alone (in_style style (about_args node))) ts n depth → Front (alone (in_style style (about_args other))) ts m depth
+        → Front (alone (in_style style (about_args node))) ts n depth
+        → Front (alone (in_style style (about_args other))) ts m depth
         → (node ≡ other) × (n ≡ m) }
     ensures one_bounds { (nodes others : List Bound) (ts : List Token) (n m depth : ℕ)
-        → BoundsFront nodes ts n depth → BoundsFront others ts m depth → (nodes ≡ others) × (n ≡ m) }
+        → BoundsFront nodes ts n depth → BoundsFront others ts m depth
+        → (nodes ≡ others) × (n ≡ m) }
     ensures one_generics { (node other : Generics) (ts : List Token) (n m depth : ℕ)
-        → GenericsFront node ts n depth → GenericsFront other ts m depth → (node ≡ other) × (n ≡ m) }
+        → GenericsFront node ts n depth → GenericsFront other ts m depth
+        → (node ≡ other) × (n ≡ m) }
     ensures one_wheres { (node other : Wheres) (ts : List Token) (n m depth : ℕ)
         → WheresFront node ts n depth → WheresFront other ts m depth → (node ≡ other) × (n ≡ m) }
     ensures one_pat { (node other : Pat) (place : PatPlace) (ts : List Token) (n m depth : ℕ)
-        → PatFront place (about_pat node) ts n depth → PatFront place (about_pat other) ts m depth → (node ≡ other) × (n ≡ m) }
+        → PatFront place (about_pat node) ts n depth → PatFront place (about_pat other) ts m depth
+        → (node ≡ other) × (n ≡ m) }
     ensures one_use { (node other : UseTree) (ts : List Token) (n m depth : ℕ)
-        → Front (about_use node) ts n depth → Front (about_use other) ts m depth → (node ≡ other) × (n ≡ m) }
+        → Front (about_use node) ts n depth → Front (about_use other) ts m depth
+        → (node ≡ other) × (n ≡ m) }
     ensures one_vis { (node other : Vis) (ts : List Token) (n m depth : ℕ)
-        → ToldFront (about_vis node) ts n depth → ToldFront (about_vis other) ts m depth → (node ≡ other) × (n ≡ m) }
+        → ToldFront (about_vis node) ts n depth → ToldFront (about_vis other) ts m depth
+        → (node ≡ other) × (n ≡ m) }
     ensures one_extern_crate { (node other : ExternCrate) (ts : List Token) (n m depth : ℕ)
-        → ToldFront (headed (about_extern_crate node)) ts n depth → ToldFront (headed (about_extern_crate other)) ts m depth → (node ≡ other) × (n ≡ m) }
+        → ToldFront (headed (about_extern_crate node)) ts n depth
+        → ToldFront (headed (about_extern_crate other)) ts m depth → (node ≡ other) × (n ≡ m) }
     ensures one_alias { (node other : Alias) (site : Site) (ts : List Token) (n m depth : ℕ)
-        → ToldFront (by_itself (headed (about_alias site node))) ts n depth → ToldFront (by_itself (headed (about_alias site other))) ts m depth → (node ≡ other) × (n ≡ m) }
+        → ToldFront (by_itself (headed (about_alias site node))) ts n depth
+        → ToldFront (by_itself (headed (about_alias site other))) ts m depth
+        → (node ≡ other) × (n ≡ m) }
     ensures one_struct { (node other : Struct) (ts : List Token) (n m depth : ℕ)
-        → ToldFront (by_itself (headed (about_struct node))) ts n depth → ToldFront (by_itself (headed (about_struct other))) ts m depth → (node ≡ other) × (n ≡ m) }
+        → ToldFront (by_itself (headed (about_struct node))) ts n depth
+        → ToldFront (by_itself (headed (about_struct other))) ts m depth
+        → (node ≡ other) × (n ≡ m) }
     ensures one_union { (node other : Union) (ts : List Token) (n m depth : ℕ)
-        → ToldFront (by_itself (headed (about_union node))) ts n depth → ToldFront (by_itself (headed (about_union other))) ts m depth → (node ≡ other) × (n ≡ m) }
+        → ToldFront (by_itself (headed (about_union node))) ts n depth
+        → ToldFront (by_itself (headed (about_union other))) ts m depth → (node ≡ other) × (n ≡ m) }
     ensures one_enum { (node other : Enum) (ts : List Token) (n m depth : ℕ)
-        → ToldFront (by_itself (headed (about_enum node))) ts n depth → ToldFront (by_itself (headed (about_enum other))) ts m depth → (node ≡ other) × (n ≡ m) }
+        → ToldFront (by_itself (headed (about_enum node))) ts n depth
+        → ToldFront (by_itself (headed (about_enum other))) ts m depth → (node ≡ other) × (n ≡ m) }
     ensures one_fn_head { (node other : FnHead) (site : Site) (ts : List Token) (n m depth : ℕ)
-        → ToldFront (by_itself (about_fn_head site node)) ts n depth → ToldFront (by_itself (about_fn_head site other)) ts m depth → (node ≡ other) × (n ≡ m) }
+        → ToldFront (by_itself (about_fn_head site node)) ts n depth
+        → ToldFront (by_itself (about_fn_head site other)) ts m depth → (node ≡ other) × (n ≡ m) }
     ensures one_value_head { (node other : ValueHead) (ts : List Token) (n m depth : ℕ)
-        → ToldFront (by_itself (about_value_head node)) ts n depth → ToldFront (by_itself (about_value_head other)) ts m depth → (node ≡ other) × (n ≡ m) }
+        → ToldFront (by_itself (about_value_head node)) ts n depth
+        → ToldFront (by_itself (about_value_head other)) ts m depth → (node ≡ other) × (n ≡ m) }
     ensures one_trait_head { (node other : TraitHead) (ts : List Token) (n m depth : ℕ)
-        → TraitHeadFront node ts n depth → TraitHeadFront other ts m depth → (node ≡ other) × (n ≡ m) }
+        → TraitHeadFront node ts n depth → TraitHeadFront other ts m depth
+        → (node ≡ other) × (n ≡ m) }
     ensures one_impl_head { (node other : ImplHead) (ts : List Token) (n m depth : ℕ)
-        → ToldFront (by_itself (about_impl_head node)) ts n depth → ToldFront (by_itself (about_impl_head other)) ts m depth → (node ≡ other) × (n ≡ m) }
+        → ToldFront (by_itself (about_impl_head node)) ts n depth
+        → ToldFront (by_itself (about_impl_head other)) ts m depth → (node ≡ other) × (n ≡ m) }
 {}

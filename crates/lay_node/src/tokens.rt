@@ -71,7 +71,8 @@ fn are_balanced(alloc: Global, tokens: &[Listed]) -> Result<bool, NoMemory>
 /// Opens what a token opens, or closes what it closes, where these delimiters are open before it, the last one last. Answers
 /// whether it may stand there.
 fn turn(opened: &mut Vec<Delim>, token: &Listed) -> Result<bool, NoMemory>
-    ensures { IfOk result (λ passes. turned (kind_of token.now) (reverse opened.old.items) ≡ (if passes then Some (reverse opened.new.items) else None)) }
+    ensures { IfOk result (λ passes. turned (kind_of token.now) (reverse opened.old.items)
+        ≡ (if passes then Some (reverse opened.new.items) else None)) }
 {
     match token {
         Listed::Token {

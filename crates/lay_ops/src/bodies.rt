@@ -22,7 +22,8 @@ pub fn ends(stmt: &Stmt) -> bool
 
 /// Whether an expression with these attributes is no macro call, and has neither attributes nor a `;`.
 fn is_lone_expr(attrs: &[Attr], ended: bool, expr: &Expr) -> bool
-    ensures { result ≡ ((is_plain attrs.now && not ended) && not (is_macro (about_expr expr.now).kind)) }
+    ensures { result ≡ ((is_plain attrs.now && not ended)
+        && not (is_macro (about_expr expr.now).kind)) }
 {
     attrs.is_empty() && !ended && !is_macro(expr)
 }
@@ -91,7 +92,8 @@ pub fn sheds(expr: &Expr, no_struct: bool) -> bool
 
 /// Whether such a block without a label is one.
 fn is_shed(block: &Block, no_struct: bool) -> bool
-    ensures { result ≡ ((about_block block.now).lone && (not no_struct || (about_block block.now).structless)) }
+    ensures { result ≡ ((about_block block.now).lone
+        && (not no_struct || (about_block block.now).structless)) }
 {
     is_lone(block) && (!no_struct || is_block_structless(block))
 }

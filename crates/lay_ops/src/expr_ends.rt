@@ -24,7 +24,8 @@ enum ExprEnd<'a> {
 
 /// Whether an operator may stand behind an expression, if one does, and `<` or `<<`, if that does.
 pub fn may_precede(expr: &Expr, op: bool, angle: bool) -> bool
-    ensures { result ≡ (not (op && is_open (about_expr expr.now).tail) && not (angle && is_typed (about_expr expr.now).tail)) }
+    ensures { result ≡ (not (op && is_open (about_expr expr.now).tail)
+        && not (angle && is_typed (about_expr expr.now).tail)) }
 {
     let mut last = expr;
     loop {

@@ -27,7 +27,8 @@ use lay_stream::Emit;
 
 /// Feeds the layout of a block, whose braces have a leading blank or not.
 pub fn put_block<E: Emit>(out: &mut E, block: &Block, lead: bool) -> Result<(), E::Fault>
-    ensures { Did E.meanings out.old (stream_of ((about_block block.now).form lead)) result out.new }
+    ensures { Did E.meanings out.old (stream_of ((about_block block.now).form lead)) result
+        out.new }
 {
     add_block(out, Ok(()), lead, block)
 }
@@ -40,7 +41,8 @@ pub fn add_block<E: Emit>(
     lead: bool,
     block: &Block,
 ) -> Result<(), E::Fault>
-    ensures { Adds E.meanings before out.old (stream_of ((about_block block.now).form lead)) result out.new }
+    ensures { Adds E.meanings before out.old (stream_of ((about_block block.now).form lead)) result
+        out.new }
 {
     let attrs = block.attrs.as_slice();
     let stmts = block.stmts.as_slice();
@@ -60,7 +62,8 @@ pub fn add_soft<E: Emit>(
     before: Result<(), E::Fault>,
     block: &Block,
 ) -> Result<(), E::Fault>
-    ensures { Adds E.meanings before out.old (stream_of (about_block block.now).soft) result out.new }
+    ensures { Adds E.meanings before out.old (stream_of (about_block block.now).soft) result
+        out.new }
 {
     if is_single(block) {
         let opened = open_body(out, before, true);
@@ -78,7 +81,8 @@ fn add_stmts<E: Emit>(
     lead: Break,
     stmts: &[Stmt],
 ) -> Result<(), E::Fault>
-    ensures { Adds E.meanings before out.old (further (tok.Break lead ∷ []) (map stmt_told stmts.now)) result out.new }
+    ensures { Adds E.meanings before out.old (further (tok.Break lead ∷ [])
+        (map stmt_told stmts.now)) result out.new }
 {
     let mut done = before;
     for stmt in stmts {
@@ -132,7 +136,8 @@ fn add_otherwise<E: Emit>(
     before: Result<(), E::Fault>,
     otherwise: &Option<Block>,
 ) -> Result<(), E::Fault>
-    ensures { Adds E.meanings before out.old (stream_of (else_form (option_map about_block otherwise.now))) result out.new }
+    ensures { Adds E.meanings before out.old (stream_of
+        (else_form (option_map about_block otherwise.now))) result out.new }
 {
     match otherwise {
         None => before,
@@ -150,7 +155,8 @@ pub fn add_value<E: Emit>(
     before: Result<(), E::Fault>,
     value: &Option<Boxed<Expr>>,
 ) -> Result<(), E::Fault>
-    ensures { Adds E.meanings before out.old (stream_of (value_form (option_map about_expr value.now))) result out.new }
+    ensures { Adds E.meanings before out.old (stream_of
+        (value_form (option_map about_expr value.now))) result out.new }
 {
     match value {
         None => before,

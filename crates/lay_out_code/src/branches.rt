@@ -39,7 +39,8 @@ pub fn add_scrutinee<E: Emit>(
     scrutinee: &Expr,
 ) -> Result<(), E::Fault>
     ensures { let told = stream_of (about_expr scrutinee.now).form in
-        Adds E.meanings before out.old (lead_row (codes "match ") ++ (told ++ head_end)) result out.new }
+        Adds E.meanings before out.old (lead_row (codes "match ") ++ (told ++ head_end)) result
+        out.new }
 {
     let lead = add_condition_lead(out, before, b"match ");
     let scrutinee = add_expr(out, lead, false, scrutinee);
@@ -53,7 +54,8 @@ pub fn add_branches<E: Emit>(
     before: Result<(), E::Fault>,
     branches: &[Branch],
 ) -> Result<(), E::Fault>
-    ensures { Adds E.meanings before out.old (row [] else_between (map branch_told branches.now)) result out.new }
+    ensures { Adds E.meanings before out.old (row [] else_between (map branch_told branches.now))
+        result out.new }
 {
     let mut done = before;
     for (index, branch) in branches.iter().enumerate() {
@@ -110,7 +112,8 @@ fn add_arm_lines<E: Emit>(
     before: Result<(), E::Fault>,
     arms: &[Arm],
 ) -> Result<(), E::Fault>
-    ensures { Adds E.meanings before out.old (stream_of (each H (map arm_told arms.now))) result out.new }
+    ensures { Adds E.meanings before out.old (stream_of (each H (map arm_told arms.now))) result
+        out.new }
 {
     let mut done = before;
     for arm in arms {
@@ -122,7 +125,8 @@ fn add_arm_lines<E: Emit>(
 
 /// Feeds the layout of an arm, which is the same whether or not it is the last.
 pub fn put_arm<E: Emit>(out: &mut E, arm: &Arm) -> Result<(), E::Fault>
-    ensures { (last : Bool) → Did E.meanings out.old (stream_of ((about_arm arm.now).form last)) result out.new }
+    ensures { (last : Bool) → Did E.meanings out.old (stream_of ((about_arm arm.now).form last))
+        result out.new }
 {
     add_arm(out, Ok(()), arm)
 }
@@ -152,7 +156,8 @@ fn add_guard<E: Emit>(
     before: Result<(), E::Fault>,
     guard: &Option<Boxed<Expr>>,
 ) -> Result<(), E::Fault>
-    ensures { Adds E.meanings before out.old (stream_of (guard_form (option_map about_expr guard.now))) result out.new }
+    ensures { Adds E.meanings before out.old (stream_of
+        (guard_form (option_map about_expr guard.now))) result out.new }
 {
     match guard {
         None => before,

@@ -31,7 +31,8 @@ pub fn add_group<E: Emit>(
     before: Result<(), E::Fault>,
     group: &Group,
 ) -> Result<(), E::Fault>
-    ensures { Adds E.meanings before out.old (stream_of (group_form group.now Done)) result out.new }
+    ensures { Adds E.meanings before out.old (stream_of (group_form group.now Done)) result
+        out.new }
 {
     before?;
     put_group(out, group)
@@ -56,7 +57,8 @@ pub fn add_extern_crate<E: Emit>(
     vis: &Vis,
     node: &ExternCrate,
 ) -> Result<(), E::Fault>
-    ensures { Adds E.meanings before out.old (stream_of (seen vis.now (about_extern_crate node.now))) result out.new }
+    ensures { Adds E.meanings before out.old (stream_of
+        (seen vis.now (about_extern_crate node.now))) result out.new }
 {
     before?;
     put_extern_crate(out, vis, node)
@@ -69,7 +71,8 @@ pub fn add_alias<E: Emit>(
     vis: &Vis,
     node: &Alias,
 ) -> Result<(), E::Fault>
-    ensures { Adds E.meanings before out.old (stream_of (seen vis.now (about_alias Module node.now))) result out.new }
+    ensures { Adds E.meanings before out.old (stream_of
+        (seen vis.now (about_alias Module node.now))) result out.new }
 {
     before?;
     put_alias(out, vis, node)
@@ -82,7 +85,8 @@ pub fn add_struct<E: Emit>(
     vis: &Vis,
     node: &Struct,
 ) -> Result<(), E::Fault>
-    ensures { Adds E.meanings before out.old (stream_of (seen vis.now (about_struct node.now))) result out.new }
+    ensures { Adds E.meanings before out.old (stream_of (seen vis.now (about_struct node.now)))
+        result out.new }
 {
     before?;
     put_struct(out, vis, node)
@@ -95,7 +99,8 @@ pub fn add_union<E: Emit>(
     vis: &Vis,
     node: &Union,
 ) -> Result<(), E::Fault>
-    ensures { Adds E.meanings before out.old (stream_of (seen vis.now (about_union node.now))) result out.new }
+    ensures { Adds E.meanings before out.old (stream_of (seen vis.now (about_union node.now)))
+        result out.new }
 {
     before?;
     put_union(out, vis, node)
@@ -108,7 +113,8 @@ pub fn add_enum<E: Emit>(
     vis: &Vis,
     node: &Enum,
 ) -> Result<(), E::Fault>
-    ensures { Adds E.meanings before out.old (stream_of (seen vis.now (about_enum node.now))) result out.new }
+    ensures { Adds E.meanings before out.old (stream_of (seen vis.now (about_enum node.now))) result
+        out.new }
 {
     before?;
     put_enum(out, vis, node)

@@ -37,7 +37,8 @@ fn add_links<E: Emit>(
     before: Result<(), E::Fault>,
     links: &[Link],
 ) -> Result<(), E::Fault>
-    ensures { Adds E.meanings before out.old (stream_of (condition_form (map about_link links.now))) result out.new }
+    ensures { Adds E.meanings before out.old (stream_of (condition_form (map about_link links.now)))
+        result out.new }
 {
     match links {
         [] => before,
@@ -57,7 +58,8 @@ fn add_link_row<E: Emit>(
     before: Result<(), E::Fault>,
     links: &[Link],
 ) -> Result<(), E::Fault>
-    ensures { Adds E.meanings before out.old (row [] link_between (map link_told links.now)) result out.new }
+    ensures { Adds E.meanings before out.old (row [] link_between (map link_told links.now)) result
+        out.new }
 {
     let mut done = before;
     for (index, link) in links.iter().enumerate() {

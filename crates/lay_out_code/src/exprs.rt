@@ -42,7 +42,8 @@ pub fn add_expr<E: Emit>(
     point: bool,
     node: &Expr,
 ) -> Result<(), E::Fault>
-    ensures { Adds E.meanings before out.old (fed point (about_expr node.now).form []) result out.new }
+    ensures { Adds E.meanings before out.old (fed point (about_expr node.now).form []) result
+        out.new }
 {
     match node {
         Expr::Lit { literal } => add_literal(out, before, literal),
@@ -221,7 +222,8 @@ fn add_tuple<E: Emit>(
     before: Result<(), E::Fault>,
     elements: &[Expr],
 ) -> Result<(), E::Fault>
-    ensures { Adds E.meanings before out.old (stream_of (tuple_form (map about_expr elements.now))) result out.new }
+    ensures { Adds E.meanings before out.old (stream_of (tuple_form (map about_expr elements.now)))
+        result out.new }
 {
     match elements {
         [] => add_text(out, before, b"()"),
@@ -245,7 +247,8 @@ pub fn add_exprs<E: Emit>(
     closer: &[u8],
 ) -> Result<(), E::Fault>
     ensures { let opened = row (list_opened opener.now) comma_between (map expr_told exprs.now) in
-        Adds E.meanings before out.old (opened ++ list_closed true (length exprs.now == 0) both.now closer.now) result out.new }
+        Adds E.meanings before out.old (opened
+        ++ list_closed true (length exprs.now == 0) both.now closer.now) result out.new }
 {
     let mut done = before;
     for (index, expr) in exprs.iter().enumerate() {
@@ -263,7 +266,8 @@ pub fn add_optional<E: Emit>(
     point: bool,
     node: &Option<Boxed<Expr>>,
 ) -> Result<(), E::Fault>
-    ensures { Adds E.meanings before out.old (fed point (end_form (option_map about_expr node.now) Done) []) result out.new }
+    ensures { Adds E.meanings before out.old (fed point
+        (end_form (option_map about_expr node.now) Done) []) result out.new }
 {
     match node {
         None => before,
@@ -279,7 +283,8 @@ fn add_closure_body<E: Emit>(
     body: &Expr,
 ) -> Result<(), E::Fault>
     ensures { let told = about_expr body.now in
-        Adds E.meanings before out.old (stream_of (closure_body (body_braces told) told.form)) result out.new }
+        Adds E.meanings before out.old (stream_of (closure_body (body_braces told) told.form))
+        result out.new }
 {
     let braces = closure_braces(body);
     let opened = open_closure(out, before, braces);
@@ -294,7 +299,8 @@ fn add_operand<E: Emit>(
     before: Result<(), E::Fault>,
     operand: &Option<Boxed<Expr>>,
 ) -> Result<(), E::Fault>
-    ensures { Adds E.meanings before out.old (stream_of (operand_form (option_map about_expr operand.now))) result out.new }
+    ensures { Adds E.meanings before out.old (stream_of
+        (operand_form (option_map about_expr operand.now))) result out.new }
 {
     match operand {
         None => before,

@@ -36,7 +36,8 @@ pub fn put_shebang<E: Emit>(out: &mut E, shebang: &Option<Text>) -> Result<(), E
 
 /// A text, with a newline behind it.
 fn put_line<E: Emit>(out: &mut E, line: &[u8]) -> Result<(), E::Fault>
-    ensures { Did E.meanings out.old (stream (behind_shebang (Some line.now) Empty)) result out.new }
+    ensures { Did E.meanings out.old (stream (behind_shebang (Some line.now) Empty)) result
+        out.new }
 {
     out.text(line)?;
     out.brk(HARD_BREAK)
@@ -44,7 +45,8 @@ fn put_line<E: Emit>(out: &mut E, line: &[u8]) -> Result<(), E::Fault>
 
 /// Items, each with a newline behind it.
 fn put_items<E: Emit>(out: &mut E, items: &[Item]) -> Result<(), E::Fault>
-    ensures { Did E.meanings out.old (stream_of (lines (map form_of_item items.now))) result out.new }
+    ensures { Did E.meanings out.old (stream_of (lines (map form_of_item items.now))) result
+        out.new }
 {
     for item in items {
         put_item(out, item)?;

@@ -66,7 +66,8 @@ pub fn add_ended_clause<E: Emit, H: Head>(
     wheres: &Wheres,
 ) -> Result<(), E::Fault>
     ensures { let clause = Part (wheres_before_semicolon wheres.now) (piece semicolon) in
-        Adds E.meanings before out.old (head_row vis.now (H.form head.now) ++ stream_of clause) result out.new }
+        Adds E.meanings before out.old (head_row vis.now (H.form head.now) ++ stream_of clause)
+        result out.new }
 {
     let head = add_head(out, before, vis, head);
     add_semicolon(out, head, wheres)
@@ -81,7 +82,8 @@ pub fn add_clause<E: Emit, H: Head>(
     wheres: &Wheres,
 ) -> Result<(), E::Fault>
     ensures { let clause = wheres_before_body wheres.now in
-        Adds E.meanings before out.old (head_row vis.now (H.form head.now) ++ stream_of clause) result out.new }
+        Adds E.meanings before out.old (head_row vis.now (H.form head.now) ++ stream_of clause)
+        result out.new }
 {
     let head = add_head(out, before, vis, head);
     add_wheres(out, head, wheres, true)
@@ -149,7 +151,8 @@ pub fn add_foreign_head<E: Emit>(
     is_unsafe: bool,
     abi: &Option<Literal>,
 ) -> Result<(), E::Fault>
-    ensures { Adds E.meanings before out.old (head_row vis.now (foreign_head is_unsafe abi.now)) result out.new }
+    ensures { Adds E.meanings before out.old (head_row vis.now (foreign_head is_unsafe abi.now))
+        result out.new }
 {
     let opened = open_head(out, before, vis);
     let word = add_if(out, opened, is_unsafe, b"unsafe ");

@@ -57,7 +57,8 @@ fn add_kind<E: Emit>(
     vis: &Vis,
     kind: &ItemKind,
 ) -> Result<(), E::Fault>
-    ensures { Adds E.meanings before out.old (kind_row vis.now (told_of_kind kind.now)) result out.new }
+    ensures { Adds E.meanings before out.old (kind_row vis.now (told_of_kind kind.now)) result
+        out.new }
 {
     match kind {
         ItemKind::ExternCrate { item } => add_extern_crate(out, before, vis, item),
@@ -130,7 +131,8 @@ fn add_function<E: Emit>(
     body: &Option<Block>,
 ) -> Result<(), E::Fault>
     ensures { let tail = function_tail wheres.now (option_map about_block body.now) in
-        Adds E.meanings before out.old (head_row vis.now (fn_head_form head.now) ++ stream_of tail) result out.new }
+        Adds E.meanings before out.old (head_row vis.now (fn_head_form head.now) ++ stream_of tail)
+        result out.new }
 {
     match body {
         None => add_ended_clause(out, before, vis, head, wheres),
@@ -150,8 +152,10 @@ fn add_valued<E: Emit>(
     head: &ValueHead,
     value: &Option<Boxed<Expr>>,
 ) -> Result<(), E::Fault>
-    ensures { let whole = Part (value_head_form head.now) (value_form (option_map about_expr value.now)) in
-        Adds E.meanings before out.old (head_row vis.now whole ++ stream_of (piece semicolon)) result out.new }
+    ensures { let whole = Part (value_head_form head.now)
+        (value_form (option_map about_expr value.now)) in
+        Adds E.meanings before out.old (head_row vis.now whole ++ stream_of (piece semicolon))
+        result out.new }
 {
     let opened = open_head(out, before, vis);
     let head = head.add(out, opened);
@@ -188,7 +192,8 @@ fn add_lines<E: Emit>(
     before: Result<(), E::Fault>,
     items: &[Item],
 ) -> Result<(), E::Fault>
-    ensures { Adds E.meanings before out.old (stream_of (each H (map form_of_item items.now))) result out.new }
+    ensures { Adds E.meanings before out.old (stream_of (each H (map form_of_item items.now)))
+        result out.new }
 {
     let mut done = before;
     for item in items {
@@ -204,7 +209,8 @@ pub fn add_inner_attrs<E: Emit>(
     before: Result<(), E::Fault>,
     attrs: &[Attr],
 ) -> Result<(), E::Fault>
-    ensures { Adds E.meanings before out.old (stream_of (each H (map attr_form attrs.now))) result out.new }
+    ensures { Adds E.meanings before out.old (stream_of (each H (map attr_form attrs.now))) result
+        out.new }
 {
     let mut done = before;
     for attr in attrs {

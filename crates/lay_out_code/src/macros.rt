@@ -18,7 +18,8 @@ pub fn add_macro_rules<E: Emit>(
     name: &Name,
     rules: &Group,
 ) -> Result<(), E::Fault>
-    ensures { Adds E.meanings before out.old (stream_of (rules_form name.now rules.now)) result out.new }
+    ensures { Adds E.meanings before out.old (stream_of (rules_form name.now rules.now)) result
+        out.new }
 {
     let word = add_text(out, before, b"macro_rules! ");
     let name = add_word(out, word, name.raw, &name.text);

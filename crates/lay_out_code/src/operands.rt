@@ -28,7 +28,8 @@ pub fn add_fields<E: Emit>(
     before: Result<(), E::Fault>,
     fields: &[FieldExpr],
 ) -> Result<(), E::Fault>
-    ensures { Adds E.meanings before out.old (row braces_opened comma_between (map field_told fields.now)) result out.new }
+    ensures { Adds E.meanings before out.old (row braces_opened comma_between
+        (map field_told fields.now)) result out.new }
 {
     let mut done = before;
     for (index, field) in fields.iter().enumerate() {
@@ -47,7 +48,8 @@ pub fn add_base<E: Emit>(
     base: &Option<Boxed<Expr>>,
 ) -> Result<(), E::Fault>
     ensures { Adds E.meanings before out.old
-        (cond first braces_opened comma_between ++ (tok.Text (codes "..") ∷ base_told base.now)) result out.new }
+        (cond first braces_opened comma_between ++ (tok.Text (codes "..") ∷ base_told base.now))
+        result out.new }
 {
     let lead = add_brace(out, before, first);
     let dots = add_text(out, lead, b"..");
@@ -61,7 +63,8 @@ fn add_field<E: Emit>(
     before: Result<(), E::Fault>,
     field: &FieldExpr,
 ) -> Result<(), E::Fault>
-    ensures { Adds E.meanings before out.old (stream_of (about_field_expr field.now).form) result out.new }
+    ensures { Adds E.meanings before out.old (stream_of (about_field_expr field.now).form) result
+        out.new }
 {
     match field {
         FieldExpr::Named { attrs, name, value } => {
@@ -94,7 +97,8 @@ pub fn add_operands<E: Emit>(
     before: Result<(), E::Fault>,
     operands: &[(Op, Boxed<Expr>)],
 ) -> Result<(), E::Fault>
-    ensures { Adds E.meanings before out.old (stream_of (operands_form (map behind_op operands.now))) result out.new }
+    ensures { Adds E.meanings before out.old (stream_of
+        (operands_form (map behind_op operands.now))) result out.new }
 {
     let mut done = before;
     for (op, operand) in operands {
@@ -112,7 +116,8 @@ pub fn add_targets<E: Emit>(
     point: bool,
     targets: &[(Boxed<Expr>, Op)],
 ) -> Result<(), E::Fault>
-    ensures { Adds E.meanings before out.old (fed point (targets_form (map before_op targets.now) Done) []) result out.new }
+    ensures { Adds E.meanings before out.old (fed point
+        (targets_form (map before_op targets.now) Done) []) result out.new }
 {
     let mut done = before;
     let mut point = point;
@@ -158,7 +163,8 @@ fn add_step<E: Emit>(
     point: bool,
     step: &Step,
 ) -> Result<(), E::Fault>
-    ensures { Adds E.meanings before out.old (fed point (about_step step.now).form []) result out.new }
+    ensures { Adds E.meanings before out.old (fed point (about_step step.now).form []) result
+        out.new }
 {
     match step {
         Step::Field { name } => {

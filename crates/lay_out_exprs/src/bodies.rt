@@ -130,7 +130,8 @@ pub fn close_closure<E: Emit>(
     before: Result<(), E::Fault>,
     braces: BodyBraces,
 ) -> Result<(), E::Fault>
-    requires { OnOk before (IsNested (E.meanings.groups out.old) (closure_closed (seen_as braces))) }
+    requires { OnOk before (IsNested (E.meanings.groups out.old)
+        (closure_closed (seen_as braces))) }
     ensures { Adds E.meanings before out.old (closure_closed (seen_as braces)) result out.new }
 {
     match braces {

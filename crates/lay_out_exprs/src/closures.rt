@@ -22,7 +22,8 @@ pub fn add_closure_head<E: Emit>(
     moves: bool,
     params: &[ClosureParam],
 ) -> Result<(), E::Fault>
-    ensures { Adds E.meanings before out.old (stream_of (closure_head is_async moves params.now Done)) result out.new }
+    ensures { Adds E.meanings before out.old (stream_of
+        (closure_head is_async moves params.now Done)) result out.new }
 {
     let word = add_if(out, before, is_async, b"async ");
     let words = add_if(out, word, moves, b"move ");

@@ -16,7 +16,8 @@ pub fn add_generics<E: Emit>(
     before: Result<(), E::Fault>,
     generics: &Option<List<Arg>>,
 ) -> Result<(), E::Fault>
-    ensures { Adds E.meanings before out.old (stream_of (generics_form generics.now Done)) result out.new }
+    ensures { Adds E.meanings before out.old (stream_of (generics_form generics.now Done)) result
+        out.new }
 {
     match generics {
         None => before,

@@ -23,7 +23,8 @@ pub fn add_operator<E: Emit>(
     op: Op,
 ) -> Result<(), E::Fault>
     ensures { Adds E.meanings before out.old
-        (tok.Break (break_of (Soft false 1)) ∷ tok.Text (op_text op) ∷ tok.Text (codes " ") ∷ []) result out.new }
+        (tok.Break (break_of (Soft false 1)) ∷ tok.Text (op_text op) ∷ tok.Text (codes " ") ∷ [])
+        result out.new }
 {
     before?;
     out.brk(SPACE_BREAK)?;
@@ -39,7 +40,8 @@ pub fn add_assignment<E: Emit>(
     op: Op,
 ) -> Result<(), E::Fault>
     ensures { Adds E.meanings before out.old
-        (tok.Text (codes " ") ∷ tok.Text (op_text op) ∷ tok.Text (codes " ") ∷ tok.Break (break_of Never) ∷ [])
+        (tok.Text (codes " ") ∷ tok.Text (op_text op) ∷ tok.Text (codes " ")
+        ∷ tok.Break (break_of Never) ∷ [])
         result out.new }
 {
     before?;
@@ -85,7 +87,8 @@ pub fn add_casts<E: Emit>(
     before: Result<(), E::Fault>,
     types: &[Ty],
 ) -> Result<(), E::Fault>
-    ensures { Adds E.meanings before out.old (stream_of (types_form (map about_type types.now))) result out.new }
+    ensures { Adds E.meanings before out.old (stream_of (types_form (map about_type types.now)))
+        result out.new }
 {
     let mut done = before;
     for ty in types {
@@ -101,7 +104,8 @@ pub fn add_label<E: Emit>(
     before: Result<(), E::Fault>,
     label: &Option<Lifetime>,
 ) -> Result<(), E::Fault>
-    ensures { Adds E.meanings before out.old (stream_of (label_form label.now Done)) result out.new }
+    ensures { Adds E.meanings before out.old (stream_of (label_form label.now Done)) result
+        out.new }
 {
     match label {
         None => before,

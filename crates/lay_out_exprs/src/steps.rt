@@ -44,7 +44,8 @@ pub fn add_steps_start<E: Emit>(
     before: Result<(), E::Fault>,
     several: bool,
 ) -> Result<(), E::Fault>
-    ensures { Adds E.meanings before out.old (cond several (tok.Begin true (pos 4) ∷ []) []) result out.new }
+    ensures { Adds E.meanings before out.old (cond several (tok.Begin true (pos 4) ∷ []) []) result
+        out.new }
 {
     before?;
     if several {
@@ -62,7 +63,8 @@ pub fn add_step_break<E: Emit>(
     method: bool,
 ) -> Result<(), E::Fault>
     ensures { let wanted = several && (behind && method) in
-        Adds E.meanings before out.old (cond wanted (tok.Break (break_of (Soft false 0)) ∷ []) []) result out.new }
+        Adds E.meanings before out.old (cond wanted (tok.Break (break_of (Soft false 0)) ∷ []) [])
+        result out.new }
 {
     before?;
     if several && behind && method {

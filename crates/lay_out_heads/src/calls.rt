@@ -39,7 +39,8 @@ pub(crate) fn add_simple_path<E: Emit>(
     before: Result<(), E::Fault>,
     path: &SimplePath,
 ) -> Result<(), E::Fault>
-    ensures { Adds E.meanings before out.old (stream_of (simple_path_form path.now)) result out.new }
+    ensures { Adds E.meanings before out.old (stream_of (simple_path_form path.now)) result
+        out.new }
 {
     before?;
     put_simple_path(out, path)
@@ -51,7 +52,8 @@ pub fn add_generics<E: Emit>(
     before: Result<(), E::Fault>,
     generics: &Generics,
 ) -> Result<(), E::Fault>
-    ensures { Adds E.meanings before out.old (stream_of (generics_form generics.now)) result out.new }
+    ensures { Adds E.meanings before out.old (stream_of (generics_form generics.now)) result
+        out.new }
 {
     before?;
     put_generics(out, generics)
@@ -64,7 +66,8 @@ pub fn add_wheres<E: Emit>(
     wheres: &Wheres,
     body: bool,
 ) -> Result<(), E::Fault>
-    ensures { let form = cond body (wheres_before_body wheres.now) (wheres_before_semicolon wheres.now) in
+    ensures { let form = cond body (wheres_before_body wheres.now)
+        (wheres_before_semicolon wheres.now) in
         Adds E.meanings before out.old (stream_of form) result out.new }
 {
     before?;

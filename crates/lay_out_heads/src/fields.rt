@@ -27,7 +27,8 @@ fn add_fields<E: Emit>(
     fields: &Fields,
     lead: bool,
 ) -> Result<(), E::Fault>
-    ensures { Adds E.meanings before out.old (stream_of (fields_form lead fields.now)) result out.new }
+    ensures { Adds E.meanings before out.old (stream_of (fields_form lead fields.now)) result
+        out.new }
 {
     match fields {
         Fields::Unit => before,
@@ -83,7 +84,8 @@ fn add_discriminant<E: Emit>(
     before: Result<(), E::Fault>,
     discriminant: &Option<Tokens>,
 ) -> Result<(), E::Fault>
-    ensures { Adds E.meanings before out.old (stream_of (discriminant_form discriminant.now)) result out.new }
+    ensures { Adds E.meanings before out.old (stream_of (discriminant_form discriminant.now)) result
+        out.new }
 {
     match discriminant {
         None => before,

@@ -63,7 +63,8 @@ fn add_params<E: Emit>(
     before: Result<(), E::Fault>,
     params: &[Param],
 ) -> Result<(), E::Fault>
-    ensures { Adds E.meanings before out.old (stream_of (fn_params_form params.now)) result out.new }
+    ensures { Adds E.meanings before out.old (stream_of (fn_params_form params.now)) result
+        out.new }
 {
     add_parens(out, before, params, !ends_variadic(params))
 }

@@ -30,7 +30,8 @@ pub fn add_called<E: Emit>(
     name: &Name,
     generics: &Generics,
 ) -> Result<(), E::Fault>
-    ensures { Adds E.meanings before out.old (called_row word.now name.now generics.now) result out.new }
+    ensures { Adds E.meanings before out.old (called_row word.now name.now generics.now) result
+        out.new }
 {
     let word = add_text(out, before, word);
     let name = add_word(out, word, name.raw, &name.text);
@@ -55,7 +56,8 @@ fn add_trait_ref<E: Emit>(
     before: Result<(), E::Fault>,
     of: &Option<TraitRef>,
 ) -> Result<(), E::Fault>
-    ensures { Adds E.meanings before out.old (stream_of (trait_ref_form of.now Done)) result out.new }
+    ensures { Adds E.meanings before out.old (stream_of (trait_ref_form of.now Done)) result
+        out.new }
 {
     match of {
         None => before,

@@ -27,7 +27,8 @@ use lay_stream::Emit;
 
 /// Feeds the layout of a struct.
 pub fn put_struct<E: Emit>(out: &mut E, vis: &Vis, node: &Struct) -> Result<(), E::Fault>
-    ensures { Did E.meanings out.old (stream_of (seen vis.now (about_struct node.now))) result out.new }
+    ensures { Did E.meanings out.old (stream_of (seen vis.now (about_struct node.now))) result
+        out.new }
 {
     let opened = open_head(out, Ok(()), vis);
     let head = add_struct_head(out, opened, node);
@@ -54,7 +55,8 @@ fn add_struct_head<E: Emit>(
     before: Result<(), E::Fault>,
     node: &Struct,
 ) -> Result<(), E::Fault>
-    ensures { Adds E.meanings before out.old (stream_of (about_struct node.now).head) result out.new }
+    ensures { Adds E.meanings before out.old (stream_of (about_struct node.now).head) result
+        out.new }
 {
     let name = add_called(out, before, b"struct ", &node.name, &node.generics);
     add_head_fields(out, name, &node.fields)
@@ -80,7 +82,8 @@ fn add_struct_tail<E: Emit>(
     before: Result<(), E::Fault>,
     node: &Struct,
 ) -> Result<(), E::Fault>
-    ensures { Adds E.meanings before out.old (stream_of (struct_tail node.now.wheres node.now.fields)) result out.new }
+    ensures { Adds E.meanings before out.old (stream_of
+        (struct_tail node.now.wheres node.now.fields)) result out.new }
 {
     match &node.fields {
         Fields::Named { fields } => add_body(out, before, &node.wheres, fields.as_slice()),
@@ -96,7 +99,8 @@ fn add_body<E: Emit, P: Part>(
     parts: &[P],
 ) -> Result<(), E::Fault>
     ensures { let braces = fields (blank_if (leads wheres.now)) (map P.form parts.now) in
-        Adds E.meanings before out.old (stream_of (PartOf (wheres_before_body wheres.now) braces)) result out.new }
+        Adds E.meanings before out.old (stream_of (PartOf (wheres_before_body wheres.now) braces))
+        result out.new }
 {
     let clause = add_wheres(out, before, wheres, true);
     add_braces(out, clause, parts, leads(wheres))
@@ -124,7 +128,8 @@ pub fn add_semicolon<E: Emit>(
 
 /// Feeds the layout of a union.
 pub fn put_union<E: Emit>(out: &mut E, vis: &Vis, node: &Union) -> Result<(), E::Fault>
-    ensures { Did E.meanings out.old (stream_of (seen vis.now (about_union node.now))) result out.new }
+    ensures { Did E.meanings out.old (stream_of (seen vis.now (about_union node.now))) result
+        out.new }
 {
     let opened = open_head(out, Ok(()), vis);
     let head = add_called(out, opened, b"union ", &node.name, &node.generics);
@@ -134,7 +139,8 @@ pub fn put_union<E: Emit>(out: &mut E, vis: &Vis, node: &Union) -> Result<(), E:
 
 /// Feeds the layout of an enumeration.
 pub fn put_enum<E: Emit>(out: &mut E, vis: &Vis, node: &Enum) -> Result<(), E::Fault>
-    ensures { Did E.meanings out.old (stream_of (seen vis.now (about_enum node.now))) result out.new }
+    ensures { Did E.meanings out.old (stream_of (seen vis.now (about_enum node.now))) result
+        out.new }
 {
     let opened = open_head(out, Ok(()), vis);
     let head = add_called(out, opened, b"enum ", &node.name, &node.generics);
@@ -144,7 +150,8 @@ pub fn put_enum<E: Emit>(out: &mut E, vis: &Vis, node: &Enum) -> Result<(), E::F
 
 /// Feeds the layout of a type alias, which is the same wherever it stands.
 pub fn put_alias<E: Emit>(out: &mut E, vis: &Vis, node: &Alias) -> Result<(), E::Fault>
-    ensures { (site : Site) → Did E.meanings out.old (stream_of (seen vis.now (about_alias site node.now))) result out.new }
+    ensures { (site : Site) → Did E.meanings out.old
+        (stream_of (seen vis.now (about_alias site node.now))) result out.new }
 {
     let opened = open_head(out, Ok(()), vis);
     let name = add_called(out, opened, b"type ", &node.name, &node.generics);
@@ -156,7 +163,8 @@ pub fn put_alias<E: Emit>(out: &mut E, vis: &Vis, node: &Alias) -> Result<(), E:
 
 /// Feeds the layout of an `extern crate`.
 pub fn put_extern_crate<E: Emit>(out: &mut E, vis: &Vis, node: &ExternCrate) -> Result<(), E::Fault>
-    ensures { Did E.meanings out.old (stream_of (seen vis.now (about_extern_crate node.now))) result out.new }
+    ensures { Did E.meanings out.old (stream_of (seen vis.now (about_extern_crate node.now))) result
+        out.new }
 {
     let opened = open_head(out, Ok(()), vis);
     let words = add_text(out, opened, b"extern crate ");

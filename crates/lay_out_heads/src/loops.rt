@@ -69,7 +69,8 @@ fn add_line<E: Emit>(
     first: bool,
     lead: bool,
 ) -> Result<(), E::Fault>
-    ensures { Adds E.meanings before out.old (cond first (fields_opened lead) fields_between) result out.new }
+    ensures { Adds E.meanings before out.old (cond first (fields_opened lead) fields_between) result
+        out.new }
 {
     if first {
         let body = open_body(out, before, lead);

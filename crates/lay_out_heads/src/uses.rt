@@ -42,7 +42,8 @@ fn add_use_end<E: Emit>(
     before: Result<(), E::Fault>,
     end: &UseEnd,
 ) -> Result<(), E::Fault>
-    ensures { Adds E.meanings before out.old (stream_of (about_use_end end.now).form) result out.new }
+    ensures { Adds E.meanings before out.old (stream_of (about_use_end end.now).form) result
+        out.new }
 {
     match end {
         UseEnd::Word { word, rename } => {
@@ -61,7 +62,8 @@ fn add_trees<E: Emit>(
     before: Result<(), E::Fault>,
     trees: &[UseTree],
 ) -> Result<(), E::Fault>
-    ensures { let group = comma_list true (opener Brace) (closer Brace) (forms (map about_use trees.now)) in
+    ensures { let group = comma_list true (opener Brace) (closer Brace)
+        (forms (map about_use trees.now)) in
         Adds E.meanings before out.old (stream_of group) result out.new }
 {
     let mut done = before;
@@ -78,7 +80,8 @@ fn add_words<E: Emit>(
     before: Result<(), E::Fault>,
     words: &[Word],
 ) -> Result<(), E::Fault>
-    ensures { Adds E.meanings before out.old (stream_of (words_form words.now Done)) result out.new }
+    ensures { Adds E.meanings before out.old (stream_of (words_form words.now Done)) result
+        out.new }
 {
     let mut done = before;
     for word in words {

@@ -39,7 +39,8 @@ pub fn add_pat<E: Emit>(
     before: Result<(), E::Fault>,
     pat: &Pat,
 ) -> Result<(), E::Fault>
-    ensures { Adds E.meanings before out.old (stream_of (about_pat pat.now).told.form) result out.new }
+    ensures { Adds E.meanings before out.old (stream_of (about_pat pat.now).told.form) result
+        out.new }
 {
     match pat {
         Pat::Or { alternatives } => add_alternatives(out, before, alternatives.as_slice()),
@@ -110,7 +111,8 @@ fn add_alternatives<E: Emit>(
     before: Result<(), E::Fault>,
     alternatives: &[Pat],
 ) -> Result<(), E::Fault>
-    ensures { Adds E.meanings before out.old (stream_of (alternatives_form alternatives.now)) result out.new }
+    ensures { Adds E.meanings before out.old (stream_of (alternatives_form alternatives.now)) result
+        out.new }
 {
     let mut done = add_group(out, before);
     for (index, alternative) in alternatives.iter().enumerate() {
@@ -131,7 +133,8 @@ fn add_pats<E: Emit>(
     closer: &[u8],
 ) -> Result<(), E::Fault>
     ensures { let opened = row (list_opened opener.now) comma_between (map pat_told pats.now) in
-        Adds E.meanings before out.old (opened ++ list_closed true (length pats.now == 0) both.now closer.now) result out.new }
+        Adds E.meanings before out.old (opened
+        ++ list_closed true (length pats.now == 0) both.now closer.now) result out.new }
 {
     let mut done = before;
     for (index, pat) in pats.iter().enumerate() {
@@ -165,7 +168,8 @@ fn add_fields<E: Emit>(
     fields: &[FieldPat],
     rest: bool,
 ) -> Result<(), E::Fault>
-    ensures { Adds E.meanings before out.old (stream_of (fields_form fields.now rest)) result out.new }
+    ensures { Adds E.meanings before out.old (stream_of (fields_form fields.now rest)) result
+        out.new }
 {
     let mut done = before;
     for (index, field) in fields.iter().enumerate() {
@@ -187,7 +191,8 @@ fn add_field<E: Emit>(
     before: Result<(), E::Fault>,
     field: &FieldPat,
 ) -> Result<(), E::Fault>
-    ensures { Adds E.meanings before out.old (stream_of (about_field_pat field.now).form) result out.new }
+    ensures { Adds E.meanings before out.old (stream_of (about_field_pat field.now).form) result
+        out.new }
 {
     match field {
         FieldPat::Named { attrs, name, pat } => {
@@ -215,7 +220,8 @@ pub fn add_attrs<E: Emit>(
     before: Result<(), E::Fault>,
     attrs: &[Attr],
 ) -> Result<(), E::Fault>
-    ensures { Adds E.meanings before out.old (stream_of (behind_attrs (map attr_form attrs.now) Done)) result out.new }
+    ensures { Adds E.meanings before out.old (stream_of
+        (behind_attrs (map attr_form attrs.now) Done)) result out.new }
 {
     let mut done = before;
     for attr in attrs {
@@ -270,7 +276,8 @@ fn add_dots<E: Emit>(
     start: &Option<SpanEnd>,
     inclusive: bool,
 ) -> Result<(), E::Fault>
-    ensures { Adds E.meanings before out.old (stream_of (first_end start.now (piece (dots inclusive)))) result out.new }
+    ensures { Adds E.meanings before out.old (stream_of
+        (first_end start.now (piece (dots inclusive)))) result out.new }
 {
     match start {
         None => add_either(out, before, inclusive, b"..=", b".."),
@@ -378,7 +385,8 @@ pub fn add_brace<E: Emit>(
     before: Result<(), E::Fault>,
     first: bool,
 ) -> Result<(), E::Fault>
-    ensures { Adds E.meanings before out.old (cond first braces_opened comma_between) result out.new }
+    ensures { Adds E.meanings before out.old (cond first braces_opened comma_between) result
+        out.new }
 {
     before?;
     if first {

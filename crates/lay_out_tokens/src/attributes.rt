@@ -37,7 +37,8 @@ pub fn put_bare_attr<E: Emit>(out: &mut E, attr: &Attr) -> Result<(), E::Fault>
 
 /// What stands behind an attribute within other parts.
 fn put_behind_attr<E: Emit>(out: &mut E, attr: &Attr, own_line: bool) -> Result<(), E::Fault>
-    ensures { Did E.meanings out.old (stream_of (behind_attr own_line attr.now Done)) result out.new }
+    ensures { Did E.meanings out.old (stream_of (behind_attr own_line attr.now Done)) result
+        out.new }
 {
     if is_inner(attr) {
         return Ok(());
@@ -75,7 +76,8 @@ fn put_meta<E: Emit>(
     path: &MetaPath,
     input: &MetaInput,
 ) -> Result<(), E::Fault>
-    ensures { Did E.meanings out.old (stream_of (attr_form (attr.Meta inner path.now input.now))) result out.new }
+    ensures { Did E.meanings out.old (stream_of (attr_form (attr.Meta inner path.now input.now)))
+        result out.new }
 {
     put_either(out, inner, b"#![", b"#[")?;
     put_meta_path(out, path)?;
@@ -106,7 +108,8 @@ fn put_input<E: Emit>(out: &mut E, input: &MetaInput) -> Result<(), E::Fault>
 
 /// Tokens, behind their `=`.
 fn put_value<E: Emit>(out: &mut E, tokens: &Tokens) -> Result<(), E::Fault>
-    ensures { Did E.meanings out.old (stream_of (input_form (input.Value tokens.now) Done)) result out.new }
+    ensures { Did E.meanings out.old (stream_of (input_form (input.Value tokens.now) Done)) result
+        out.new }
 {
     out.text(b" = ")?;
     put_tokens(out, tokens)

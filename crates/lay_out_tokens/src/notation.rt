@@ -64,7 +64,8 @@ pub const COMMA_CLOSING_BREAK: Break = Break {
 /// Opens a list: its elements stand on one line, or each on its own, one step further in.
 pub fn open_list<E: Emit>(out: &mut E, opener: &[u8]) -> Result<(), E::Fault>
     ensures { Did E.meanings out.old
-        (tok.Begin true (pos 4) ∷ tok.Text opener.now ∷ tok.Break (break_of (Soft false 0)) ∷ []) result out.new }
+        (tok.Begin true (pos 4) ∷ tok.Text opener.now ∷ tok.Break (break_of (Soft false 0)) ∷ [])
+        result out.new }
 {
     out.begin(true, 4)?;
     out.text(opener)?;

@@ -232,7 +232,8 @@ pub fn between(seen: &Seen<'_>, next: &Told<'_>) -> Separation
 /// The rows of tokens, where neither is documentation and the first one isn't joint.
 #[inline(always)]
 fn between_tokens(seen: &Seen<'_>, next: &Told<'_>) -> Separation
-    ensures { separation_of result ≡ pairs.first_row (drop 4 (pairs.rows (seen_of seen.now) (told_of next.now))) }
+    ensures { separation_of result ≡ pairs.first_row
+        (drop 4 (pairs.rows (seen_of seen.now) (told_of next.now))) }
 {
     if next.is_punct() {
         return before_mark(seen, next);
@@ -247,7 +248,8 @@ fn between_tokens(seen: &Seen<'_>, next: &Told<'_>) -> Separation
 #[inline(always)]
 fn before_mark(seen: &Seen<'_>, next: &Told<'_>) -> Separation
     requires { pairs.is_punct_neighbour (told_of next.now) ≡ true }
-    ensures { separation_of result ≡ pairs.first_row (drop 4 (pairs.rows (seen_of seen.now) (told_of next.now))) }
+    ensures { separation_of result ≡ pairs.first_row
+        (drop 4 (pairs.rows (seen_of seen.now) (told_of next.now))) }
 {
     if is_end_mark(next) {
         return Separation::NoBreak;
@@ -270,7 +272,8 @@ fn before_mark(seen: &Seen<'_>, next: &Told<'_>) -> Separation
 /// The rows of a mark that stands before.
 #[inline(always)]
 fn behind_mark(seen: &Seen<'_>, next: &Told<'_>) -> Separation
-    ensures { separation_of result ≡ pairs.first_row (drop 9 (pairs.rows (seen_of seen.now) (told_of next.now))) }
+    ensures { separation_of result ≡ pairs.first_row
+        (drop 9 (pairs.rows (seen_of seen.now) (told_of next.now))) }
 {
     if is_behind_point_or_path(seen, next) {
         return Separation::NoBreak;
@@ -290,7 +293,8 @@ fn behind_mark(seen: &Seen<'_>, next: &Told<'_>) -> Separation
 /// The rows of a turbofish, and of a group that follows.
 #[inline(always)]
 fn around_group(seen: &Seen<'_>, next: &Told<'_>) -> Separation
-    ensures { separation_of result ≡ pairs.first_row (drop 13 (pairs.rows (seen_of seen.now) (told_of next.now))) }
+    ensures { separation_of result ≡ pairs.first_row
+        (drop 13 (pairs.rows (seen_of seen.now) (told_of next.now))) }
 {
     if is_within_turbofish(seen, next) {
         return Separation::NoBreak;
@@ -357,7 +361,8 @@ fn is_bang_of_call(seen: &Seen<'_>, next: &Told<'_>) -> bool
 fn is_behind_point_or_path(seen: &Seen<'_>, next: &Told<'_>) -> bool
     ensures { let b = told_of seen.now.before in let l = told_of seen.now.last in
         let r = told_of next.now in
-        result ≡ (is_mark (codes ".") l || (is_mark (codes ":") l && is_joint_mark (codes ":") b && is_any_word r)) }
+        result ≡ (is_mark (codes ".") l || (is_mark (codes ":") l && is_joint_mark (codes ":") b
+        && is_any_word r)) }
 {
     seen.last.is_mark(b'.') || is_behind_path(seen, next)
 }
@@ -382,7 +387,8 @@ fn is_behind_bang_or_dollar(seen: &Seen<'_>, next: &Told<'_>) -> bool
 /// The brackets of `#[..]`
 #[inline(always)]
 fn is_attribute(seen: &Seen<'_>, next: &Told<'_>) -> bool
-    ensures { result ≡ (pairs.is_mark (codes "#") (seen_of seen.now).last && pairs.is_bracket (told_of next.now)) }
+    ensures { result ≡ (pairs.is_mark (codes "#") (seen_of seen.now).last
+        && pairs.is_bracket (told_of next.now)) }
 {
     seen.last.is_mark(b'#') && next.is_bracket()
 }
@@ -393,7 +399,8 @@ fn is_prefix(seen: &Seen<'_>) -> bool
     ensures { let b = told_of seen.now.before in let l = told_of seen.now.last in
         result ≡ ((is_mark (codes "&") l || is_mark (codes "*") l || is_mark (codes "-") l)
         && not (is_punct_neighbour b && is_joint_neighbour b)
-        && (is_nothing b || (is_punct_neighbour b && not (is_mark (codes "?") b)) || is_keyword b)) }
+        && (is_nothing b || (is_punct_neighbour b && not (is_mark (codes "?") b))
+        || is_keyword b)) }
 {
     is_prefix_mark(&seen.last) && !is_joint_punct(&seen.before) && has_no_operand(&seen.before)
 }
@@ -419,7 +426,8 @@ fn is_joint_punct(before: &Told<'_>) -> bool
 #[inline(always)]
 fn has_no_operand(before: &Told<'_>) -> bool
     ensures { let b = told_of before.now in
-        result ≡ (is_nothing b || (is_punct_neighbour b && not (is_mark (codes "?") b)) || is_keyword b) }
+        result ≡ (is_nothing b || (is_punct_neighbour b && not (is_mark (codes "?") b))
+        || is_keyword b) }
 {
     before.is_nothing() || (before.is_punct() && !before.is_mark(b'?')) || before.is_keyword()
 }
@@ -427,7 +435,8 @@ fn has_no_operand(before: &Told<'_>) -> bool
 #[inline(always)]
 fn is_within_turbofish(seen: &Seen<'_>, next: &Told<'_>) -> bool
     ensures { let s = seen_of seen.now in let r = told_of next.now in
-        result ≡ (s.opens || opens_turbofish s r || ends_turbofish s r || (s.closes && is_paren r)) }
+        result ≡ (s.opens || opens_turbofish s r || ends_turbofish s r
+        || (s.closes && is_paren r)) }
 {
     seen.opens
         || seen.opens_turbofish(next)

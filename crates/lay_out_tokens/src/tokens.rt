@@ -70,7 +70,8 @@ pub fn put_enclosed<E: Emit>(out: &mut E, delim: Delim, tokens: &Tokens) -> Resu
 fn put_full_group<E: Emit>(out: &mut E, delim: Delim, tokens: &[Listed]) -> Result<(), E::Fault>
     requires { IsTrue (is_balanced tokens.now) }
     ensures { let within = stream_of (form_of_grouping (at_start 0) (in_groups tokens.now)) in
-        Did E.meanings out.old (opened delim ++ (within ++ closed (ends_in_line tokens.now) delim)) result out.new }
+        Did E.meanings out.old (opened delim ++ (within ++ closed (ends_in_line tokens.now) delim))
+        result out.new }
 {
     open_group(out, delim)?;
     let line = put_list(out, tokens)?;
@@ -106,8 +107,10 @@ fn put_next<E: Emit>(
     more: &[Listed],
 ) -> Result<(), E::Fault>
     requires told { told_of next.now ≡ pairs.Single token.now }
-    requires nested { IsNested (E.meanings.groups out.old) (fed_token (seen_of seen.now) token.now more.now) }
-    ensures { Did E.meanings out.old (fed_token (seen_of seen.now) token.now more.now) result out.new }
+    requires nested { IsNested (E.meanings.groups out.old)
+        (fed_token (seen_of seen.now) token.now more.now) }
+    ensures { Did E.meanings out.old (fed_token (seen_of seen.now) token.now more.now) result
+        out.new }
 {
     match kind_of(token) {
         Kind::Opener(delim) => put_opener(out, seen, delim, closes_at_once(more)),

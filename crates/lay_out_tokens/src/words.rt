@@ -34,7 +34,8 @@ pub fn put_token<E: Emit>(out: &mut E, kind: Kind, text: &[u8]) -> Result<(), E:
 
 /// A raw identifier.
 fn put_raw<E: Emit>(out: &mut E, text: &[u8]) -> Result<(), E::Fault>
-    ensures { Did E.meanings out.old (tok.Text (codes "r#") ∷ tok.Text text.now ∷ []) result out.new }
+    ensures { Did E.meanings out.old (tok.Text (codes "r#") ∷ tok.Text text.now ∷ []) result
+        out.new }
 {
     out.text(b"r#")?;
     out.text(text)
@@ -42,7 +43,8 @@ fn put_raw<E: Emit>(out: &mut E, text: &[u8]) -> Result<(), E::Fault>
 
 /// Documentation: on a line, or where its text has several in a block.
 pub fn put_doc<E: Emit>(out: &mut E, inner: bool, text: &[u8]) -> Result<(), E::Fault>
-    ensures { Did E.meanings out.old (feed_doc inner (is_block (doc_form inner text.now)) text.now []) result out.new }
+    ensures { Did E.meanings out.old (feed_doc inner
+        (is_block (doc_form inner text.now)) text.now []) result out.new }
 {
     if is_block(inner, text) {
         return put_block(out, inner, text);
@@ -84,7 +86,8 @@ pub fn put_either<E: Emit>(
     if_inner: &[u8],
     if_outer: &[u8],
 ) -> Result<(), E::Fault>
-    ensures { Did E.meanings out.old (tok.Text (cond inner if_inner.now if_outer.now) ∷ []) result out.new }
+    ensures { Did E.meanings out.old (tok.Text (cond inner if_inner.now if_outer.now) ∷ []) result
+        out.new }
 {
     if inner {
         return out.text(if_inner);

@@ -37,7 +37,8 @@ pub fn add_if<E: Emit>(
     wanted: bool,
     text: &[u8],
 ) -> Result<(), E::Fault>
-    ensures { Adds E.meanings before out.old (cond wanted (tok.Text text.now ∷ []) []) result out.new }
+    ensures { Adds E.meanings before out.old (cond wanted (tok.Text text.now ∷ []) []) result
+        out.new }
 {
     if wanted {
         return add_text(out, before, text);
@@ -53,7 +54,8 @@ pub fn add_either<E: Emit>(
     if_first: &[u8],
     if_second: &[u8],
 ) -> Result<(), E::Fault>
-    ensures { Adds E.meanings before out.old (tok.Text (cond first if_first.now if_second.now) ∷ []) result out.new }
+    ensures { Adds E.meanings before out.old (tok.Text (cond first if_first.now if_second.now) ∷ [])
+        result out.new }
 {
     if first {
         return add_text(out, before, if_first);
@@ -68,7 +70,8 @@ pub fn add_word<E: Emit>(
     raw: bool,
     text: &Text,
 ) -> Result<(), E::Fault>
-    ensures { Adds E.meanings before out.old (stream_of (leaf_of raw text.now Done)) result out.new }
+    ensures { Adds E.meanings before out.old (stream_of (leaf_of raw text.now Done)) result
+        out.new }
 {
     before?;
     put_word(out, raw, text)
@@ -80,7 +83,8 @@ pub fn add_literal<E: Emit>(
     before: Result<(), E::Fault>,
     literal: &Literal,
 ) -> Result<(), E::Fault>
-    ensures { Adds E.meanings before out.old (stream_of (literal_form literal.now Done)) result out.new }
+    ensures { Adds E.meanings before out.old (stream_of (literal_form literal.now Done)) result
+        out.new }
 {
     before?;
     put_token(out, literal.kind, literal.text.as_bytes())
@@ -104,7 +108,8 @@ pub fn add_braces<E: Emit>(
     before: Result<(), E::Fault>,
     tokens: &Tokens,
 ) -> Result<(), E::Fault>
-    ensures { Adds E.meanings before out.old (stream_of (enclosed Brace tokens.now)) result out.new }
+    ensures { Adds E.meanings before out.old (stream_of (enclosed Brace tokens.now)) result
+        out.new }
 {
     before?;
     put_enclosed(out, Delim::Brace, tokens)
@@ -116,7 +121,8 @@ pub(crate) fn add_attr<E: Emit>(
     before: Result<(), E::Fault>,
     attr: &Attr,
 ) -> Result<(), E::Fault>
-    ensures { Adds E.meanings before out.old (stream_of (attr_part false attr.now Done)) result out.new }
+    ensures { Adds E.meanings before out.old (stream_of (attr_part false attr.now Done)) result
+        out.new }
 {
     before?;
     put_attr(out, attr, false)

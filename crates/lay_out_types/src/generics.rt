@@ -118,7 +118,8 @@ fn add_const_default<E: Emit>(
     before: Result<(), E::Fault>,
     default: &Option<ConstDefault>,
 ) -> Result<(), E::Fault>
-    ensures { Adds E.meanings before out.old (stream_of (const_default_form default.now)) result out.new }
+    ensures { Adds E.meanings before out.old (stream_of (const_default_form default.now)) result
+        out.new }
 {
     match default {
         None => before,

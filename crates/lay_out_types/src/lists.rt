@@ -27,7 +27,8 @@ pub fn add_lead<E: Emit>(
     first: bool,
     opener: &[u8],
 ) -> Result<(), E::Fault>
-    ensures { Adds E.meanings before out.old (cond first (list_opened opener.now) comma_between) result out.new }
+    ensures { Adds E.meanings before out.old (cond first (list_opened opener.now) comma_between)
+        result out.new }
 {
     before?;
     if first {
@@ -54,8 +55,10 @@ pub fn add_close<E: Emit>(
     both: &[u8],
     closer: &[u8],
 ) -> Result<(), E::Fault>
-    requires { OnOk before (IsNested (E.meanings.groups out.old) (list_closed may bare both.now closer.now)) }
-    ensures { Adds E.meanings before out.old (list_closed may bare both.now closer.now) result out.new }
+    requires { OnOk before (IsNested (E.meanings.groups out.old)
+        (list_closed may bare both.now closer.now)) }
+    ensures { Adds E.meanings before out.old (list_closed may bare both.now closer.now) result
+        out.new }
 {
     before?;
     if bare {
@@ -115,7 +118,8 @@ pub(crate) fn add_predicates_lead<E: Emit>(
     before: Result<(), E::Fault>,
     first: bool,
 ) -> Result<(), E::Fault>
-    ensures { Adds E.meanings before out.old (cond first wheres_opened comma_between) result out.new }
+    ensures { Adds E.meanings before out.old (cond first wheres_opened comma_between) result
+        out.new }
 {
     before?;
     if first {

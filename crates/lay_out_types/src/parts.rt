@@ -19,7 +19,8 @@ pub fn add_param_attrs<E: Emit>(
     before: Result<(), E::Fault>,
     attrs: &[Attr],
 ) -> Result<(), E::Fault>
-    ensures { Adds E.meanings before out.old (stream_of (param_attrs attrs.now Done)) result out.new }
+    ensures { Adds E.meanings before out.old (stream_of (param_attrs attrs.now Done)) result
+        out.new }
 {
     let mut done = before;
     for attr in attrs {
@@ -34,7 +35,8 @@ pub(crate) fn add_outlived<E: Emit>(
     before: Result<(), E::Fault>,
     lifetimes: &[Lifetime],
 ) -> Result<(), E::Fault>
-    ensures { Adds E.meanings before out.old (stream_of (outlived_form lifetimes.now)) result out.new }
+    ensures { Adds E.meanings before out.old (stream_of (outlived_form lifetimes.now)) result
+        out.new }
 {
     let mut done = before;
     for (index, lifetime) in lifetimes.iter().enumerate() {
@@ -50,7 +52,8 @@ pub(crate) fn add_lifetime_param<E: Emit>(
     before: Result<(), E::Fault>,
     param: &LifetimeParam,
 ) -> Result<(), E::Fault>
-    ensures { Adds E.meanings before out.old (stream_of (lifetime_param_form param.now)) result out.new }
+    ensures { Adds E.meanings before out.old (stream_of (lifetime_param_form param.now)) result
+        out.new }
 {
     let attrs = add_param_attrs(out, before, param.attrs.as_slice());
     let lifetime = add_text(out, attrs, param.lifetime.text.as_bytes());
@@ -63,7 +66,8 @@ pub(crate) fn add_binder<E: Emit>(
     before: Result<(), E::Fault>,
     binder: &Option<Binder>,
 ) -> Result<(), E::Fault>
-    ensures { Adds E.meanings before out.old (stream_of (binder_form binder.now Done)) result out.new }
+    ensures { Adds E.meanings before out.old (stream_of (binder_form binder.now Done)) result
+        out.new }
 {
     match binder {
         None => before,
@@ -82,7 +86,8 @@ fn add_lifetime_params<E: Emit>(
     params: &[LifetimeParam],
 ) -> Result<(), E::Fault>
     ensures { Adds E.meanings before out.old
-        (stream_of (comma_list true less greater (map lifetime_param_form params.now))) result out.new }
+        (stream_of (comma_list true less greater (map lifetime_param_form params.now))) result
+        out.new }
 {
     let mut done = before;
     for (index, param) in params.iter().enumerate() {
@@ -170,7 +175,8 @@ pub fn add_reference<E: Emit>(
     before: Result<(), E::Fault>,
     lifetime: &Option<Lifetime>,
 ) -> Result<(), E::Fault>
-    ensures { let reference = Piece (Fixed kind.Punct (codes "&") ∷ []) (ref_lifetime lifetime.now Done) in
+    ensures { let reference = Piece (Fixed kind.Punct (codes "&") ∷ [])
+        (ref_lifetime lifetime.now Done) in
         Adds E.meanings before out.old (stream_of reference) result out.new }
 {
     let reference = add_text(out, before, b"&");
@@ -203,7 +209,8 @@ pub fn add_given_name<E: Emit>(
     before: Result<(), E::Fault>,
     name: &GivenName,
 ) -> Result<(), E::Fault>
-    ensures { Adds E.meanings before out.old (stream_of (param_name (Some name.now) Done)) result out.new }
+    ensures { Adds E.meanings before out.old (stream_of (param_name (Some name.now) Done)) result
+        out.new }
 {
     match name {
         GivenName::Underscore => {

@@ -27,14 +27,16 @@ pub fn put_path<E: Emit>(out: &mut E, path: &Path, style: PathStyle) -> Result<(
 
 /// Feeds the layout of the generic arguments of a segment.
 pub fn put_args<E: Emit>(out: &mut E, args: &Args, style: PathStyle) -> Result<(), E::Fault>
-    ensures { Did E.meanings out.old (stream_of (in_style style (about_args args.now)).form) result out.new }
+    ensures { Did E.meanings out.old (stream_of (in_style style (about_args args.now)).form) result
+        out.new }
 {
     add_args(out, Ok(()), args, style)
 }
 
 /// Feeds the layout of bounds.
 pub fn put_bounds<E: Emit>(out: &mut E, bounds: &[Bound]) -> Result<(), E::Fault>
-    ensures { Did E.meanings out.old (stream_of (bounds_form (map about_bound bounds.now))) result out.new }
+    ensures { Did E.meanings out.old (stream_of (bounds_form (map about_bound bounds.now))) result
+        out.new }
 {
     add_bounds(out, Ok(()), bounds)
 }
@@ -54,7 +56,8 @@ pub fn add_path<E: Emit>(
     path: &Path,
     style: PathStyle,
 ) -> Result<(), E::Fault>
-    ensures { Adds E.meanings before out.old (stream_of (about_path path.now style).form) result out.new }
+    ensures { Adds E.meanings before out.old (stream_of (about_path path.now style).form) result
+        out.new }
 {
     let segments = path.segments.as_slice();
     let mut done = add_start(out, before, &path.start);
@@ -73,7 +76,8 @@ fn add_start<E: Emit>(
     before: Result<(), E::Fault>,
     start: &PathStart,
 ) -> Result<(), E::Fault>
-    ensures { Adds E.meanings before out.old (stream_of (about_start start.now).form) result out.new }
+    ensures { Adds E.meanings before out.old (stream_of (about_start start.now).form) result
+        out.new }
 {
     match start {
         PathStart::Local => before,
@@ -101,7 +105,8 @@ pub fn add_args<E: Emit>(
     args: &Args,
     style: PathStyle,
 ) -> Result<(), E::Fault>
-    ensures { Adds E.meanings before out.old (stream_of (in_style style (about_args args.now)).form) result out.new }
+    ensures { Adds E.meanings before out.old (stream_of (in_style style (about_args args.now)).form)
+        result out.new }
 {
     match args {
         Args::None => before,
@@ -126,7 +131,8 @@ pub fn add_angles<E: Emit>(
     before: Result<(), E::Fault>,
     args: &[Arg],
 ) -> Result<(), E::Fault>
-    ensures { Adds E.meanings before out.old (stream_of (angle_form (map about_arg args.now))) result out.new }
+    ensures { Adds E.meanings before out.old (stream_of (angle_form (map about_arg args.now)))
+        result out.new }
 {
     let mut done = before;
     for (index, arg) in args.iter().enumerate() {
@@ -164,7 +170,8 @@ fn add_constraint<E: Emit>(
     before: Result<(), E::Fault>,
     constraint: &Constraint,
 ) -> Result<(), E::Fault>
-    ensures { Adds E.meanings before out.old (stream_of (about_constraint constraint.now).form) result out.new }
+    ensures { Adds E.meanings before out.old (stream_of (about_constraint constraint.now).form)
+        result out.new }
 {
     match constraint {
         Constraint::Equal { ty } => {
@@ -189,7 +196,8 @@ pub fn add_bounds<E: Emit>(
     before: Result<(), E::Fault>,
     bounds: &[Bound],
 ) -> Result<(), E::Fault>
-    ensures { Adds E.meanings before out.old (stream_of (bounds_form (map about_bound bounds.now))) result out.new }
+    ensures { Adds E.meanings before out.old (stream_of (bounds_form (map about_bound bounds.now)))
+        result out.new }
 {
     let mut done = add_begin(out, before);
     for (index, bound) in bounds.iter().enumerate() {
@@ -206,7 +214,8 @@ fn add_bound<E: Emit>(
     before: Result<(), E::Fault>,
     bound: &Bound,
 ) -> Result<(), E::Fault>
-    ensures { Adds E.meanings before out.old (stream_of (about_bound bound.now).form) result out.new }
+    ensures { Adds E.meanings before out.old (stream_of (about_bound bound.now).form) result
+        out.new }
 {
     match bound {
         Bound::Outlives { lifetime } => add_text(out, before, lifetime.text.as_bytes()),
@@ -232,7 +241,8 @@ fn add_bound<E: Emit>(
 /// A type.
 #[cycle(add_type)]
 pub fn add_type<E: Emit>(out: &mut E, before: Result<(), E::Fault>, ty: &Ty) -> Result<(), E::Fault>
-    ensures { Adds E.meanings before out.old (stream_of (about_type ty.now).told.form) result out.new }
+    ensures { Adds E.meanings before out.old (stream_of (about_type ty.now).told.form) result
+        out.new }
 {
     match ty {
         Ty::Path { path } => add_path(out, before, path, PathStyle::Kind),
@@ -310,7 +320,8 @@ fn add_types<E: Emit>(
     before: Result<(), E::Fault>,
     types: &[Ty],
 ) -> Result<(), E::Fault>
-    ensures { let parens = comma_list true (opener Paren) (closer Paren) (type_forms (map about_type types.now)) in
+    ensures { let parens = comma_list true (opener Paren) (closer Paren)
+        (type_forms (map about_type types.now)) in
         Adds E.meanings before out.old (stream_of parens) result out.new }
 {
     let mut done = before;

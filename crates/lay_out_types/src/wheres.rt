@@ -15,7 +15,8 @@ use lay_stream::Emit;
 
 /// Feeds the layout of a where clause: before a body, or else before a `;`. It is nothing without predicates.
 pub fn put_wheres<E: Emit>(out: &mut E, wheres: &Wheres, body: bool) -> Result<(), E::Fault>
-    ensures { let form = cond body (wheres_before_body wheres.now) (wheres_before_semicolon wheres.now) in
+    ensures { let form = cond body (wheres_before_body wheres.now)
+        (wheres_before_semicolon wheres.now) in
         Did E.meanings out.old (stream_of form) result out.new }
 {
     let predicates = wheres.predicates.as_slice();
@@ -33,7 +34,8 @@ fn add_predicate<E: Emit>(
     before: Result<(), E::Fault>,
     predicate: &Predicate,
 ) -> Result<(), E::Fault>
-    ensures { Adds E.meanings before out.old (stream_of (predicate_form predicate.now)) result out.new }
+    ensures { Adds E.meanings before out.old (stream_of (predicate_form predicate.now)) result
+        out.new }
 {
     match predicate {
         Predicate::Region { lifetime, bounds } => {

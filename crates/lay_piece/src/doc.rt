@@ -117,7 +117,8 @@ impl InComment {
     #[tactic(auto, unfolding(crate::specs::Quoted::doc_step, crate::specs::Quoted::block_step))]
     fn step(self, byte: u8) -> Option<InComment>
         requires { depth self < 2 ^ 63 }
-        ensures moved { MatchOption result (goes (doc_step (in_block self) byte) ≡ None) (λ next. goes (doc_step (in_block self) byte) ≡ Some (in_block next)) }
+        ensures moved { MatchOption result (goes (doc_step (in_block self) byte) ≡ None)
+            (λ next. goes (doc_step (in_block self) byte) ≡ Some (in_block next)) }
         ensures deeper { IfSome result (λ next. depth next ≤ depth self + 1) }
     {
         if byte == b'\r' {

@@ -2,19 +2,20 @@
 use Rattle.std.proofs.Common.{pos, negsuc, ◌≡◌, ◌≢◌, ℕ, ◌+◌, ◌-◌, ◌<◌, ◌≤◌, inl, inr, false, List, [], ◌∷◌, ◌++◌, Option, Some, None, Result, Ok, Err, refl, sym, ap, ◌∙◌, subst, append-nil, le_trans, le_refl, ◌%◌, ◌^◌, length, length-append, arith}
 use Rattle.lay_layout.specs.declared.layout.Frame.{Frame}
 use Rattle.lay_layout.specs.declared.layout.Tok.{Tok}
+use Rattle.lay_layout.specs.Margins.{margin}
 use Rattle.lay_layout.specs.Machine.{begun, opened, text, IsNested, IsClosed}
 use Rattle.lay_io.specs.Faults.{HasCause, Rose}
 use Rattle.lay_ring.specs.declared.entry.Entry.{Entry}
 use Rattle.lay_ring.specs.declared.entry.Size.{Size}
 use Rattle.lay_ring.specs.declared.entry.Size.TheVariants.{Unknown, Known, Forced}
 use Rattle.lay_stream.specs.Fed.{Start, Puts, Stops, FedFront, Did}
-use Rattle.lay_printer.specs.declared.line.Line.{Line}
+use Rattle.lay_stream.specs.declared.line.Line.{Line}
 use Rattle.lay_printer.specs.declared.engine.PrintError.{PrintError}
 use Rattle.lay_printer.specs.declared.engine.PrintError.TheVariants.{WriteFailed, NoMemory}
 use Rattle.lay_printer.specs.Printing.{Printing}
 use Rattle.lay_printer.specs.Queued.{Holds}
 use Rattle.lay_queue.specs.Scan.{waiting}
-use Rattle.lay_printer.specs.Pages.{Wrote, Cut}
+use Rattle.lay_stream.specs.Pages.{Wrote, Cut}
 use Rattle.lay_queue.specs.Entries.{least_width, next_of}
 use Rattle.lay_printer.specs.Queued.{Advances, Says, Decided}
 use Rattle.lay_printer.specs.Printers.{at, Runs, Fails, FedBy, CauseOf, Blames, LostBy, Went, Lost, Calls, Finishes, printer_meanings}
@@ -23,7 +24,7 @@ use Rattle.lay_stream.proofs.ListedLemmas.{nested_append}
 use Rattle.lay_printer.proofs.Running.{running_broken}
 use Rattle.lay_printer.proofs.Lockstep.{held_le}
 
-pub runs_new : (c : Printing) (w : Option (List ℕ)) (content : List ℕ) → c.entries ≡ [] → c.first ≡ 0 → c.groups ≡ 0 → c.line.pending ≡ 0 → c.line.room ≡ 89 → c.line.used ≡ 0 → c.frames ≡ [] →
+pub runs_new : (c : Printing) (w : Option (List ℕ)) (content : List ℕ) → c.entries ≡ [] → c.first ≡ 0 → c.groups ≡ 0 → c.line.pending ≡ 0 → c.line.room ≡ margin → c.line.used ≡ 0 → c.frames ≡ [] →
     Wrote w content [] → Runs c w content []
 runs_new c w content e z g a b d f h = record {
   running = record {

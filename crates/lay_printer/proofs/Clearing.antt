@@ -5,7 +5,7 @@ use Rattle.lay_layout.specs.declared.layout.Frame.{Frame}
 use Rattle.lay_layout.specs.declared.layout.Tok.TheVariants as tok
 use Rattle.lay_layout.specs.Document.{State, break_in, over, width_of_break}
 use Rattle.lay_layout.specs.Machine.{act, measure, reach, top}
-use Rattle.lay_printer.specs.declared.line.Line.{Line}
+use Rattle.lay_stream.specs.declared.line.Line.{Line}
 use Rattle.lay_printer.specs.Queued.{IsClear}
 
 pub clear_text : (p : Line) (fs : List Frame) (t : List ℕ) → IsClear p fs (tok.Text t)

@@ -1,6 +1,5 @@
 pub mod Steps
 pub mod Blanks
-pub mod Paging
 pub mod Running
 pub mod Clearing
 pub mod Calling

@@ -5,10 +5,10 @@ use Rattle.lay_layout.specs.declared.layout.Frame.{Frame}
 use Rattle.lay_layout.specs.declared.layout.Tok.{Tok}
 use Rattle.lay_layout.specs.Machine.{Layout, play, layout_after, begun}
 use Rattle.lay_ring.specs.declared.entry.Entry.{Entry}
-use Rattle.lay_printer.specs.declared.line.Line.{Line}
+use Rattle.lay_stream.specs.declared.line.Line.{Line}
 use Rattle.lay_queue.specs.Scan.{sized}
 use Rattle.lay_printer.specs.Queued.{Holds}
-use Rattle.lay_printer.specs.Pages.{Is, Wrote}
+use Rattle.lay_stream.specs.Pages.{Is, Wrote}
 use Rattle.lay_queue.specs.Closed.{toks_of}
 use Rattle.lay_printer.specs.Queued.{Running}
 use Rattle.lay_printer.specs.Printers.{at}

@@ -9,18 +9,18 @@ use Rattle.lay_layout.specs.Machine.{Layout, act, measure, play, step, begun, te
 use Rattle.lay_ring.specs.declared.entry.Size.{Size}
 use Rattle.lay_ring.specs.declared.entry.Size.TheVariants.{Unknown, Known, Forced}
 use Rattle.lay_ring.specs.declared.entry.Entry.{Entry}
-use Rattle.lay_printer.specs.declared.line.Line.{Line}
+use Rattle.lay_stream.specs.declared.line.Line.{Line}
 use Rattle.lay_queue.specs.Scan.{Scan, Stopped, Going, at_end, cap, size_of_scan, scan_of, sized, waiting}
 use Rattle.lay_ring.specs.Rows.{IsRun}
 use Rattle.lay_queue.proofs.Queueing.{sizes_text, text_size, toks_more}
 use Rattle.lay_printer.specs.Queued.{MayFollow, Holds}
 use Rattle.lay_queue.specs.Notes.{scans}
 use Rattle.lay_queue.specs.Closed.{toks_of, sizes_of}
-use Rattle.lay_printer.specs.Pages.{Is, Wrote, Cut}
+use Rattle.lay_stream.specs.Pages.{At, Is, Wrote, Cut}
 use Rattle.lay_queue.specs.Entries.{least_width}
-use Rattle.lay_printer.specs.Queued.{At, Running, Broken, Prints, Advances, Ends, Says, Decided}
-use Rattle.lay_printer.proofs.Steps.{size_of, Grows, grows_play, fed_one, print_known, print_forced, print_now, to_end, text_ended}
-use Rattle.lay_printer.proofs.Paging.{cut_more, wrote_cut}
+use Rattle.lay_printer.specs.Queued.{Running, Broken, Prints, Advances, Ends, Says, Decided}
+use Rattle.lay_printer.proofs.Steps.{size_of, grows_play, fed_one, print_known, print_forced, print_now, to_end, text_ended}
+use Rattle.lay_stream.proofs.Paging.{Grows, cut_more, wrote_cut}
 use Rattle.lay_printer.proofs.Lockstep.{toks_sized}
 
 play_append : (a b rest : List Tok) (m : Layout) → play (a ++ b) rest m ≡ play b rest (play a (b ++ rest) m)

@@ -1,6 +1,7 @@
 -- Each step of the printer keeps Holds.
 use Rattle.std.proofs.Common.{pos, ◌≡◌, ℕ, zero, suc, ◌+◌, ◌<◌, ◌≤◌, min, Bool, true, false, List, [], ◌∷◌, ◌++◌, length, refl, sym, ap, ◌∙◌, append_assoc, append-nil, arith, lt-ltb}
 use Rattle.std.proofs.lemmas.Bool.Decides.{nat_tests}
+use Rattle.lay_layout.specs.Margins.{margin}
 use Rattle.lay_layout.specs.declared.layout.Mark.{Mark}
 use Rattle.lay_layout.specs.declared.layout.Mark.TheVariants.{Absent, Comma, OpenBrace, CloseBrace}
 use Rattle.lay_layout.specs.declared.layout.Break.{Break}
@@ -10,6 +11,7 @@ use Rattle.lay_layout.specs.declared.layout.Tok.{Tok}
 use Rattle.lay_layout.specs.declared.layout.Tok.TheVariants as tok
 use Rattle.lay_layout.specs.Document.{State, width_of_break, over, put_mark, skip, newline, line, shift, break_by}
 use Rattle.lay_layout.specs.Machine.{outer, reach, measure, play, step, act, Layout, begun, text, top}
+use Rattle.lay_stream.proofs.Paging.{Grows}
 use Rattle.lay_ring.specs.declared.entry.Size.{Size}
 use Rattle.lay_ring.specs.declared.entry.Size.TheVariants.{Unknown, Known}
 use Rattle.lay_ring.specs.declared.entry.Entry.{Entry}
@@ -52,10 +54,10 @@ measure_scan (tok.Break b) ts r = omega (arith, reach_scan ts 0 r, with_rest_wid
 measure_scan (tok.Begin c o) ts r = reach_scan ts 1 r
 measure_scan tok.End ts r = refl
 
-pub over_capped : (n : ℕ) (s : State) → s.room ≤ 89 → over (min n cap) s ≡ over n s
+pub over_capped : (n : ℕ) (s : State) → s.room ≤ margin → over (min n cap) s ≡ over n s
 over_capped n s h = grind (arith, nat_tests)
 
--- the space at the start of a line is at most 89
+-- the space at the start of a line is at most the margin
 room_mark : (k : Mark) (s : State) → (put_mark k s).room ≡ s.room
 room_mark Absent s = refl
 room_mark Comma s = refl
@@ -65,17 +67,17 @@ room_mark CloseBrace s = refl
 room_skip : (b : Break) (s : State) → (skip b s).room ≡ s.room
 room_skip b s = room_mark b.instead _
 
-room_newline : (b : Break) (i : ℕ) (s : State) → (newline b i s).room ≤ 89
+room_newline : (b : Break) (i : ℕ) (s : State) → (newline b i s).room ≤ margin
 room_newline b i s = omega (arith, room_mark b.after (line (shift i b.offset) (put_mark b.before s)))
 
-room_brk : (v : Bool) (f : Frame) (b : Break) (big : Bool) (s : State) → s.room ≤ 89 → (break_by v f b big s).room ≤ 89
+room_brk : (v : Bool) (f : Frame) (b : Break) (big : Bool) (s : State) → s.room ≤ margin → (break_by v f b big s).room ≤ margin
 room_brk true f b big s h = omega (arith, room_skip b s)
 room_brk false Flat b big s h = omega (arith, room_skip b s)
 room_brk false (Broken true i) b big s h = room_newline b i s
 room_brk false (Broken false i) b true s h = room_newline b i s
 room_brk false (Broken false i) b false s h = omega (arith, room_skip b s)
 
-pub room_act : (t : Tok) (big : Bool) (m : Layout) → m.state.room ≤ 89 → (act t big m).state.room ≤ 89
+pub room_act : (t : Tok) (big : Bool) (m : Layout) → m.state.room ≤ margin → (act t big m).state.room ≤ margin
 room_act (tok.Text t) big m h = h
 room_act (tok.Break b) big m h = room_brk b.never (top m.frames) b big m.state h
 room_act (tok.Begin c o) big m h = h
@@ -93,7 +95,7 @@ print_shown e p t ts m big h d r f =
     ∙ ap (λ (b : Bool). act t b m) (d r f)
 
 -- the tokens p are printed, and x with them: the others wait
-held_on : (e : Bool) (s : List Tok) (t x : Tok) (ts : List Tok) (es : List Entry) (m : Layout) (p : List Tok) (big : Bool) → p ++ x ∷ ts ≡ s → x ≡ t → es ≡ sized e ts → m.state.room ≤ 89 →
+held_on : (e : Bool) (s : List Tok) (t x : Tok) (ts : List Tok) (es : List Entry) (m : Layout) (p : List Tok) (big : Bool) → p ++ x ∷ ts ≡ s → x ≡ t → es ≡ sized e ts → m.state.room ≤ margin →
     ((r : List Tok) → MayFollow e r → play p ((x ∷ ts) ++ r) begun ≡ m) → ((r : List Tok) → MayFollow e r → over (with_rest (scan_of x ts) r) m.state ≡ big) → Holds e s es (act t big m)
 held_on e s t x ts es m p big a k z q h d = record {
   printed = p ++ x ∷ [];
@@ -104,20 +106,20 @@ held_on e s t x ts es m p big a k z q h d = record {
   shown = λ r f. print_shown e p x ts m big h d r f ∙ ap (λ (y : Tok). act y big m) k;
 }
 
-capped_decides : (n k : ℕ) (s : State) → s.room ≤ 89 → Known (pos k) ≡ Known (pos (min n cap)) → over n s ≡ over k s
+capped_decides : (n k : ℕ) (s : State) → s.room ≤ margin → Known (pos k) ≡ Known (pos (min n cap)) → over n s ≡ over k s
 capped_decides n k s h e =
     let q : k ≡ min n cap = cc in
     sym (ap (λ (x : ℕ). over x s) q ∙ over_capped n s h)
 
 -- a known size decides
-known_decides : (e : Bool) (c : Scan) (k : ℕ) (s : State) → s.room ≤ 89 → Known (pos k) ≡ size_of_scan (at_end e c) → (r : List Tok) → MayFollow e r → over (with_rest c r) s ≡ over k s
+known_decides : (e : Bool) (c : Scan) (k : ℕ) (s : State) → s.room ≤ margin → Known (pos k) ≡ size_of_scan (at_end e c) → (r : List Tok) → MayFollow e r → over (with_rest c r) s ≡ over k s
 known_decides false (Stopped n) k s h q r f = capped_decides n k s h q
 known_decides false (Going n d) k s h q r f = cc
 known_decides true (Stopped n) k s h q r f = capped_decides n k s h q
 known_decides true (Going n d) k s h q r f = ap (λ (x : List Tok). over (n + reach d x) s) f ∙ ap (λ (x : ℕ). over x s) (let z : n + 0 ≡ n = omega arith in z) ∙ capped_decides n k s h q
 
 print_known_at : (e : Bool) (s : List Tok) (t : Tok) (k : ℕ) (es : List Entry) (m : Layout) (p w : List Tok) →
-    p ++ w ≡ s → record { tok = t; size = Known (pos k) } ∷ es ≡ sized e w → m.state.room ≤ 89 →
+    p ++ w ≡ s → record { tok = t; size = Known (pos k) } ∷ es ≡ sized e w → m.state.room ≤ margin →
     ((r : List Tok) → MayFollow e r → play p (w ++ r) begun ≡ m) → Holds e s es (act t (over k m.state) m)
 print_known_at e s t k es m p [] a z q h = cc
 print_known_at e s t k es m p (x ∷ ts) a z q h =
@@ -165,7 +167,7 @@ forced_decides (Stopped n) k s h e l r = cc
 forced_decides (Going n d) k s h e l r = lt-ltb s.room (s.used + (n + reach d r)) (omega arith)
 
 print_forced_at : (s : List Tok) (t : Tok) (es : List Entry) (m : Layout) (p w : List Tok) →
-    p ++ w ≡ s → record { tok = t; size = Unknown } ∷ es ≡ sized false w → m.state.room ≤ 89 →
+    p ++ w ≡ s → record { tok = t; size = Unknown } ∷ es ≡ sized false w → m.state.room ≤ margin →
     ((r : List Tok) → MayFollow false r → play p (w ++ r) begun ≡ m) → m.state.room < m.state.used + (least_width t + waiting (record { tok = t; size = Unknown } ∷ es)) → Holds false s es (act t true m)
 print_forced_at s t es m p [] a z q h l = cc
 print_forced_at s t es m p (x ∷ ts) a z q h l =
@@ -195,7 +197,7 @@ fed_one s t es m h = record {
 }
 
 -- a token that is fed where none waits is printed at once, where its decision doesn't count
-print_now_at : (s : List Tok) (t : Tok) (m : Layout) (big : Bool) (p w : List Tok) → p ++ w ≡ s → [] ≡ sized false w → m.state.room ≤ 89 → ((r : List Tok) → MayFollow false r → play p (w ++ r) begun ≡ m) →
+print_now_at : (s : List Tok) (t : Tok) (m : Layout) (big : Bool) (p w : List Tok) → p ++ w ≡ s → [] ≡ sized false w → m.state.room ≤ margin → ((r : List Tok) → MayFollow false r → play p (w ++ r) begun ≡ m) →
     ((r : List Tok) → act t (over (measure t r) m.state) m ≡ act t big m) → Holds false (s ++ t ∷ []) [] (act t big m)
 print_now_at s t m big p (x ∷ w) a z q h d = cc
 print_now_at s t m big p [] a z q h d = record {
@@ -222,9 +224,6 @@ pub text_ended : (s : List Tok) (m : Layout) → Holds true s [] m → text s �
 text_ended s m h = text_ended_of s m h.printed h.waits h.all h.are_sized h.shown
 
 -- what was printed is a front of what will be
-abbrev pub Grows : List ℕ → List ℕ → Type 0
-Grows a b = (u : List ℕ) × (b ≡ a ++ u)
-
 pub grows_same : (a : List ℕ) → Grows a a
 grows_same a = ([], sym (append-nil a))
 

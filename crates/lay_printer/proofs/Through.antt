@@ -9,7 +9,7 @@ use Rattle.lay_stream.specs.Fed.{Did}
 use Rattle.lay_printer.specs.declared.engine.PrintError.{PrintError}
 use Rattle.lay_printer.specs.declared.engine.PrintError.TheVariants.{WriteFailed, NoMemory}
 use Rattle.lay_printer.specs.Printing.{Printing}
-use Rattle.lay_printer.specs.Pages.{Wrote, Cut}
+use Rattle.lay_stream.specs.Pages.{Wrote, Cut}
 use Rattle.lay_printer.specs.Printers.{Runs, FedBy, CauseOf, Blames, Finishes, printer_meanings}
 
 length-replicate : (n x : ℕ) → length (replicate n x) ≡ n

@@ -1,5 +1,6 @@
 -- When the oldest entry isn't decided.
 use Rattle.std.proofs.Common.{pos, negsuc, ◌≡◌, ℕ, ◌+◌, ◌<◌, ◌≤◌, List, [], ◌∷◌, ◌++◌, length, Some, None, Bool, refl, sym, ap, ◌∙◌, subst, arith}
+use Rattle.lay_layout.specs.Margins.{margin}
 use Rattle.lay_layout.specs.declared.layout.Tok.{Tok}
 use Rattle.lay_layout.specs.declared.layout.Tok.TheVariants as tok
 use Rattle.lay_ring.specs.declared.entry.Size.{Size}
@@ -9,7 +10,7 @@ use Rattle.lay_queue.specs.Closed.{toks_of}
 use Rattle.lay_queue.specs.Entries.{least_width}
 use Rattle.lay_queue.specs.Scan.{text_length}
 use Rattle.lay_queue.specs.Queues.{IsAdded}
-use Rattle.lay_printer.specs.declared.line.Line.{Line}
+use Rattle.lay_stream.specs.declared.line.Line.{Line}
 use Rattle.lay_printer.specs.Queued.{Decided, IsLimit, IsUndecided, MayStay, Says}
 
 pub undecided_of : (es : List Entry) (wait : ℕ) (p : Line) → Decided es wait p None → IsUndecided es p
@@ -20,14 +21,14 @@ pub some_wait : (es : List Entry) (wait : ℕ) (p : Line) (big : Bool) → Decid
 some_wait [] wait p big d = cc
 some_wait (e ∷ es) wait p big d = omega arith
 
-too_long : (z : Size) (least wait : ℕ) (p : Line) → p.room ≤ 89 → 89 < wait → Says z least wait p None → ⊥
+too_long : (z : Size) (least wait : ℕ) (p : Line) → p.room ≤ margin → margin < wait → Says z least wait p None → ⊥
 too_long Unknown least wait p r l d = absurd (omega (arith, d))
 too_long (Known (pos k)) least wait p r l d = cc
 too_long (Known (negsuc k)) least wait p r l d = cc
 too_long Forced least wait p r l d = cc
 
 -- behind a text that is longer than any space nothing stays undecided
-pub none_long : (es : List Entry) (wait more : ℕ) (p : Line) → p.room ≤ 89 → 89 < more → Decided es (wait + more) p None → es ≡ []
+pub none_long : (es : List Entry) (wait more : ℕ) (p : Line) → p.room ≤ margin → margin < more → Decided es (wait + more) p None → es ≡ []
 none_long [] wait more p r l d = refl
 none_long (e ∷ es) wait more p r l d = absurd (too_long e.size (least_width e.tok) (wait + more) p r (omega (arith, l)) d)
 

@@ -1,4 +1,3 @@
-pub mod Pages
 pub mod Queued
 pub mod Engines
 pub mod Printing

@@ -8,7 +8,7 @@ use Rattle.lay_io.specs.Faults.{Rose}
 use Rattle.lay_stream.specs.Fed.{Meanings}
 use Rattle.lay_printer.specs.Queued.{Running, Broken}
 use Rattle.lay_queue.specs.Entries.{next_of}
-use Rattle.lay_printer.specs.Pages.{Wrote, Cut}
+use Rattle.lay_stream.specs.Pages.{Wrote, Cut}
 use Rattle.lay_printer.specs.Printing.{Printing, Owning}
 use Rattle.lay_printer.specs.declared.engine.PrintError.{PrintError}
 use Rattle.lay_printer.specs.declared.engine.PrintError.TheVariants.{WriteFailed, NoMemory}

@@ -2,7 +2,7 @@
 use Rattle.std.specs.Prelude.{ℕ, List, Option}
 use Rattle.lay_layout.specs.declared.layout.Frame.{Frame}
 use Rattle.lay_ring.specs.declared.entry.Entry.{Entry}
-use Rattle.lay_printer.specs.declared.line.Line.{Line}
+use Rattle.lay_stream.specs.declared.line.Line.{Line}
 use Rattle.lay_printer.specs.declared.engine.PrintError.{PrintError}
 
 -- the frames of the groups that are open, the innermost first, and how many more there is room for

@@ -8,11 +8,11 @@ use Rattle.lay_layout.specs.Machine.{outer, measure, layout_after, shown}
 use Rattle.lay_queue.specs.Scan.{cap}
 use Rattle.lay_queue.specs.Closed.{toks_of}
 use Rattle.lay_printer.specs.Printing.{Printing}
-use Rattle.lay_printer.specs.Pages.{Is, Wrote}
+use Rattle.lay_stream.specs.Pages.{Is, Wrote}
 use Rattle.lay_printer.specs.Printers.{Runs, at}
 use Rattle.lay_ring.specs.declared.entry.Size.TheVariants.{Unknown, Known, Forced}
 use Rattle.lay_ring.specs.declared.entry.Entry.{Entry}
-use Rattle.lay_printer.specs.declared.line.Line.{Line}
+use Rattle.lay_stream.specs.declared.line.Line.{Line}
 
 -- The sink grew by what is shown at the last printed token, the line is as there, and the tokens of s after it wait.
 pub record InStep (es : List Entry) (p : Line) (w : Option (List ℕ)) (content : List ℕ) (s r : List Tok) : Type 0 where
@@ -34,7 +34,7 @@ space_left s = s.room - s.used
 
 -- the greater of the space and -2^62
 abbrev pub least_space : State → ℤ
-least_space s = pos s.room -ℤ pos (min s.used (s.room + 0x4000_0000_0000_0000))
+least_space s = pos s.room -ℤ pos (min s.used (s.room + cap))
 
 -- so many bytes fit in the space
 abbrev pub FitSpace : Printing → ℕ → Type 0

@@ -5,14 +5,15 @@ use Rattle.lay_layout.specs.declared.layout.Tok.{Tok}
 use Rattle.lay_layout.specs.declared.layout.Tok.TheVariants as tok
 use Rattle.lay_layout.specs.declared.layout.Frame.{Frame}
 use Rattle.lay_layout.specs.Document.{over}
+use Rattle.lay_layout.specs.Margins.{margin}
 use Rattle.lay_layout.specs.Machine.{Layout, act, begun, measure, play, text}
 use Rattle.lay_ring.specs.declared.entry.Size.{Size}
 use Rattle.lay_ring.specs.declared.entry.Size.TheVariants.{Unknown, Known, Forced}
 use Rattle.lay_ring.specs.declared.entry.Entry.{Entry}
 use Rattle.lay_queue.specs.Entries.{least_width}
 use Rattle.lay_queue.specs.Scan.{sized}
-use Rattle.lay_printer.specs.declared.line.Line.{Line}
-use Rattle.lay_printer.specs.Pages.{Is, Wrote, Cut}
+use Rattle.lay_stream.specs.declared.line.Line.{Line}
+use Rattle.lay_stream.specs.Pages.{At, Wrote, Cut}
 
 -- the tokens that may follow
 abbrev pub MayFollow : Bool → List Tok → Type 0
@@ -25,7 +26,7 @@ pub record Holds (ended : Bool) (s : List Tok) (entries : List Entry) (layout : 
   pub waits : List Tok
   pub all : printed ++ waits ≡ s
   pub are_sized : entries ≡ sized ended waits
-  pub small : layout.state.room ≤ 89
+  pub small : layout.state.room ≤ margin
   pub shown : (r : List Tok) → MayFollow ended r → play printed (waits ++ r) begun ≡ layout
 
 -- Is the oldest entry too big, where it has so many columns at the least and the text that waits? None: undecided.
@@ -61,11 +62,6 @@ abbrev pub MayStay : Tok → List Entry → (wait limit : ℕ) → Type 0
 MayStay (tok.Text t) entries wait limit = wait ≤ limit
 MayStay (tok.Break b) entries wait limit = IsOpenAtFront entries
 MayStay t entries wait limit = Unit {0}
-
--- a line and frames are at a layout
-pub record At (line : Line) (frames : List Frame) (m : Layout) : Type 0 where
-  pub frames_are : frames ≡ m.frames
-  pub is : Is line m.state
 
 -- A token is printed as one that doesn't fit, whatever follows it.
 abbrev pub IsClear : Line → List Frame → Tok → Type 0

@@ -2,6 +2,7 @@
 ghost use Rattle.std.specs.Prelude.{◌≡◌, ◌+◌, ◌%◌, ◌^◌, ◌<◌, ◌≤◌, List, [], ◌∷◌, ◌++◌, length, nat_lt, OnOk, OnErr, IfOk, IfErr, IsOk, IsTrue, Some, None, false};
 ghost use Rattle.lay_layout.specs.declared.layout.Tok.TheVariants as tok;
 ghost use Rattle.lay_layout.specs.Machine.{opened, IsNested};
+ghost use Rattle.lay_layout.specs.Margins.{margin};
 ghost use Rattle.lay_io.specs.Faults.{HasCause, SameLoan};
 ghost use Rattle.lay_ring.specs.Rows.{tok_of};
 ghost use Rattle.lay_ring.specs.declared.entry.Entry.{Entry};
@@ -11,12 +12,12 @@ ghost use Rattle.lay_queue.specs.Queues.{IsAdded};
 ghost use Rattle.lay_printer.specs.Queued.{Advances, Decided, Ends, IsClear, IsLimit, IsOpenAtFront, IsUndecided, MayStay};
 ghost use Rattle.lay_queue.specs.Entries.{next_of};
 
-use crate::line::exceeds;
 use crate::page::Page;
 use lay_io::{Failed, Sink};
 use lay_layout::Break;
 use lay_queue::{Queue, least_width};
 use lay_ring::LentTok;
+use lay_stream::exceeds;
 use lay_text::NoMemory;
 
 /// Why a call of a printer failed.
@@ -56,8 +57,8 @@ impl Engine {
     ) -> Result<(), PrintError>
         requires roomy { IsTrue roomy → 0 < room_of self.old }
         requires ended { self.old.queue.ended ≡ false }
-        requires few { self.old.queue.waiting ≤ 89 }
-        requires short { text_length (tok_of tok) ≤ 89 }
+        requires few { self.old.queue.waiting ≤ margin }
+        requires short { text_length (tok_of tok) ≤ margin }
         requires nested { IsNested self.old.queue.groups (tok_of tok ∷ []) }
         requires undecided { Decided self.old.queue.ring.entries self.old.queue.waiting self.old.page.line None }
         requires limit { IsLimit self.old.queue.ring.entries self.old.page.line self.old.limit }
@@ -144,7 +145,7 @@ impl Engine {
     #[inline(never)]
     pub fn print_long<K: Sink>(&mut self, sink: &mut K, text: &[u8]) -> Result<(), Failed>
         requires ended { self.old.queue.ended ≡ false }
-        requires long { 89 < length text.now }
+        requires long { margin < length text.now }
         ensures feeds { Advances false self.old.queue.ring.entries self.old.page.line self.old.page.frames.frames (K.written sink.old) result self.new.queue.ring.entries self.new.page.line self.new.page.frames.frames (K.written sink.new) (λ s. s ++ tok.Text text.now ∷ []) }
         ensures passes { OnOk result (Passes self.old self.new) }
         ensures room { room_of self.old ≤ room_of self.new }
@@ -212,8 +213,8 @@ impl Engine {
     fn take(&mut self, tok: LentTok<'_>, roomy: bool) -> Result<(), NoMemory>
         requires roomy { IsTrue roomy → 0 < room_of self.old }
         requires ended { self.old.queue.ended ≡ false }
-        requires few { self.old.queue.waiting ≤ 89 }
-        requires short { text_length (tok_of tok) ≤ 89 }
+        requires few { self.old.queue.waiting ≤ margin }
+        requires short { text_length (tok_of tok) ≤ margin }
         requires nested { IsNested self.old.queue.groups (tok_of tok ∷ []) }
         ensures toks { OnOk result (toks_of self.new.queue.ring.entries ≡ toks_of self.old.queue.ring.entries ++ tok_of tok.entry ∷ []) }
         ensures added { OnOk result (IsAdded (tok_of tok.entry) self.old.queue.ring.entries self.new.queue.ring.entries) }
@@ -239,8 +240,8 @@ impl Engine {
     fn put(&mut self, tok: LentTok<'_>)
         requires room { 0 < room_of self.old }
         requires ended { self.old.queue.ended ≡ false }
-        requires few { self.old.queue.waiting ≤ 89 }
-        requires short { text_length (tok_of tok) ≤ 89 }
+        requires few { self.old.queue.waiting ≤ margin }
+        requires short { text_length (tok_of tok) ≤ margin }
         requires nested { IsNested self.old.queue.groups (tok_of tok ∷ []) }
         ensures comes { Comes self.old.queue self.new.queue (tok_of tok.entry) }
         ensures limit { self.new.limit ≡ self.old.limit }

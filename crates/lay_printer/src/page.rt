@@ -7,10 +7,10 @@ ghost use Rattle.lay_ring.specs.Rows.{tok_of};
 ghost use Rattle.lay_printer.specs.Queued.{IsClear, Prints};
 
 use crate::frames::Frames;
-use crate::line::{Line, exceeds};
 use lay_io::{Failed, Sink};
 use lay_layout::{Break, asks_at_break, entered, width_of};
 use lay_ring::LentTok;
+use lay_stream::{Line, exceeds};
 
 /// Where the layout stands: the line that is being written, and the frames of the groups that are open there.
 #[derive(Drop)]

@@ -4,7 +4,7 @@ ghost use Rattle.lay_layout.specs.declared.layout.Tok.TheVariants as tok;
 ghost use Rattle.lay_layout.specs.Machine.{text};
 ghost use Rattle.lay_io.specs.Faults.{SameLoan};
 ghost use Rattle.lay_stream.specs.Fed.{Did};
-ghost use Rattle.lay_printer.specs.Pages.{Wrote, Cut};
+ghost use Rattle.lay_stream.specs.Pages.{Wrote, Cut};
 ghost use Rattle.lay_printer.specs.Printers.{CauseOf, FedBy, Finishes, IsWhole, Repeats, TakesRoom};
 ghost use Rattle.lay_printer.specs.Printers.{lent_core, lent_sink, lent_as, press_loans, press_meanings, owner_meanings};
 ghost use Rattle.lay_printer.specs.Promises.{FitSpace, IsSame, IsSpace, RunsAs, RunsFresh};

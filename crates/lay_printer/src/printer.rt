@@ -2,7 +2,9 @@
 ghost use Rattle.std.specs.Prelude.{◌≡◌, ℕ, ◌+◌, ◌<◌, ◌≤◌, [], ◌∷◌, OnOk, OnErr, IfOk, IfErr, None, Some, length, pos, ◌-ℤ◌};
 ghost use Rattle.lay_layout.specs.declared.layout.Tok.TheVariants as tok;
 ghost use Rattle.lay_layout.specs.Machine.{IsNested};
+ghost use Rattle.lay_layout.specs.Margins.{margin};
 ghost use Rattle.lay_io.specs.Faults.{SameLoan};
+ghost use Rattle.lay_stream.specs.Pages.{greatest_used};
 ghost use Rattle.lay_printer.specs.Printers.{Calls, Finishes, IsWhole, Repeats, TakesRoom};
 ghost use Rattle.lay_printer.specs.Promises.{FitSpace, IsSame, IsSpace, KeepsStep, RunsAs, RunsFresh};
 ghost use Rattle.lay_printer.specs.Queued.{IsClear};
@@ -13,12 +15,12 @@ ghost use Rattle.lay_printer.specs.declared.engine.PrintError.TheVariants.{Write
 
 use crate::engine::{Engine, PrintError};
 use crate::frames::Frames;
-use crate::line::Line;
 use crate::page::Page;
 use lay_io::{Failed, Sink};
-use lay_layout::{Break, MARGIN};
+use lay_layout::{Break, GREATEST_WIDTH, MARGIN};
 use lay_queue::Queue;
 use lay_ring::LentTok;
+use lay_stream::Line;
 use lay_text::{NoMemory, Text};
 use std::alloc::Global;
 use std::marker::Model;
@@ -46,8 +48,8 @@ impl Model for Core {
 
 /// What is left of one number after another is taken from it, which may be below zero.
 fn difference(a: u64, b: u64) -> i64
-    requires small { a ≤ 89 }
-    requires bound { b ≤ 0x4000_0000_0000_0059 }
+    requires small { a ≤ margin }
+    requires bound { b ≤ greatest_used }
     ensures { result ≡ pos a -ℤ pos b }
 {
     a as i64 - b as i64
@@ -167,7 +169,7 @@ impl Core {
     #[inline(never)]
     fn print_long<K: Sink>(&mut self, sink: &mut K, text: &[u8]) -> Result<(), PrintError>
         requires live { self.old.failed ≡ None }
-        requires long { 89 < length text.now }
+        requires long { margin < length text.now }
         ensures calls { Calls self.old (K.written sink.old) (K.faults sink.old) result self.new (K.written sink.new) (K.faults sink.new) (tok.Text text.now) }
         ensures room { TakesRoom self.old result self.new }
         ensures loan { SameLoan (K.loan sink.old) (K.loan sink.new) }
@@ -222,7 +224,7 @@ impl Core {
     #[inline(always)]
     fn feed<K: Sink>(&mut self, sink: &mut K, tok: LentTok<'_>) -> Result<(), PrintError>
         requires nested { IsNested self.old.groups (tok_of tok ∷ []) }
-        requires short { text_length (tok_of tok) ≤ 89 }
+        requires short { text_length (tok_of tok) ≤ margin }
         ensures calls { Calls self.old (K.written sink.old) (K.faults sink.old) result self.new (K.written sink.new) (K.faults sink.new) (tok_of tok.entry) }
         ensures room { TakesRoom self.old result self.new }
         ensures same { Repeats self.old result }
@@ -303,7 +305,7 @@ impl Core {
     {
         let line = &self.engine.page.line;
         let room = line.room.min(MARGIN);
-        let used = line.used.min(room + 0x4000_0000_0000_0000);
+        let used = line.used.min(room + GREATEST_WIDTH);
         difference(room, used)
     }
 

@@ -3,6 +3,7 @@ use Rattle.std.specs.Prelude.{◌≡◌, ℕ, ◌+◌, ◌^◌, ◌<◌, ◌≤�
 use Rattle.lay_layout.specs.declared.layout.Tok.{Tok}
 use Rattle.lay_layout.specs.declared.layout.Tok.TheVariants as tok
 use Rattle.lay_layout.specs.Machine.{opened}
+use Rattle.lay_layout.specs.Margins.{margin}
 use Rattle.lay_ring.specs.declared.entry.Size.{Size}
 use Rattle.lay_ring.specs.declared.entry.Entry.{Entry}
 use Rattle.lay_queue.specs.Scan.{text_length}
@@ -19,7 +20,7 @@ pub record Ready (q : Queue) : Type 0 where
   pub ring : 0 < q.ring.spare
   pub notes : 0 < q.notes.spare
   pub held : length q.ring.entries < 2 ^ 63
-  pub few : q.waiting ≤ 89
+  pub few : q.waiting ≤ margin
   pub groups : q.groups + 1 < 2 ^ 64
 
 -- A token but a break is added behind the others, which stay as they are. A break may end the measures of others.

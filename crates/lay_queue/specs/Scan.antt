@@ -7,6 +7,7 @@ use Rattle.lay_ring.specs.declared.entry.Size.TheVariants.{Unknown, Known}
 use Rattle.lay_ring.specs.declared.entry.Entry.{Entry}
 use Rattle.lay_layout.specs.Document.{width_of_break}
 use Rattle.lay_layout.specs.Machine.{outer}
+use Rattle.lay_layout.specs.Margins.{greatest_width}
 
 -- How far a measure has come in the tokens that were fed: it has ended, or it goes on at a depth.
 pub data Scan : Type 0 where
@@ -27,7 +28,7 @@ scan d (tok.End ∷ ts) = scan (outer d) ts
 
 -- the greatest size that is kept
 abbrev pub cap : ℕ
-cap = 0x4000_0000_0000_0000
+cap = greatest_width
 
 abbrev pub size_of_scan : Scan → Size
 size_of_scan (Stopped n) = Known (pos (min n cap))

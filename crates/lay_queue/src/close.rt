@@ -2,10 +2,11 @@
 ghost use Rattle.std.specs.Prelude.{◌≡◌, ◌+◌, ◌-◌, ◌^◌, ◌<◌, ◌≤◌, [], ◌∷◌, ◌++◌, length, MatchOption};
 ghost use Rattle.lay_queue.specs.Closed.{Left, Closed, toks_of, NoteKept};
 
+use lay_layout::GREATEST_WIDTH;
 use lay_ring::{Marks, Row};
 
 /// The greatest size that is kept.
-pub const CAP: u64 = 0x4000_0000_0000_0000;
+pub const CAP: u64 = GREATEST_WIDTH;
 
 /// A note of an entry whose size isn't known.
 #[derive(Clone, Copy)]
@@ -21,7 +22,8 @@ pub struct Note {
 
 /// The newest note, where it was made with no fewer groups open than now.
 fn take_newest(notes: &mut Marks<Note>, cur: u64) -> Option<Note>
-    ensures rest { MatchOption result (notes.new.items ≡ notes.old.items) (λ n. notes.old.items ≡ notes.new.items ++ n ∷ []) }
+    ensures rest { MatchOption result (notes.new.items ≡ notes.old.items)
+        (λ n. notes.old.items ≡ notes.new.items ++ n ∷ []) }
     ensures level { MatchOption result (NoteKept cur notes.old.items) (λ n. cur ≤ n.level) }
     ensures spare { notes.old.spare ≤ notes.new.spare }
 {
@@ -42,7 +44,8 @@ pub fn close(ring: &mut Row, notes: &mut Marks<Note>, width: u64, cur: u64) -> u
     requires first { ring.old.first < 2 ^ 64 }
     requires held { length ring.old.entries ≤ 2 ^ 63 }
     requires width { width ≤ CAP }
-    ensures closed { Closed (toks_of ring.old.entries) ring.new.first result cur ring.new.entries notes.new.items }
+    ensures closed { Closed (toks_of ring.old.entries) ring.new.first
+        result cur ring.new.entries notes.new.items }
     ensures width { result ≤ CAP }
     ensures first { ring.new.first ≡ ring.old.first }
     ensures ring { ring.new.spare ≡ ring.old.spare }

@@ -7,6 +7,7 @@ ghost use Rattle.lay_queue.specs.Scan.{at_end, text_length, size_of_scan, waitin
 ghost use Rattle.lay_queue.specs.Notes.{Fits, scans};
 ghost use Rattle.lay_queue.specs.Entries.{least_width, notes_after, next_of};
 ghost use Rattle.lay_layout.specs.Machine.{IsNested};
+ghost use Rattle.lay_layout.specs.Margins.{margin};
 
 use crate::close::{CAP, Note, close};
 use lay_layout::{Break, width_of};
@@ -153,7 +154,7 @@ impl Queue {
     #[inline(always)]
     pub fn scan(&mut self, tok: LentTok<'_>)
         requires ready { Ready self.old }
-        requires short { text_length (tok_of tok) ≤ 89 }
+        requires short { text_length (tok_of tok) ≤ margin }
         requires nested { IsNested self.old.groups (tok_of tok ∷ []) }
         ensures { Comes self.old self.new (tok_of tok.entry) }
     {
@@ -169,7 +170,7 @@ impl Queue {
     #[inline(always)]
     fn scan_text(&mut self, text: &[u8])
         requires ready { Ready self.old }
-        requires short { length text.now ≤ 89 }
+        requires short { length text.now ≤ margin }
         ensures { Comes self.old self.new (tok.Text text.now) }
     {
         let len = text.len() as u64;
@@ -249,7 +250,8 @@ impl Queue {
         ensures groups { self.new.groups ≡ self.old.groups }
         ensures ring_spare { self.new.ring.spare ≡ self.old.ring.spare }
         ensures notes_spare { self.new.notes.spare ≡ self.old.notes.spare }
-        ensures number { next_of self.new.ring.first self.new.ring.entries ≡ (next_of self.old.ring.first self.old.ring.entries + 1) % 2 ^ 64 }
+        ensures number { next_of self.new.ring.first self.new.ring.entries
+            ≡ (next_of self.old.ring.first self.old.ring.entries + 1) % 2 ^ 64 }
         ensures ended { self.new.ended ≡ self.old.ended }
     {
         self.ring.pass();
@@ -262,7 +264,8 @@ impl Queue {
         ensures groups { self.new.groups ≡ self.old.groups }
         ensures ring_spare { self.old.ring.spare ≤ self.new.ring.spare }
         ensures notes_spare { self.old.notes.spare ≤ self.new.notes.spare }
-        ensures number { next_of self.new.ring.first self.new.ring.entries ≡ next_of self.old.ring.first self.old.ring.entries }
+        ensures number { next_of self.new.ring.first self.new.ring.entries
+            ≡ next_of self.old.ring.first self.old.ring.entries }
         ensures ended { self.new.ended ≡ self.old.ended }
     {
         if let Some(entry) = self.ring.front() {
@@ -281,7 +284,8 @@ impl Queue {
         ensures groups { self.new.groups ≡ self.old.groups }
         ensures ring_spare { self.old.ring.spare ≤ self.new.ring.spare }
         ensures notes_spare { self.old.notes.spare ≤ self.new.notes.spare }
-        ensures number { next_of self.new.ring.first self.new.ring.entries ≡ next_of self.old.ring.first self.old.ring.entries }
+        ensures number { next_of self.new.ring.first self.new.ring.entries
+            ≡ next_of self.old.ring.first self.old.ring.entries }
         ensures ended { self.new.ended ≡ self.old.ended }
     {
         self.ring.pop_texts(count, len);

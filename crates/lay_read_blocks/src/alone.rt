@@ -27,7 +27,9 @@ impl<
 > BlockRules<P, B, I> {
     /// A statement that ends by itself, or behind which no token stands. It stands one level deeper than what is around it.
     pub fn deeper_stmt(&self, at: &mut Ahead<'_>) -> Result<Found<Stmt>, ReadNone>
-        requires { AreCode self.now.depth (P.pre self.now.exprs) (P.post self.now.exprs) (B.pre self.now.blocks) (B.post self.now.blocks) (I.pre self.now.items) (I.post self.now.items) }
+        requires { AreCode self.now.depth (P.pre self.now.exprs) (P.post self.now.exprs)
+            (B.pre self.now.blocks) (B.post self.now.blocks) (I.pre self.now.items)
+            (I.post self.now.items) }
         ensures read { IsFound (deeper_stmt (code_within self.now.depth) at.old) result at.new }
         ensures within { IfOk result (λ found. found.need ≤ self.now.depth + 1) }
     {
@@ -44,8 +46,11 @@ impl<
     /// An arm with its comma, if it has one, unless it is deeper than may be. It stands one level deeper than what is around
     /// it.
     pub fn deeper_arm(&self, at: &mut Ahead<'_>) -> Result<Found<Arm>, ReadNone>
-        requires { AreCode self.now.depth (P.pre self.now.exprs) (P.post self.now.exprs) (B.pre self.now.blocks) (B.post self.now.blocks) (I.pre self.now.items) (I.post self.now.items) }
-        ensures read { IsFound (deeper_arm (code_within self.now.depth) self.now.depth at.old) result at.new }
+        requires { AreCode self.now.depth (P.pre self.now.exprs) (P.post self.now.exprs)
+            (B.pre self.now.blocks) (B.post self.now.blocks) (I.pre self.now.items)
+            (I.post self.now.items) }
+        ensures read { IsFound (deeper_arm (code_within self.now.depth) self.now.depth at.old)
+            result at.new }
         ensures within { IfOk result (λ found. found.need ≤ self.now.depth + 1) }
     {
         let Found { node, need } = self.arm_begun(at)?;

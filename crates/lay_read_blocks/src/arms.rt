@@ -51,7 +51,8 @@ fn takes_arm_end(at: &mut Ahead<'_>, free: bool) -> bool
 fn body_of(found: Found<Boxed<Expr>>) -> Found<Boxed<Expr>>
     requires { found.need + 1 < 2 ^ 32 }
     ensures node { (turns : ℕ) × IsBare turns found.node result.node }
-    ensures need { result.need ≡ reader.body_need (is_lone_body (about_expr found.node).kind) found.need }
+    ensures need { result.need ≡ reader.body_need
+        (is_lone_body (about_expr found.node).kind) found.need }
 {
     let need = if is_lone_body(found.node.get()) {
         found.need
@@ -72,7 +73,9 @@ impl<
     /// What stands behind an `=>`, and whether the arm may lack its comma by that.
     #[inline(never)]
     fn body_begun(&self, at: &mut Ahead<'_>) -> Result<Found<(Boxed<Expr>, bool)>, ReadNone>
-        requires { AreCode self.now.depth (P.pre self.now.exprs) (P.post self.now.exprs) (B.pre self.now.blocks) (B.post self.now.blocks) (I.pre self.now.items) (I.post self.now.items) }
+        requires { AreCode self.now.depth (P.pre self.now.exprs) (P.post self.now.exprs)
+            (B.pre self.now.blocks) (B.post self.now.blocks) (I.pre self.now.items)
+            (I.post self.now.items) }
         ensures read { IsFound (body_begun (code_within self.now.depth) at.old) result at.new }
         ensures within { IfOk result (λ found. found.need ≤ self.now.depth + 1) }
     {
@@ -88,8 +91,11 @@ impl<
     /// A guard, if one stands there.
     #[inline(never)]
     fn guard_if(&self, at: &mut Ahead<'_>) -> Result<Found<Option<Boxed<Expr>>>, ReadNone>
-        requires { AreCode self.now.depth (P.pre self.now.exprs) (P.post self.now.exprs) (B.pre self.now.blocks) (B.post self.now.blocks) (I.pre self.now.items) (I.post self.now.items) }
-        ensures read { IsFound (if_read (first (is_keyword (codes "if")) at.old) (λ us. expr_at free self.now.depth (tail us)) at.old) result at.new }
+        requires { AreCode self.now.depth (P.pre self.now.exprs) (P.post self.now.exprs)
+            (B.pre self.now.blocks) (B.post self.now.blocks) (I.pre self.now.items)
+            (I.post self.now.items) }
+        ensures read { IsFound (if_read (first (is_keyword (codes "if")) at.old)
+            (λ us. expr_at free self.now.depth (tail us)) at.old) result at.new }
         ensures within { IfOk result (λ found. found.need ≤ self.now.depth) }
     {
         if !takes_keyword(at, b"if") {
@@ -109,7 +115,9 @@ impl<
     #[tactic(auto, using(lay_alone::proofs::ArmBegun::arm_by_is))]
     #[inline(never)]
     fn arm_by(&self, at: &mut Ahead<'_>, _depth: u32) -> Result<Found<Arm>, ReadNone>
-        requires { AreCode self.now.depth (P.pre self.now.exprs) (P.post self.now.exprs) (B.pre self.now.blocks) (B.post self.now.blocks) (I.pre self.now.items) (I.post self.now.items) }
+        requires { AreCode self.now.depth (P.pre self.now.exprs) (P.post self.now.exprs)
+            (B.pre self.now.blocks) (B.post self.now.blocks) (I.pre self.now.items)
+            (I.post self.now.items) }
         ensures read { IsFound (reader.arm_by (code_within self.now.depth) at.old) result at.new }
         ensures within { IfOk result (λ found. found.need ≤ self.now.depth + 1) }
     {
@@ -125,7 +133,9 @@ impl<
     #[tactic(auto, unfolding(lay_alone::specs::ArmFronts::arm_begun))]
     #[inline(never)]
     pub fn arm_begun(&self, at: &mut Ahead<'_>) -> Result<Found<(Arm, bool)>, ReadNone>
-        requires { AreCode self.now.depth (P.pre self.now.exprs) (P.post self.now.exprs) (B.pre self.now.blocks) (B.post self.now.blocks) (I.pre self.now.items) (I.post self.now.items) }
+        requires { AreCode self.now.depth (P.pre self.now.exprs) (P.post self.now.exprs)
+            (B.pre self.now.blocks) (B.post self.now.blocks) (I.pre self.now.items)
+            (I.post self.now.items) }
         ensures read { IsFound (arm_begun (code_within self.now.depth) at.old) result at.new }
         ensures within { IfOk result (λ found. found.need ≤ self.now.depth + 1) }
     {
@@ -147,10 +157,13 @@ impl<
         pat: Found<Pat>,
         guard: Found<Option<Boxed<Expr>>>,
     ) -> Result<Found<(Arm, bool)>, ReadNone>
-        requires code { AreCode self.now.depth (P.pre self.now.exprs) (P.post self.now.exprs) (B.pre self.now.blocks) (B.post self.now.blocks) (I.pre self.now.items) (I.post self.now.items) }
+        requires code { AreCode self.now.depth (P.pre self.now.exprs) (P.post self.now.exprs)
+            (B.pre self.now.blocks) (B.post self.now.blocks) (I.pre self.now.items)
+            (I.post self.now.items) }
         requires pat { pat.need ≤ self.now.depth }
         requires guard { guard.need ≤ self.now.depth }
-        ensures read { IsFound (arm_behind (code_within self.now.depth) attrs (pat.node, pat.need) (guard.node, guard.need) at.old) result at.new }
+        ensures read { IsFound (arm_behind (code_within self.now.depth) attrs (pat.node, pat.need)
+            (guard.node, guard.need) at.old) result at.new }
         ensures within { IfOk result (λ found. found.need ≤ self.now.depth + 1) }
     {
         if !at.op_is(b"=>") {
@@ -177,8 +190,11 @@ impl<
     #[tactic(auto, unfolding(lay_code::specs::reader::Exprs::match_expr), using(lay_read_shared::proofs::Left::arm_leaves))]
     #[inline(never)]
     pub fn match_expr(&self, at: &mut Ahead<'_>) -> Result<Found<Boxed<Expr>>, ReadNone>
-        requires { AreCode self.now.depth (P.pre self.now.exprs) (P.post self.now.exprs) (B.pre self.now.blocks) (B.post self.now.blocks) (I.pre self.now.items) (I.post self.now.items) }
-        ensures read { IsFound (fits (self.now.depth + 1) (exprs.match_expr (code_within self.now.depth) at.old)) result at.new }
+        requires { AreCode self.now.depth (P.pre self.now.exprs) (P.post self.now.exprs)
+            (B.pre self.now.blocks) (B.post self.now.blocks) (I.pre self.now.items)
+            (I.post self.now.items) }
+        ensures read { IsFound (fits (self.now.depth + 1)
+            (exprs.match_expr (code_within self.now.depth) at.old)) result at.new }
         ensures within { IfOk result (λ found. found.need ≤ self.now.depth + 1) }
     {
         let scrutinee = self.expr(at, plain(0, true))?;

@@ -37,7 +37,9 @@ impl<
     #[tactic(auto, unfolding(lay_code::specs::reader::Blocks::block_by))]
     #[inline(never)]
     pub fn block_by(&self, at: &mut Ahead<'_>) -> Result<Found<Block>, ReadNone>
-        requires { AreCode self.now.depth (P.pre self.now.exprs) (P.post self.now.exprs) (B.pre self.now.blocks) (B.post self.now.blocks) (I.pre self.now.items) (I.post self.now.items) }
+        requires { AreCode self.now.depth (P.pre self.now.exprs) (P.post self.now.exprs)
+            (B.pre self.now.blocks) (B.post self.now.blocks) (I.pre self.now.items)
+            (I.post self.now.items) }
         ensures read { IsFound (reader.block_by (code_within self.now.depth) at.old) result at.new }
         ensures within { IfOk result (λ found. found.need ≤ self.now.depth) }
     {
@@ -62,8 +64,11 @@ impl<
     /// A block that stands one level deeper than what is around it.
     #[inline(never)]
     pub fn deeper_block(&self, at: &mut Ahead<'_>) -> Result<Found<Block>, ReadNone>
-        requires { AreCode self.now.depth (P.pre self.now.exprs) (P.post self.now.exprs) (B.pre self.now.blocks) (B.post self.now.blocks) (I.pre self.now.items) (I.post self.now.items) }
-        ensures read { IsFound (code.deeper_block (code_within self.now.depth) at.old) result at.new }
+        requires { AreCode self.now.depth (P.pre self.now.exprs) (P.post self.now.exprs)
+            (B.pre self.now.blocks) (B.post self.now.blocks) (I.pre self.now.items)
+            (I.post self.now.items) }
+        ensures read { IsFound (code.deeper_block (code_within self.now.depth) at.old) result
+            at.new }
         ensures within { IfOk result (λ found. found.need ≤ self.now.depth + 1) }
     {
         let found = self.block_by(at)?;
@@ -76,7 +81,9 @@ impl<
     /// The body of a function, or the `;` where it has none.
     #[inline(never)]
     pub fn fn_body(&self, at: &mut Ahead<'_>) -> Result<Found<Option<Block>>, ReadNone>
-        requires { AreCode self.now.depth (P.pre self.now.exprs) (P.post self.now.exprs) (B.pre self.now.blocks) (B.post self.now.blocks) (I.pre self.now.items) (I.post self.now.items) }
+        requires { AreCode self.now.depth (P.pre self.now.exprs) (P.post self.now.exprs)
+            (B.pre self.now.blocks) (B.post self.now.blocks) (I.pre self.now.items)
+            (I.post self.now.items) }
         ensures read { IsFound (body_if (code_within self.now.depth) at.old) result at.new }
         ensures within { IfOk result (λ found. found.need ≤ self.now.depth) }
     {
@@ -100,8 +107,11 @@ impl<
     #[tactic(auto, using(lay_read_shared::proofs::Left::stmt_leaves))]
     #[inline(never)]
     fn stmts(&self, at: &mut Ahead<'_>) -> Result<Found<List<Stmt>>, ReadNone>
-        requires { AreCode self.now.depth (P.pre self.now.exprs) (P.post self.now.exprs) (B.pre self.now.blocks) (B.post self.now.blocks) (I.pre self.now.items) (I.post self.now.items) }
-        ensures read { IsHeld AreFound (repeat more_items (reader.stmt_in_block (code_within self.now.depth)) at.old) result at.new }
+        requires { AreCode self.now.depth (P.pre self.now.exprs) (P.post self.now.exprs)
+            (B.pre self.now.blocks) (B.post self.now.blocks) (I.pre self.now.items)
+            (I.post self.now.items) }
+        ensures read { IsHeld AreFound (repeat more_items
+            (reader.stmt_in_block (code_within self.now.depth)) at.old) result at.new }
         ensures within { IfOk result (λ found. found.need ≤ self.now.depth) }
     {
         read_parts::<Stmts, BlockRules<P, B, I>, Stmt, (), _>(
@@ -118,8 +128,11 @@ impl<
     /// A statement of a block, and the `;` behind it. One that doesn't end by itself is the last.
     #[inline(never)]
     fn stmt_in_block(&self, at: &mut Ahead<'_>, _place: ()) -> Result<Found<Stmt>, ReadNone>
-        requires { AreCode self.now.depth (P.pre self.now.exprs) (P.post self.now.exprs) (B.pre self.now.blocks) (B.post self.now.blocks) (I.pre self.now.items) (I.post self.now.items) }
-        ensures read { IsFound (reader.stmt_in_block (code_within self.now.depth) at.old) result at.new }
+        requires { AreCode self.now.depth (P.pre self.now.exprs) (P.post self.now.exprs)
+            (B.pre self.now.blocks) (B.post self.now.blocks) (I.pre self.now.items)
+            (I.post self.now.items) }
+        ensures read { IsFound (reader.stmt_in_block (code_within self.now.depth) at.old) result
+            at.new }
         ensures within { IfOk result (λ found. found.need ≤ self.now.depth) }
     {
         let found = self.stmt_by(at)?;

@@ -54,8 +54,11 @@ impl<
     #[tactic(auto, unfolding(lay_code::specs::reader::Blocks::branch_by))]
     #[inline(never)]
     pub fn branch_by(&self, at: &mut Ahead<'_>) -> Result<Found<Branch>, ReadNone>
-        requires { AreCode self.now.depth (P.pre self.now.exprs) (P.post self.now.exprs) (B.pre self.now.blocks) (B.post self.now.blocks) (I.pre self.now.items) (I.post self.now.items) }
-        ensures read { IsFound (reader.branch_by (code_within self.now.depth) at.old) result at.new }
+        requires { AreCode self.now.depth (P.pre self.now.exprs) (P.post self.now.exprs)
+            (B.pre self.now.blocks) (B.post self.now.blocks) (I.pre self.now.items)
+            (I.post self.now.items) }
+        ensures read { IsFound (reader.branch_by (code_within self.now.depth) at.old) result
+            at.new }
         ensures within { IfOk result (λ found. found.need ≤ self.now.depth) }
     {
         let condition = self.condition_by(at)?;
@@ -72,8 +75,11 @@ impl<
     /// A branch behind its `else if`.
     #[inline(never)]
     fn else_branch(&self, at: &mut Ahead<'_>, _place: ()) -> Result<Found<Branch>, ReadNone>
-        requires { AreCode self.now.depth (P.pre self.now.exprs) (P.post self.now.exprs) (B.pre self.now.blocks) (B.post self.now.blocks) (I.pre self.now.items) (I.post self.now.items) }
-        ensures read { IsFound (reader.branch_by (code_within self.now.depth) (drop 2 at.old)) result at.new }
+        requires { AreCode self.now.depth (P.pre self.now.exprs) (P.post self.now.exprs)
+            (B.pre self.now.blocks) (B.post self.now.blocks) (I.pre self.now.items)
+            (I.post self.now.items) }
+        ensures read { IsFound (reader.branch_by (code_within self.now.depth) (drop 2 at.old))
+            result at.new }
         ensures within { IfOk result (λ found. found.need ≤ self.now.depth) }
     {
         pass_two(at);
@@ -83,8 +89,11 @@ impl<
     /// The block behind an `else`, if one stands there. It is as deep as those of the branches.
     #[inline(never)]
     fn otherwise(&self, at: &mut Ahead<'_>) -> Result<Found<Option<Block>>, ReadNone>
-        requires { AreCode self.now.depth (P.pre self.now.exprs) (P.post self.now.exprs) (B.pre self.now.blocks) (B.post self.now.blocks) (I.pre self.now.items) (I.post self.now.items) }
-        ensures read { IsFound (if_read (first (is_keyword (codes "else")) at.old) (λ us. reader.block_by (code_within self.now.depth) (tail us)) at.old) result at.new }
+        requires { AreCode self.now.depth (P.pre self.now.exprs) (P.post self.now.exprs)
+            (B.pre self.now.blocks) (B.post self.now.blocks) (I.pre self.now.items)
+            (I.post self.now.items) }
+        ensures read { IsFound (if_read (first (is_keyword (codes "else")) at.old)
+            (λ us. reader.block_by (code_within self.now.depth) (tail us)) at.old) result at.new }
         ensures within { IfOk result (λ found. found.need ≤ self.now.depth) }
     {
         if !takes_keyword(at, b"else") {
@@ -103,7 +112,9 @@ impl<
     /// What stands behind an `if`, and the branches behind `else if`.
     #[inline(never)]
     fn branches(&self, at: &mut Ahead<'_>) -> Result<Found<List<Branch>>, ReadNone>
-        requires { AreCode self.now.depth (P.pre self.now.exprs) (P.post self.now.exprs) (B.pre self.now.blocks) (B.post self.now.blocks) (I.pre self.now.items) (I.post self.now.items) }
+        requires { AreCode self.now.depth (P.pre self.now.exprs) (P.post self.now.exprs)
+            (B.pre self.now.blocks) (B.post self.now.blocks) (I.pre self.now.items)
+            (I.post self.now.items) }
         ensures read { IsFound (branches (code_within self.now.depth) at.old) result at.new }
         ensures within { IfOk result (λ found. found.need ≤ self.now.depth) }
     {
@@ -120,8 +131,12 @@ impl<
     #[tactic(auto, using(lay_read_shared::proofs::Left::branch_leaves))]
     #[inline(never)]
     fn else_branches(&self, at: &mut Ahead<'_>) -> Result<Found<List<Branch>>, ReadNone>
-        requires { AreCode self.now.depth (P.pre self.now.exprs) (P.post self.now.exprs) (B.pre self.now.blocks) (B.post self.now.blocks) (I.pre self.now.items) (I.post self.now.items) }
-        ensures read { IsHeld AreFound (repeat exprs.begins_else_if (λ us. reader.branch_by (code_within self.now.depth) (drop 2 us)) at.old) result at.new }
+        requires { AreCode self.now.depth (P.pre self.now.exprs) (P.post self.now.exprs)
+            (B.pre self.now.blocks) (B.post self.now.blocks) (I.pre self.now.items)
+            (I.post self.now.items) }
+        ensures read { IsHeld AreFound (repeat exprs.begins_else_if
+            (λ us. reader.branch_by (code_within self.now.depth) (drop 2 us)) at.old) result
+            at.new }
         ensures within { IfOk result (λ found. found.need ≤ self.now.depth) }
     {
         read_parts::<Branches, BlockRules<P, B, I>, Branch, (), _>(
@@ -139,7 +154,9 @@ impl<
     #[tactic(auto, using(crate::proofs::Chains::if_is))]
     #[inline(never)]
     pub fn if_expr(&self, at: &mut Ahead<'_>) -> Result<Found<Boxed<Expr>>, ReadNone>
-        requires { AreCode self.now.depth (P.pre self.now.exprs) (P.post self.now.exprs) (B.pre self.now.blocks) (B.post self.now.blocks) (I.pre self.now.items) (I.post self.now.items) }
+        requires { AreCode self.now.depth (P.pre self.now.exprs) (P.post self.now.exprs)
+            (B.pre self.now.blocks) (B.post self.now.blocks) (I.pre self.now.items)
+            (I.post self.now.items) }
         ensures read { IsFound (exprs.if_expr (code_within self.now.depth) at.old) result at.new }
         ensures within { IfOk result (λ found. found.need ≤ self.now.depth + 1) }
     {
@@ -163,8 +180,11 @@ impl<
         at: &mut Ahead<'_>,
         label: Option<Lifetime>,
     ) -> Result<Found<Boxed<Expr>>, ReadNone>
-        requires { AreCode self.now.depth (P.pre self.now.exprs) (P.post self.now.exprs) (B.pre self.now.blocks) (B.post self.now.blocks) (I.pre self.now.items) (I.post self.now.items) }
-        ensures read { IsFound (exprs.while_expr (code_within self.now.depth) label at.old) result at.new }
+        requires { AreCode self.now.depth (P.pre self.now.exprs) (P.post self.now.exprs)
+            (B.pre self.now.blocks) (B.post self.now.blocks) (I.pre self.now.items)
+            (I.post self.now.items) }
+        ensures read { IsFound (exprs.while_expr (code_within self.now.depth) label at.old) result
+            at.new }
         ensures within { IfOk result (λ found. found.need ≤ self.now.depth + 1) }
     {
         let (label, found) = both(label, self.branch_by(at))?;
@@ -189,8 +209,11 @@ impl<
         at: &mut Ahead<'_>,
         label: Option<Lifetime>,
     ) -> Result<Found<Boxed<Expr>>, ReadNone>
-        requires { AreCode self.now.depth (P.pre self.now.exprs) (P.post self.now.exprs) (B.pre self.now.blocks) (B.post self.now.blocks) (I.pre self.now.items) (I.post self.now.items) }
-        ensures read { IsFound (exprs.for_expr (code_within self.now.depth) label at.old) result at.new }
+        requires { AreCode self.now.depth (P.pre self.now.exprs) (P.post self.now.exprs)
+            (B.pre self.now.blocks) (B.post self.now.blocks) (I.pre self.now.items)
+            (I.post self.now.items) }
+        ensures read { IsFound (exprs.for_expr (code_within self.now.depth) label at.old) result
+            at.new }
         ensures within { IfOk result (λ found. found.need ≤ self.now.depth + 1) }
     {
         let (label, pat) = both(

@@ -33,7 +33,8 @@ use std::alloc::Global;
 fn closure_body_of(found: Found<Boxed<Expr>>, no_struct: bool) -> Found<Boxed<Expr>>
     requires { found.need + 1 < 2 ^ 32 }
     ensures node { (turns : ℕ) × IsShed no_struct turns found.node result.node }
-    ensures need { result.need ≡ body_need (sheds (about_expr found.node).kind no_struct) found.need }
+    ensures need { result.need ≡ body_need (sheds
+        (about_expr found.node).kind no_struct) found.need }
 {
     let need = if sheds(found.node.get(), no_struct) {
         found.need
@@ -62,8 +63,11 @@ impl<
     #[tactic(auto, unfolding(lay_code::specs::reader::Exprs::closure_param))]
     #[inline(never)]
     fn closure_param(&self, at: &mut Ahead<'_>, _place: ()) -> Result<Found<ClosureParam>, ReadNone>
-        requires { AreCode self.now.depth (P.pre self.now.exprs) (P.post self.now.exprs) (B.pre self.now.blocks) (B.post self.now.blocks) (I.pre self.now.items) (I.post self.now.items) }
-        ensures read { IsFound (exprs.closure_param (code_within self.now.depth) at.old) result at.new }
+        requires { AreCode self.now.depth (P.pre self.now.exprs) (P.post self.now.exprs)
+            (B.pre self.now.blocks) (B.post self.now.blocks) (I.pre self.now.items)
+            (I.post self.now.items) }
+        ensures read { IsFound (exprs.closure_param (code_within self.now.depth) at.old) result
+            at.new }
         ensures within { IfOk result (λ found. found.need ≤ self.now.depth) }
     {
         let attrs = attrs_ahead(self.alloc, at, false)?;
@@ -86,8 +90,11 @@ impl<
     #[tactic(auto, using(lay_read_shared::proofs::Left::param_leaves))]
     #[inline(never)]
     fn params(&self, at: &mut Ahead<'_>) -> Result<Found<List<ClosureParam>>, ReadNone>
-        requires { AreCode self.now.depth (P.pre self.now.exprs) (P.post self.now.exprs) (B.pre self.now.blocks) (B.post self.now.blocks) (I.pre self.now.items) (I.post self.now.items) }
-        ensures read { IsHeld AreFound (elements (is_mark (codes "|")) (exprs.closure_param (code_within self.now.depth)) at.old) result at.new }
+        requires { AreCode self.now.depth (P.pre self.now.exprs) (P.post self.now.exprs)
+            (B.pre self.now.blocks) (B.post self.now.blocks) (I.pre self.now.items)
+            (I.post self.now.items) }
+        ensures read { IsHeld AreFound (elements (is_mark (codes "|"))
+            (exprs.closure_param (code_within self.now.depth)) at.old) result at.new }
         ensures within { IfOk result (λ found. found.need ≤ self.now.depth) }
     {
         read_elements::<Params, BlockRules<P, B, I>, ClosureParam, (), _>(
@@ -109,8 +116,11 @@ impl<
         at: &mut Ahead<'_>,
         no_struct: bool,
     ) -> Result<Found<Boxed<Expr>>, ReadNone>
-        requires { AreCode self.now.depth (P.pre self.now.exprs) (P.post self.now.exprs) (B.pre self.now.blocks) (B.post self.now.blocks) (I.pre self.now.items) (I.post self.now.items) }
-        ensures read { IsFound (fits (self.now.depth + 1) (exprs.closure_expr (code_within self.now.depth) no_struct at.old)) result at.new }
+        requires { AreCode self.now.depth (P.pre self.now.exprs) (P.post self.now.exprs)
+            (B.pre self.now.blocks) (B.post self.now.blocks) (I.pre self.now.items)
+            (I.post self.now.items) }
+        ensures read { IsFound (fits (self.now.depth + 1)
+            (exprs.closure_expr (code_within self.now.depth) no_struct at.old)) result at.new }
         ensures within { IfOk result (λ found. found.need ≤ self.now.depth + 1) }
     {
         let is_async = takes_keyword(at, b"async");
@@ -132,9 +142,12 @@ impl<
         moves: bool,
         params: Found<List<ClosureParam>>,
     ) -> Result<Found<Boxed<Expr>>, ReadNone>
-        requires code { AreCode self.now.depth (P.pre self.now.exprs) (P.post self.now.exprs) (B.pre self.now.blocks) (B.post self.now.blocks) (I.pre self.now.items) (I.post self.now.items) }
+        requires code { AreCode self.now.depth (P.pre self.now.exprs) (P.post self.now.exprs)
+            (B.pre self.now.blocks) (B.post self.now.blocks) (I.pre self.now.items)
+            (I.post self.now.items) }
         requires within { params.need ≤ self.now.depth }
-        ensures read { IsFound (fits (self.now.depth + 1) (exprs.closure_body (code_within self.now.depth) no_struct is_async moves params.node params.need at.old)) result at.new }
+        ensures read { IsFound (fits (self.now.depth + 1)
+            (exprs.closure_body (code_within self.now.depth) no_struct is_async moves params.node params.need at.old)) result at.new }
         ensures within { IfOk result (λ found. found.need ≤ self.now.depth + 1) }
     {
         if at.op_is(b"->") {
@@ -166,9 +179,13 @@ impl<
         moves: bool,
         params: Found<List<ClosureParam>>,
     ) -> Result<Found<Boxed<Expr>>, ReadNone>
-        requires code { AreCode self.now.depth (P.pre self.now.exprs) (P.post self.now.exprs) (B.pre self.now.blocks) (B.post self.now.blocks) (I.pre self.now.items) (I.post self.now.items) }
+        requires code { AreCode self.now.depth (P.pre self.now.exprs) (P.post self.now.exprs)
+            (B.pre self.now.blocks) (B.post self.now.blocks) (I.pre self.now.items)
+            (I.post self.now.items) }
         requires within { params.need ≤ self.now.depth }
-        ensures read { IsFound (typed_closure (code_within self.now.depth) is_async moves params.node params.need at.old) result at.new }
+        ensures read { IsFound (typed_closure
+            (code_within self.now.depth) is_async moves params.node params.need at.old) result
+            at.new }
         ensures within { IfOk result (λ found. found.need ≤ self.now.depth + 1) }
     {
         pass_two(at);

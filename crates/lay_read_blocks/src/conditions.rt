@@ -47,7 +47,8 @@ fn begins_dots(at: &Ahead<'_>) -> bool
 
 /// Whether a link may end where the tokens ahead stand.
 fn link_ends(at: &Ahead<'_>, expr: &Expr) -> bool
-    ensures { result ≡ (if reader.begins_link at.now then stands (about_expr expr.now) (link_place true) else true) }
+    ensures { result ≡ (if reader.begins_link at.now then stands (about_expr expr.now)
+        (link_place true) else true) }
 {
     strength(at) != 4 || stands(expr, link_place(true))
 }
@@ -117,7 +118,8 @@ fn chain_of(
     more: Found<List<(Option<Pat>, Boxed<Expr>)>>,
 ) -> Result<Found<Boxed<Expr>>, ReadNone>
     requires { max first.need more.need + 1 < 2 ^ 32 }
-    ensures made { IfOk result (λ found. (found.node, found.need) ≡ chain_found first.node first.need more.node more.need) }
+    ensures made { IfOk result (λ found. (found.node, found.need)
+        ≡ chain_found first.node first.need more.node more.need) }
     ensures err { IfErr result (λ none. none ≡ ReadNone.NoMemory) }
 {
     let Found { node: read, need } = first;
@@ -160,7 +162,9 @@ impl<
     #[tactic(auto, unfolding(lay_code::specs::reader::Conditions::let_link))]
     #[inline(never)]
     fn let_link(&self, at: &mut Ahead<'_>) -> Result<Found<(Option<Pat>, Boxed<Expr>)>, ReadNone>
-        requires { AreCode self.now.depth (P.pre self.now.exprs) (P.post self.now.exprs) (B.pre self.now.blocks) (B.post self.now.blocks) (I.pre self.now.items) (I.post self.now.items) }
+        requires { AreCode self.now.depth (P.pre self.now.exprs) (P.post self.now.exprs)
+            (B.pre self.now.blocks) (B.post self.now.blocks) (I.pre self.now.items)
+            (I.post self.now.items) }
         ensures read { IsFound (reader.let_link (code_within self.now.depth) at.old) result at.new }
         ensures within { IfOk result (λ found. found.need ≤ self.now.depth) }
     {
@@ -178,7 +182,9 @@ impl<
     /// A link, whatever follows it.
     #[inline(never)]
     fn link_by(&self, at: &mut Ahead<'_>) -> Result<Found<(Option<Pat>, Boxed<Expr>)>, ReadNone>
-        requires { AreCode self.now.depth (P.pre self.now.exprs) (P.post self.now.exprs) (B.pre self.now.blocks) (B.post self.now.blocks) (I.pre self.now.items) (I.post self.now.items) }
+        requires { AreCode self.now.depth (P.pre self.now.exprs) (P.post self.now.exprs)
+            (B.pre self.now.blocks) (B.post self.now.blocks) (I.pre self.now.items)
+            (I.post self.now.items) }
         ensures read { IsFound (reader.link_by (code_within self.now.depth) at.old) result at.new }
         ensures within { IfOk result (λ found. found.need ≤ self.now.depth) }
     {
@@ -196,7 +202,9 @@ impl<
     #[tactic(auto, unfolding(lay_code::specs::reader::Conditions::one_link))]
     #[inline(never)]
     fn one_link(&self, at: &mut Ahead<'_>) -> Result<Found<(Option<Pat>, Boxed<Expr>)>, ReadNone>
-        requires { AreCode self.now.depth (P.pre self.now.exprs) (P.post self.now.exprs) (B.pre self.now.blocks) (B.post self.now.blocks) (I.pre self.now.items) (I.post self.now.items) }
+        requires { AreCode self.now.depth (P.pre self.now.exprs) (P.post self.now.exprs)
+            (B.pre self.now.blocks) (B.post self.now.blocks) (I.pre self.now.items)
+            (I.post self.now.items) }
         ensures read { IsFound (reader.one_link (code_within self.now.depth) at.old) result at.new }
         ensures within { IfOk result (λ found. found.need ≤ self.now.depth) }
     {
@@ -214,8 +222,11 @@ impl<
         at: &mut Ahead<'_>,
         _place: (),
     ) -> Result<Found<(Option<Pat>, Boxed<Expr>)>, ReadNone>
-        requires { AreCode self.now.depth (P.pre self.now.exprs) (P.post self.now.exprs) (B.pre self.now.blocks) (B.post self.now.blocks) (I.pre self.now.items) (I.post self.now.items) }
-        ensures read { IsFound (reader.one_link (code_within self.now.depth) (drop 2 at.old)) result at.new }
+        requires { AreCode self.now.depth (P.pre self.now.exprs) (P.post self.now.exprs)
+            (B.pre self.now.blocks) (B.post self.now.blocks) (I.pre self.now.items)
+            (I.post self.now.items) }
+        ensures read { IsFound (reader.one_link (code_within self.now.depth) (drop 2 at.old)) result
+            at.new }
         ensures within { IfOk result (λ found. found.need ≤ self.now.depth) }
     {
         pass_two(at);
@@ -229,8 +240,11 @@ impl<
         &self,
         at: &mut Ahead<'_>,
     ) -> Result<Found<List<(Option<Pat>, Boxed<Expr>)>>, ReadNone>
-        requires { AreCode self.now.depth (P.pre self.now.exprs) (P.post self.now.exprs) (B.pre self.now.blocks) (B.post self.now.blocks) (I.pre self.now.items) (I.post self.now.items) }
-        ensures read { IsHeld AreFound (reader.further_links (code_within self.now.depth) at.old) result at.new }
+        requires { AreCode self.now.depth (P.pre self.now.exprs) (P.post self.now.exprs)
+            (B.pre self.now.blocks) (B.post self.now.blocks) (I.pre self.now.items)
+            (I.post self.now.items) }
+        ensures read { IsHeld AreFound (reader.further_links (code_within self.now.depth) at.old)
+            result at.new }
         ensures within { IfOk result (λ found. found.need ≤ self.now.depth) }
     {
         read_parts::<Links, BlockRules<P, B, I>, (Option<Pat>, Boxed<Expr>), (), _>(
@@ -252,8 +266,11 @@ impl<
         at: &mut Ahead<'_>,
         lhs: Found<Boxed<Expr>>,
     ) -> Result<Found<Boxed<Expr>>, ReadNone>
-        requires { AreCode self.now.depth (P.pre self.now.exprs) (P.post self.now.exprs) (B.pre self.now.blocks) (B.post self.now.blocks) (I.pre self.now.items) (I.post self.now.items) }
-        ensures read { IsFound ((code_within self.now.depth).goes_on (lhs.node, lhs.need) at.old) result at.new }
+        requires { AreCode self.now.depth (P.pre self.now.exprs) (P.post self.now.exprs)
+            (B.pre self.now.blocks) (B.post self.now.blocks) (I.pre self.now.items)
+            (I.post self.now.items) }
+        ensures read { IsFound ((code_within self.now.depth).goes_on (lhs.node, lhs.need) at.old)
+            result at.new }
         ensures within { IfOk result (λ found. found.need ≤ self.now.depth) }
     {
         if self.depth == 0 {
@@ -275,10 +292,14 @@ impl<
         first: Found<(Option<Pat>, Boxed<Expr>)>,
         more: Found<List<(Option<Pat>, Boxed<Expr>)>>,
     ) -> Result<Found<Condition>, ReadNone>
-        requires deeper { AreCode self.now.depth (P.pre self.now.exprs) (P.post self.now.exprs) (B.pre self.now.blocks) (B.post self.now.blocks) (I.pre self.now.items) (I.post self.now.items) }
+        requires deeper { AreCode self.now.depth (P.pre self.now.exprs) (P.post self.now.exprs)
+            (B.pre self.now.blocks) (B.post self.now.blocks) (I.pre self.now.items)
+            (I.post self.now.items) }
         requires first { first.need ≤ self.now.depth }
         requires more { more.need ≤ self.now.depth }
-        ensures read { IsFound (condition_found (code_within self.now.depth) first.node first.need more.node more.need at.old) result at.new }
+        ensures read { IsFound (condition_found
+            (code_within self.now.depth) first.node first.need more.node more.need at.old) result
+            at.new }
         ensures within { IfOk result (λ found. found.need ≤ self.now.depth) }
     {
         if first.node.0.is_some() || has_let(more.node.as_slice()) {
@@ -300,9 +321,12 @@ impl<
         at: &mut Ahead<'_>,
         first: Found<(Option<Pat>, Boxed<Expr>)>,
     ) -> Result<Found<Condition>, ReadNone>
-        requires deeper { AreCode self.now.depth (P.pre self.now.exprs) (P.post self.now.exprs) (B.pre self.now.blocks) (B.post self.now.blocks) (I.pre self.now.items) (I.post self.now.items) }
+        requires deeper { AreCode self.now.depth (P.pre self.now.exprs) (P.post self.now.exprs)
+            (B.pre self.now.blocks) (B.post self.now.blocks) (I.pre self.now.items)
+            (I.post self.now.items) }
         requires within { first.need ≤ self.now.depth }
-        ensures read { IsFound (condition_behind (code_within self.now.depth) (first.node, first.need) at.old) result at.new }
+        ensures read { IsFound (condition_behind (code_within self.now.depth)
+            (first.node, first.need) at.old) result at.new }
         ensures within { IfOk result (λ found. found.need ≤ self.now.depth) }
     {
         let (first, more) = both(first, self.further_links(at))?;
@@ -313,8 +337,11 @@ impl<
     #[tactic(auto, unfolding(lay_code::specs::reader::Conditions::condition_by))]
     #[inline(never)]
     pub fn condition_by(&self, at: &mut Ahead<'_>) -> Result<Found<Condition>, ReadNone>
-        requires { AreCode self.now.depth (P.pre self.now.exprs) (P.post self.now.exprs) (B.pre self.now.blocks) (B.post self.now.blocks) (I.pre self.now.items) (I.post self.now.items) }
-        ensures read { IsFound (reader.condition_by (code_within self.now.depth) at.old) result at.new }
+        requires { AreCode self.now.depth (P.pre self.now.exprs) (P.post self.now.exprs)
+            (B.pre self.now.blocks) (B.post self.now.blocks) (I.pre self.now.items)
+            (I.post self.now.items) }
+        ensures read { IsFound (reader.condition_by (code_within self.now.depth) at.old) result
+            at.new }
         ensures within { IfOk result (λ found. found.need ≤ self.now.depth) }
     {
         if begins_dots(at) {

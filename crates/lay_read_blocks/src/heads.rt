@@ -30,8 +30,11 @@ impl<
         no_struct: bool,
         lead: ExprLead,
     ) -> Result<Found<Boxed<Expr>>, ReadNone>
-        requires { AreCode self.now.depth (P.pre self.now.exprs) (P.post self.now.exprs) (B.pre self.now.blocks) (B.post self.now.blocks) (I.pre self.now.items) (I.post self.now.items) }
-        ensures read { IsFound (fits (self.now.depth + 1) (block_head (code_within self.now.depth) no_struct lead at.old)) result at.new }
+        requires { AreCode self.now.depth (P.pre self.now.exprs) (P.post self.now.exprs)
+            (B.pre self.now.blocks) (B.post self.now.blocks) (I.pre self.now.items)
+            (I.post self.now.items) }
+        ensures read { IsFound (fits (self.now.depth + 1)
+            (block_head (code_within self.now.depth) no_struct lead at.old)) result at.new }
         ensures within { IfOk result (λ found. found.need ≤ self.now.depth + 1) }
     {
         match lead {
@@ -47,8 +50,11 @@ impl<
     #[tactic(auto, unfolding(lay_code::specs::reader::Exprs::label_expr))]
     #[inline(never)]
     fn label_expr(&self, at: &mut Ahead<'_>) -> Result<Found<Boxed<Expr>>, ReadNone>
-        requires { AreCode self.now.depth (P.pre self.now.exprs) (P.post self.now.exprs) (B.pre self.now.blocks) (B.post self.now.blocks) (I.pre self.now.items) (I.post self.now.items) }
-        ensures read { IsFound (exprs.label_expr (code_within self.now.depth) at.old) result at.new }
+        requires { AreCode self.now.depth (P.pre self.now.exprs) (P.post self.now.exprs)
+            (B.pre self.now.blocks) (B.post self.now.blocks) (I.pre self.now.items)
+            (I.post self.now.items) }
+        ensures read { IsFound (exprs.label_expr (code_within self.now.depth) at.old) result
+            at.new }
         ensures within { IfOk result (λ found. found.need ≤ self.now.depth + 1) }
     {
         let label = read_lifetime(self.alloc, at)?;
@@ -65,8 +71,11 @@ impl<
         at: &mut Ahead<'_>,
         label: Option<Lifetime>,
     ) -> Result<Found<Boxed<Expr>>, ReadNone>
-        requires { AreCode self.now.depth (P.pre self.now.exprs) (P.post self.now.exprs) (B.pre self.now.blocks) (B.post self.now.blocks) (I.pre self.now.items) (I.post self.now.items) }
-        ensures read { IsFound (exprs.labelled_expr (code_within self.now.depth) label at.old) result at.new }
+        requires { AreCode self.now.depth (P.pre self.now.exprs) (P.post self.now.exprs)
+            (B.pre self.now.blocks) (B.post self.now.blocks) (I.pre self.now.items)
+            (I.post self.now.items) }
+        ensures read { IsFound (exprs.labelled_expr (code_within self.now.depth) label at.old)
+            result at.new }
         ensures within { IfOk result (λ found. found.need ≤ self.now.depth + 1) }
     {
         if is_at_opened(at, Delim::Brace) {
@@ -104,8 +113,11 @@ impl<
     #[tactic(auto, unfolding(lay_code::specs::reader::Exprs::block_word_expr))]
     #[inline(never)]
     fn block_word_expr(&self, at: &mut Ahead<'_>) -> Result<Found<Boxed<Expr>>, ReadNone>
-        requires { AreCode self.now.depth (P.pre self.now.exprs) (P.post self.now.exprs) (B.pre self.now.blocks) (B.post self.now.blocks) (I.pre self.now.items) (I.post self.now.items) }
-        ensures read { IsFound (fits (self.now.depth + 1) (exprs.block_word_expr (code_within self.now.depth) at.old)) result at.new }
+        requires { AreCode self.now.depth (P.pre self.now.exprs) (P.post self.now.exprs)
+            (B.pre self.now.blocks) (B.post self.now.blocks) (I.pre self.now.items)
+            (I.post self.now.items) }
+        ensures read { IsFound (fits (self.now.depth + 1)
+            (exprs.block_word_expr (code_within self.now.depth) at.old)) result at.new }
         ensures within { IfOk result (λ found. found.need ≤ self.now.depth + 1) }
     {
         if is_at_keyword(at, b"unsafe")
@@ -120,7 +132,9 @@ impl<
     /// A block behind its `unsafe`, `const` or `async`.
     #[inline(never)]
     fn worded_block(&self, at: &mut Ahead<'_>) -> Result<Found<Boxed<Expr>>, ReadNone>
-        requires { AreCode self.now.depth (P.pre self.now.exprs) (P.post self.now.exprs) (B.pre self.now.blocks) (B.post self.now.blocks) (I.pre self.now.items) (I.post self.now.items) }
+        requires { AreCode self.now.depth (P.pre self.now.exprs) (P.post self.now.exprs)
+            (B.pre self.now.blocks) (B.post self.now.blocks) (I.pre self.now.items)
+            (I.post self.now.items) }
         ensures read { IsFound (worded_block (code_within self.now.depth) at.old) result at.new }
         ensures within { IfOk result (λ found. found.need ≤ self.now.depth + 1) }
     {
@@ -154,8 +168,11 @@ impl<
     /// What begins with `if` or `match`, or is a loop.
     #[inline(always)]
     fn worded(&self, at: &mut Ahead<'_>) -> Result<Found<Boxed<Expr>>, ReadNone>
-        requires { AreCode self.now.depth (P.pre self.now.exprs) (P.post self.now.exprs) (B.pre self.now.blocks) (B.post self.now.blocks) (I.pre self.now.items) (I.post self.now.items) }
-        ensures read { IsFound (fits (self.now.depth + 1) (worded (code_within self.now.depth) at.old)) result at.new }
+        requires { AreCode self.now.depth (P.pre self.now.exprs) (P.post self.now.exprs)
+            (B.pre self.now.blocks) (B.post self.now.blocks) (I.pre self.now.items)
+            (I.post self.now.items) }
+        ensures read { IsFound (fits (self.now.depth + 1)
+            (worded (code_within self.now.depth) at.old)) result at.new }
         ensures within { IfOk result (λ found. found.need ≤ self.now.depth + 1) }
     {
         if takes_keyword(at, b"if") {

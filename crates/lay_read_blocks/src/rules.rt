@@ -33,7 +33,9 @@ impl<
     /// An expression one level deeper, in its box.
     #[inline(never)]
     pub fn expr(&self, at: &mut Ahead<'_>, place: Place) -> Result<Found<Boxed<Expr>>, ReadNone>
-        requires { AreCode self.now.depth (P.pre self.now.exprs) (P.post self.now.exprs) (B.pre self.now.blocks) (B.post self.now.blocks) (I.pre self.now.items) (I.post self.now.items) }
+        requires { AreCode self.now.depth (P.pre self.now.exprs) (P.post self.now.exprs)
+            (B.pre self.now.blocks) (B.post self.now.blocks) (I.pre self.now.items)
+            (I.post self.now.items) }
         ensures read { IsFound (expr_at place self.now.depth at.old) result at.new }
         ensures within { IfOk result (λ found. found.need ≤ self.now.depth) }
     {
@@ -42,8 +44,11 @@ impl<
 
     /// A value behind an `=`, if one stands there.
     pub fn value_if(&self, at: &mut Ahead<'_>) -> Result<Found<Option<Boxed<Expr>>>, ReadNone>
-        requires { AreCode self.now.depth (P.pre self.now.exprs) (P.post self.now.exprs) (B.pre self.now.blocks) (B.post self.now.blocks) (I.pre self.now.items) (I.post self.now.items) }
-        ensures read { IsFound (if_read (is_op (codes "=") at.old) (λ ts. expr_at places.FREE self.now.depth (drop 1 ts)) at.old) result at.new }
+        requires { AreCode self.now.depth (P.pre self.now.exprs) (P.post self.now.exprs)
+            (B.pre self.now.blocks) (B.post self.now.blocks) (I.pre self.now.items)
+            (I.post self.now.items) }
+        ensures read { IsFound (if_read (is_op (codes "=") at.old)
+            (λ ts. expr_at places.FREE self.now.depth (drop 1 ts)) at.old) result at.new }
         ensures within { IfOk result (λ found. found.need ≤ self.now.depth) }
     {
         if !takes_op(at, b"=") {

@@ -91,7 +91,9 @@ impl<
     #[tactic(auto, unfolding(lay_code::specs::reader::Blocks::stmt_by))]
     #[inline(always)]
     pub fn stmt_by(&self, at: &mut Ahead<'_>) -> Result<Found<Stmt>, ReadNone>
-        requires { AreCode self.now.depth (P.pre self.now.exprs) (P.post self.now.exprs) (B.pre self.now.blocks) (B.post self.now.blocks) (I.pre self.now.items) (I.post self.now.items) }
+        requires { AreCode self.now.depth (P.pre self.now.exprs) (P.post self.now.exprs)
+            (B.pre self.now.blocks) (B.post self.now.blocks) (I.pre self.now.items)
+            (I.post self.now.items) }
         ensures read { IsFound (reader.stmt_by (code_within self.now.depth) at.old) result at.new }
         ensures within { IfOk result (λ found. found.need ≤ self.now.depth) }
     {
@@ -110,8 +112,11 @@ impl<
     /// An item, which is no macro call.
     #[inline(never)]
     fn item_stmt(&self, at: &mut Ahead<'_>) -> Result<Found<Stmt>, ReadNone>
-        requires { AreCode self.now.depth (P.pre self.now.exprs) (P.post self.now.exprs) (B.pre self.now.blocks) (B.post self.now.blocks) (I.pre self.now.items) (I.post self.now.items) }
-        ensures read { IsFound (reader.item_stmt (code_within self.now.depth) at.old) result at.new }
+        requires { AreCode self.now.depth (P.pre self.now.exprs) (P.post self.now.exprs)
+            (B.pre self.now.blocks) (B.post self.now.blocks) (I.pre self.now.items)
+            (I.post self.now.items) }
+        ensures read { IsFound (reader.item_stmt (code_within self.now.depth) at.old) result
+            at.new }
         ensures within { IfOk result (λ found. found.need ≤ self.now.depth) }
     {
         let found = (self.items)(self.alloc, at, Site::Module, self.depth)?;
@@ -129,8 +134,11 @@ impl<
     #[tactic(auto, unfolding(lay_code::specs::reader::Blocks::expr_stmt))]
     #[inline(never)]
     fn expr_stmt(&self, at: &mut Ahead<'_>, attrs: List<Attr>) -> Result<Found<Stmt>, ReadNone>
-        requires { AreCode self.now.depth (P.pre self.now.exprs) (P.post self.now.exprs) (B.pre self.now.blocks) (B.post self.now.blocks) (I.pre self.now.items) (I.post self.now.items) }
-        ensures read { IsFound (reader.expr_stmt (code_within self.now.depth) attrs at.old) result at.new }
+        requires { AreCode self.now.depth (P.pre self.now.exprs) (P.post self.now.exprs)
+            (B.pre self.now.blocks) (B.post self.now.blocks) (I.pre self.now.items)
+            (I.post self.now.items) }
+        ensures read { IsFound (reader.expr_stmt (code_within self.now.depth) attrs at.old) result
+            at.new }
         ensures within { IfOk result (λ found. found.need ≤ self.now.depth) }
     {
         let (attrs, found) = both(attrs, self.expr(at, STATEMENT))?;
@@ -149,8 +157,11 @@ impl<
     #[tactic(auto, unfolding(lay_code::specs::reader::Blocks::let_stmt))]
     #[inline(never)]
     fn let_stmt(&self, at: &mut Ahead<'_>, attrs: List<Attr>) -> Result<Found<Stmt>, ReadNone>
-        requires { AreCode self.now.depth (P.pre self.now.exprs) (P.post self.now.exprs) (B.pre self.now.blocks) (B.post self.now.blocks) (I.pre self.now.items) (I.post self.now.items) }
-        ensures read { IsFound (reader.let_stmt (code_within self.now.depth) attrs at.old) result at.new }
+        requires { AreCode self.now.depth (P.pre self.now.exprs) (P.post self.now.exprs)
+            (B.pre self.now.blocks) (B.post self.now.blocks) (I.pre self.now.items)
+            (I.post self.now.items) }
+        ensures read { IsFound (reader.let_stmt (code_within self.now.depth) attrs at.old) result
+            at.new }
         ensures within { IfOk result (λ found. found.need ≤ self.now.depth) }
     {
         match let_head(self.alloc, at, self.depth) {
@@ -169,7 +180,9 @@ impl<
         &self,
         at: &mut Ahead<'_>,
     ) -> Result<Found<(Option<Boxed<Expr>>, Option<Block>)>, ReadNone>
-        requires { AreCode self.now.depth (P.pre self.now.exprs) (P.post self.now.exprs) (B.pre self.now.blocks) (B.post self.now.blocks) (I.pre self.now.items) (I.post self.now.items) }
+        requires { AreCode self.now.depth (P.pre self.now.exprs) (P.post self.now.exprs)
+            (B.pre self.now.blocks) (B.post self.now.blocks) (I.pre self.now.items)
+            (I.post self.now.items) }
         ensures read { IsFound (let_behind (code_within self.now.depth) at.old) result at.new }
         ensures within { IfOk result (λ found. found.need ≤ self.now.depth) }
     {
@@ -187,8 +200,11 @@ impl<
     /// The block behind an `else`, if one stands there.
     #[inline(never)]
     fn else_if(&self, at: &mut Ahead<'_>) -> Result<Found<Option<Block>>, ReadNone>
-        requires { AreCode self.now.depth (P.pre self.now.exprs) (P.post self.now.exprs) (B.pre self.now.blocks) (B.post self.now.blocks) (I.pre self.now.items) (I.post self.now.items) }
-        ensures read { IsFound (if_read (first (is_keyword (codes "else")) at.old) (λ ts. (code_in self.now.depth).blocks (tail ts)) at.old) result at.new }
+        requires { AreCode self.now.depth (P.pre self.now.exprs) (P.post self.now.exprs)
+            (B.pre self.now.blocks) (B.post self.now.blocks) (I.pre self.now.items)
+            (I.post self.now.items) }
+        ensures read { IsFound (if_read (first (is_keyword (codes "else")) at.old)
+            (λ ts. (code_in self.now.depth).blocks (tail ts)) at.old) result at.new }
         ensures within { IfOk result (λ found. found.need ≤ self.now.depth) }
     {
         if !takes_keyword(at, b"else") {

@@ -139,7 +139,8 @@ fn whole_item(item: Boxed<Whole>, need: u32) -> Found<Begun>
 
 /// An extern crate declaration.
 fn begin_extern_crate(alloc: Global, at: &mut Ahead<'_>) -> Result<Found<Begun>, ReadNone>
-    ensures read { IsFound (node_alone whole.ExternCrate (needless heads.extern_crate 0 at.old)) result at.new }
+    ensures read { IsFound (node_alone whole.ExternCrate (needless heads.extern_crate 0 at.old))
+        result at.new }
     ensures within { IfOk result (λ found. found.need ≡ 0) }
 {
     let item = extern_crate_ahead(alloc, at)?;
@@ -211,7 +212,8 @@ fn begin_alias(
     site: Site,
     depth: u32,
 ) -> Result<Found<Begun>, ReadNone>
-    ensures read { IsFound (node_alone whole.Alias (heads.alias site (within depth) at.old)) result at.new }
+    ensures read { IsFound (node_alone whole.Alias (heads.alias site (within depth) at.old)) result
+        at.new }
     ensures within { IfOk result (λ found. found.need ≤ depth) }
 {
     let Found { node, need } = alias_ahead(alloc, at, site, depth)?;
@@ -221,7 +223,8 @@ fn begin_alias(
 
 /// A struct.
 fn begin_struct(alloc: Global, at: &mut Ahead<'_>, depth: u32) -> Result<Found<Begun>, ReadNone>
-    ensures read { IsFound (node_alone whole.Struct (heads.struct (within depth) at.old)) result at.new }
+    ensures read { IsFound (node_alone whole.Struct (heads.struct (within depth) at.old)) result
+        at.new }
     ensures within { IfOk result (λ found. found.need ≤ depth) }
 {
     let Found { node, need } = struct_ahead(alloc, at, depth)?;
@@ -231,7 +234,8 @@ fn begin_struct(alloc: Global, at: &mut Ahead<'_>, depth: u32) -> Result<Found<B
 
 /// A union.
 fn begin_union(alloc: Global, at: &mut Ahead<'_>, depth: u32) -> Result<Found<Begun>, ReadNone>
-    ensures read { IsFound (node_alone whole.Union (heads.union (within depth) at.old)) result at.new }
+    ensures read { IsFound (node_alone whole.Union (heads.union (within depth) at.old)) result
+        at.new }
     ensures within { IfOk result (λ found. found.need ≤ depth) }
 {
     let Found { node, need } = union_ahead(alloc, at, depth)?;
@@ -241,7 +245,8 @@ fn begin_union(alloc: Global, at: &mut Ahead<'_>, depth: u32) -> Result<Found<Be
 
 /// An enumeration.
 fn begin_enum(alloc: Global, at: &mut Ahead<'_>, depth: u32) -> Result<Found<Begun>, ReadNone>
-    ensures read { IsFound (node_alone whole.Enum (heads.enum (within depth) at.old)) result at.new }
+    ensures read { IsFound (node_alone whole.Enum (heads.enum (within depth) at.old)) result
+        at.new }
     ensures within { IfOk result (λ found. found.need ≤ depth) }
 {
     let Found { node, need } = enum_ahead(alloc, at, depth)?;

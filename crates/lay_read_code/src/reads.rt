@@ -24,7 +24,8 @@ pub fn read_expr(
     depth: u32,
 ) -> Result<Expr, ReadNone>
     requires { AreLexed at.old }
-    ensures { IsReadAt depth (λ (x : ExprValue). ExprFront place (about_expr x)) at.old result at.new }
+    ensures { IsReadAt depth (λ (x : ExprValue). ExprFront place (about_expr x)) at.old result
+        at.new }
 {
     let mut ahead = Ahead::new(at.fork());
     let found = expr_ahead(alloc, &mut ahead, place, depth)?;

@@ -53,7 +53,8 @@ impl<P: Fn(Global, &mut Ahead<'_>, Place, u32) -> Result<Found<Boxed<Expr>>, Rea
     ) -> Result<Found<Boxed<Expr>>, ReadNone>
         requires deeper { AreExprs self.now.depth (P.pre self.now.exprs) (P.post self.now.exprs) }
         requires within { lhs.need ≤ self.now.depth }
-        ensures read { IsFound (reader.cast_expr (code_within self.now.depth) (lhs.node, lhs.need) at.old) result at.new }
+        ensures read { IsFound (reader.cast_expr (code_within self.now.depth) (lhs.node, lhs.need)
+            at.old) result at.new }
         ensures within { IfOk result (λ found. found.need ≤ self.now.depth + 1) }
     {
         let (lhs, found) = both(

@@ -66,7 +66,8 @@ pub fn accepted(
     found: Found<Boxed<Expr>>,
     budget: u32,
 ) -> Result<Found<Boxed<Expr>>, ReadNone>
-    ensures read { IsFound (reader.accepted budget place (found.node, found.need) at.now) result at.now }
+    ensures read { IsFound (reader.accepted budget place (found.node, found.need) at.now) result
+        at.now }
     ensures within { IfOk result (λ read. read.need ≤ budget) }
 {
     let passes = stands(found.node.get(), place)
@@ -77,7 +78,8 @@ pub fn accepted(
 
 /// Whether an operator that the place allows goes on, below the level that is reached.
 fn goes_on(at: &Ahead<'_>, place: Place, reached: u8) -> bool
-    ensures { result ≡ (nat_lt place.level (operators.strength at.now) && nat_le (operators.strength at.now) reached) }
+    ensures { result ≡ (nat_lt place.level (operators.strength at.now)
+        && nat_le (operators.strength at.now) reached) }
 {
     let strength = strength(at);
     place.level < strength && strength <= reached
@@ -97,7 +99,8 @@ impl<P: Fn(Global, &mut Ahead<'_>, Place, u32) -> Result<Found<Boxed<Expr>>, Rea
     ) -> Result<Found<Boxed<Expr>>, ReadNone>
         requires deeper { AreExprs self.now.depth (P.pre self.now.exprs) (P.post self.now.exprs) }
         requires level { from ≤ 14 }
-        ensures read { IsFound (climbed (code_within self.now.depth) (self.now.depth + 1) place from (head.node, head.need) at.old) result at.new }
+        ensures read { IsFound (climbed (code_within self.now.depth) (self.now.depth + 1) place from
+            (head.node, head.need) at.old) result at.new }
         ensures within { IfOk result (λ found. found.need ≤ self.now.depth + 1) }
     {
         let mut lhs = head;
@@ -121,7 +124,8 @@ impl<P: Fn(Global, &mut Ahead<'_>, Place, u32) -> Result<Found<Boxed<Expr>>, Rea
     ) -> Result<Found<Boxed<Expr>>, ReadNone>
         requires deeper { AreExprs self.now.depth (P.pre self.now.exprs) (P.post self.now.exprs) }
         requires level { level < 14 }
-        ensures read { IsFound (climb_once (code_within self.now.depth) (self.now.depth + 1) place level (lhs.node, lhs.need) at.old) result at.new }
+        ensures read { IsFound (climb_once (code_within self.now.depth)
+            (self.now.depth + 1) place level (lhs.node, lhs.need) at.old) result at.new }
         ensures within { IfOk result (λ found. found.need ≤ self.now.depth + 1) }
     {
         if lhs.need > self.depth || !stands(lhs.node.get(), left_place(at, place, level)) {
@@ -142,7 +146,8 @@ impl<P: Fn(Global, &mut Ahead<'_>, Place, u32) -> Result<Found<Boxed<Expr>>, Rea
         requires deeper { AreExprs self.now.depth (P.pre self.now.exprs) (P.post self.now.exprs) }
         requires level { level < 14 }
         requires within { lhs.need ≤ self.now.depth }
-        ensures read { IsFound (reader.stage (code_within self.now.depth) level no_struct (lhs.node, lhs.need) at.old) result at.new }
+        ensures read { IsFound (reader.stage (code_within self.now.depth) level no_struct
+            (lhs.node, lhs.need) at.old) result at.new }
         ensures within { IfOk result (λ found. found.need ≤ self.now.depth + 1) }
     {
         match level {

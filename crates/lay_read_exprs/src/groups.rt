@@ -63,7 +63,8 @@ impl<P: Fn(Global, &mut Ahead<'_>, Place, u32) -> Result<Found<Boxed<Expr>>, Rea
         delim: Delim,
     ) -> Result<Found<List<Boxed<Expr>>>, ReadNone>
         requires { AreExprs self.now.depth (P.pre self.now.exprs) (P.post self.now.exprs) }
-        ensures read { IsFound (reader.free_elements (code_within self.now.depth) (closes delim) at.old) result at.new }
+        ensures read { IsFound (reader.free_elements (code_within self.now.depth) (closes delim)
+            at.old) result at.new }
         ensures within { IfOk result (λ found. found.need ≤ self.now.depth) }
     {
         read_elements::<Elements, ExprRules<P>, Boxed<Expr>, Place, _>(
@@ -85,7 +86,8 @@ impl<P: Fn(Global, &mut Ahead<'_>, Place, u32) -> Result<Found<Boxed<Expr>>, Rea
         delim: Delim,
     ) -> Result<Found<List<Expr>>, ReadNone>
         requires { AreExprs self.now.depth (P.pre self.now.exprs) (P.post self.now.exprs) }
-        ensures read { IsFound (reader.free_elements (code_within self.now.depth) (closes delim) at.old) result at.new }
+        ensures read { IsFound (reader.free_elements (code_within self.now.depth) (closes delim)
+            at.old) result at.new }
         ensures within { IfOk result (λ found. found.need ≤ self.now.depth) }
     {
         let found = self.boxed_elements(at, delim)?;
@@ -101,7 +103,8 @@ impl<P: Fn(Global, &mut Ahead<'_>, Place, u32) -> Result<Found<Boxed<Expr>>, Rea
     #[inline(never)]
     pub fn paren_expr(&self, at: &mut Ahead<'_>) -> Result<Found<Boxed<Expr>>, ReadNone>
         requires { AreExprs self.now.depth (P.pre self.now.exprs) (P.post self.now.exprs) }
-        ensures read { IsFound (reader.paren_expr (code_within self.now.depth) at.old) result at.new }
+        ensures read { IsFound (reader.paren_expr (code_within self.now.depth) at.old) result
+            at.new }
         ensures within { IfOk result (λ found. found.need ≤ self.now.depth + 1) }
     {
         if takes_closer(at, Delim::Paren) {
@@ -126,7 +129,8 @@ impl<P: Fn(Global, &mut Ahead<'_>, Place, u32) -> Result<Found<Boxed<Expr>>, Rea
     ) -> Result<Found<Boxed<Expr>>, ReadNone>
         requires deeper { AreExprs self.now.depth (P.pre self.now.exprs) (P.post self.now.exprs) }
         requires within { first.need ≤ self.now.depth }
-        ensures read { IsFound (reader.paren_by (code_within self.now.depth) (first.node, first.need) at.old) result at.new }
+        ensures read { IsFound (reader.paren_by (code_within self.now.depth)
+            (first.node, first.need) at.old) result at.new }
         ensures within { IfOk result (λ found. found.need ≤ self.now.depth + 1) }
     {
         if takes_closer(at, Delim::Paren) {
@@ -153,7 +157,8 @@ impl<P: Fn(Global, &mut Ahead<'_>, Place, u32) -> Result<Found<Boxed<Expr>>, Rea
     #[inline(never)]
     pub fn bracket_expr(&self, at: &mut Ahead<'_>) -> Result<Found<Boxed<Expr>>, ReadNone>
         requires { AreExprs self.now.depth (P.pre self.now.exprs) (P.post self.now.exprs) }
-        ensures read { IsFound (reader.bracket_expr (code_within self.now.depth) at.old) result at.new }
+        ensures read { IsFound (reader.bracket_expr (code_within self.now.depth) at.old) result
+            at.new }
         ensures within { IfOk result (λ found. found.need ≤ self.now.depth + 1) }
     {
         if takes_closer(at, Delim::Bracket) {
@@ -182,7 +187,8 @@ impl<P: Fn(Global, &mut Ahead<'_>, Place, u32) -> Result<Found<Boxed<Expr>>, Rea
     ) -> Result<Found<Boxed<Expr>>, ReadNone>
         requires deeper { AreExprs self.now.depth (P.pre self.now.exprs) (P.post self.now.exprs) }
         requires within { first.need ≤ self.now.depth }
-        ensures read { IsFound (array_by (code_within self.now.depth) (first.node, first.need) at.old) result at.new }
+        ensures read { IsFound (array_by (code_within self.now.depth) (first.node, first.need)
+            at.old) result at.new }
         ensures within { IfOk result (λ found. found.need ≤ self.now.depth + 1) }
     {
         if takes_closer(at, Delim::Bracket) {

@@ -24,7 +24,8 @@ impl<P: Fn(Global, &mut Ahead<'_>, Place, u32) -> Result<Found<Boxed<Expr>>, Rea
         lead: ExprLead,
     ) -> Result<Found<Boxed<Expr>>, ReadNone>
         requires { AreExprs self.now.depth (P.pre self.now.exprs) (P.post self.now.exprs) }
-        ensures read { IsFound (marked (code_within self.now.depth) no_struct lead at.old) result at.new }
+        ensures read { IsFound (marked (code_within self.now.depth) no_struct lead at.old) result
+            at.new }
         ensures within { IfOk result (λ found. found.need ≤ self.now.depth + 1) }
     {
         match lead {

@@ -37,7 +37,8 @@ impl<P: Fn(Global, &mut Ahead<'_>, Place, u32) -> Result<Found<Boxed<Expr>>, Rea
         no_struct: bool,
     ) -> Result<Found<Option<Boxed<Expr>>>, ReadNone>
         requires { AreExprs self.now.depth (P.pre self.now.exprs) (P.post self.now.exprs) }
-        ensures read { IsFound (reader.operand_if (code_within self.now.depth) level no_struct at.old) result at.new }
+        ensures read { IsFound (reader.operand_if (code_within self.now.depth) level no_struct
+            at.old) result at.new }
         ensures within { IfOk result (λ found. found.need ≤ self.now.depth) }
     {
         if !begins_operand(at, no_struct) {
@@ -62,7 +63,8 @@ impl<P: Fn(Global, &mut Ahead<'_>, Place, u32) -> Result<Found<Boxed<Expr>>, Rea
         no_struct: bool,
     ) -> Result<Found<Boxed<Expr>>, ReadNone>
         requires { AreExprs self.now.depth (P.pre self.now.exprs) (P.post self.now.exprs) }
-        ensures read { IsFound (reader.return_expr (code_within self.now.depth) no_struct at.old) result at.new }
+        ensures read { IsFound (reader.return_expr (code_within self.now.depth) no_struct at.old)
+            result at.new }
         ensures within { IfOk result (λ found. found.need ≤ self.now.depth + 1) }
     {
         let found = self.operand_if(at, 0, no_struct)?;
@@ -84,7 +86,8 @@ impl<P: Fn(Global, &mut Ahead<'_>, Place, u32) -> Result<Found<Boxed<Expr>>, Rea
         no_struct: bool,
     ) -> Result<Found<Boxed<Expr>>, ReadNone>
         requires { AreExprs self.now.depth (P.pre self.now.exprs) (P.post self.now.exprs) }
-        ensures read { IsFound (reader.break_expr (code_within self.now.depth) no_struct at.old) result at.new }
+        ensures read { IsFound (reader.break_expr (code_within self.now.depth) no_struct at.old)
+            result at.new }
         ensures within { IfOk result (λ found. found.need ≤ self.now.depth + 1) }
     {
         let label = read_lifetime_if(self.alloc, at)?;

@@ -59,7 +59,8 @@ impl<P: Fn(Global, &mut Ahead<'_>, Place, u32) -> Result<Found<Boxed<Expr>>, Rea
     ) -> Result<Found<List<(Op, Boxed<Expr>)>>, ReadNone>
         requires deeper { AreExprs self.now.depth (P.pre self.now.exprs) (P.post self.now.exprs) }
         requires level { level < 14 }
-        ensures read { IsHeld AreFound (reader.operands (code_within self.now.depth) level no_struct at.old) result at.new }
+        ensures read { IsHeld AreFound (reader.operands (code_within self.now.depth) level no_struct
+            at.old) result at.new }
         ensures within { IfOk result (λ found. found.need ≤ self.now.depth) }
     {
         read_parts::<Operands, ExprRules<P>, (Op, Boxed<Expr>), (u8, bool), _>(
@@ -83,7 +84,8 @@ impl<P: Fn(Global, &mut Ahead<'_>, Place, u32) -> Result<Found<Boxed<Expr>>, Rea
     ) -> Result<Found<(Op, Boxed<Expr>)>, ReadNone>
         requires deeper { AreExprs self.now.depth (P.pre self.now.exprs) (P.post self.now.exprs) }
         requires level { place.0 < 14 }
-        ensures read { IsFound (reader.operand (code_within self.now.depth) place.0 place.1 at.old) result at.new }
+        ensures read { IsFound (reader.operand (code_within self.now.depth) place.0 place.1 at.old)
+            result at.new }
         ensures within { IfOk result (λ found. found.need ≤ self.now.depth) }
     {
         let (level, no_struct) = place;
@@ -115,7 +117,8 @@ impl<P: Fn(Global, &mut Ahead<'_>, Place, u32) -> Result<Found<Boxed<Expr>>, Rea
         requires deeper { AreExprs self.now.depth (P.pre self.now.exprs) (P.post self.now.exprs) }
         requires level { level < 14 }
         requires within { lhs.need ≤ self.now.depth }
-        ensures read { IsFound (reader.chain_expr (code_within self.now.depth) level no_struct (lhs.node, lhs.need) at.old) result at.new }
+        ensures read { IsFound (reader.chain_expr (code_within self.now.depth) level no_struct
+            (lhs.node, lhs.need) at.old) result at.new }
         ensures within { IfOk result (λ found. found.need ≤ self.now.depth + 1) }
     {
         let (lhs, more) = both(lhs, self.operands(at, level, no_struct))?;

@@ -37,7 +37,8 @@ impl<P: Fn(Global, &mut Ahead<'_>, Place, u32) -> Result<Found<Boxed<Expr>>, Rea
         no_struct: bool,
     ) -> Result<Found<Boxed<Expr>>, ReadNone>
         requires { AreExprs self.now.depth (P.pre self.now.exprs) (P.post self.now.exprs) }
-        ensures read { IsFound (path_or_call (code_within self.now.depth) no_struct at.old) result at.new }
+        ensures read { IsFound (path_or_call (code_within self.now.depth) no_struct at.old) result
+            at.new }
         ensures within { IfOk result (λ found. found.need ≤ self.now.depth + 1) }
     {
         if begins_call(self.alloc, at)? {
@@ -52,7 +53,8 @@ impl<P: Fn(Global, &mut Ahead<'_>, Place, u32) -> Result<Found<Boxed<Expr>>, Rea
     #[inline(never)]
     fn path_expr(&self, at: &mut Ahead<'_>, no_struct: bool) -> Result<Found<Boxed<Expr>>, ReadNone>
         requires { AreExprs self.now.depth (P.pre self.now.exprs) (P.post self.now.exprs) }
-        ensures read { IsFound (reader.path_expr (code_within self.now.depth) no_struct at.old) result at.new }
+        ensures read { IsFound (reader.path_expr (code_within self.now.depth) no_struct at.old)
+            result at.new }
         ensures within { IfOk result (λ found. found.need ≤ self.now.depth + 1) }
     {
         let path = path_ahead(self.alloc, at, PathStyle::Code, self.depth)?;

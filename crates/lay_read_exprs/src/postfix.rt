@@ -65,7 +65,8 @@ impl<P: Fn(Global, &mut Ahead<'_>, Place, u32) -> Result<Found<Boxed<Expr>>, Rea
     ) -> Result<Found<Boxed<Expr>>, ReadNone>
         requires deeper { AreExprs self.now.depth (P.pre self.now.exprs) (P.post self.now.exprs) }
         requires within { lhs.need ≤ self.now.depth }
-        ensures read { IsFound (reader.postfix_expr (code_within self.now.depth) (lhs.node, lhs.need) at.old) result at.new }
+        ensures read { IsFound (reader.postfix_expr (code_within self.now.depth)
+            (lhs.node, lhs.need) at.old) result at.new }
         ensures within { IfOk result (λ found. found.need ≤ self.now.depth + 1) }
     {
         if is_number(lhs.node.get()) && begins_tuple_index(at) {
@@ -168,7 +169,8 @@ impl<P: Fn(Global, &mut Ahead<'_>, Place, u32) -> Result<Found<Boxed<Expr>>, Rea
     #[inline(never)]
     fn member(&self, at: &mut Ahead<'_>, name: Name) -> Result<Found<Step>, ReadNone>
         requires { AreExprs self.now.depth (P.pre self.now.exprs) (P.post self.now.exprs) }
-        ensures read { IsFound (reader.member_by (code_within self.now.depth) name at.old) result at.new }
+        ensures read { IsFound (reader.member_by (code_within self.now.depth) name at.old) result
+            at.new }
         ensures within { IfOk result (λ found. found.need ≤ self.now.depth) }
     {
         if is_at_opened(at, Delim::Paren) {
@@ -194,7 +196,8 @@ impl<P: Fn(Global, &mut Ahead<'_>, Place, u32) -> Result<Found<Boxed<Expr>>, Rea
     fn generic_method(&self, at: &mut Ahead<'_>, name: Name) -> Result<Found<Step>, ReadNone>
         requires deeper { AreExprs self.now.depth (P.pre self.now.exprs) (P.post self.now.exprs) }
         requires late { opens_args_late at.old ≡ true }
-        ensures read { IsFound (generic_method (code_within self.now.depth) name at.old) result at.new }
+        ensures read { IsFound (generic_method (code_within self.now.depth) name at.old) result
+            at.new }
         ensures within { IfOk result (λ found. found.need ≤ self.now.depth) }
     {
         let (name, found) = both(name, read_late_args(self.alloc, at, self.depth))?;
@@ -215,7 +218,8 @@ impl<P: Fn(Global, &mut Ahead<'_>, Place, u32) -> Result<Found<Boxed<Expr>>, Rea
     ) -> Result<Found<Step>, ReadNone>
         requires deeper { AreExprs self.now.depth (P.pre self.now.exprs) (P.post self.now.exprs) }
         requires within { generics.need ≤ self.now.depth }
-        ensures read { IsFound (reader.method_by (code_within self.now.depth) name generics.node generics.need at.old) result at.new }
+        ensures read { IsFound (reader.method_by
+            (code_within self.now.depth) name generics.node generics.need at.old) result at.new }
         ensures within { IfOk result (λ found. found.need ≤ self.now.depth) }
     {
         if !takes_opener(at, Delim::Paren) {

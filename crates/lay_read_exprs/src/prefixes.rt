@@ -32,7 +32,8 @@ pub fn pass_tokens(at: &mut Ahead<'_>, count: usize)
 
 /// Operators before an operand, as long as one stands at the front.
 fn read_prefixes(alloc: Global, at: &mut Ahead<'_>) -> Result<List<Prefix>, ReadNone>
-    ensures { IsGot (repeat (λ us. is_some (operators.prefix us)) reader.one_prefix at.old) result at.new }
+    ensures { IsGot (repeat (λ us. is_some (operators.prefix us)) reader.one_prefix at.old) result
+        at.new }
 {
     let mut prefixes = List::new(alloc);
     while let Some(one) = prefix(at) {
@@ -54,7 +55,8 @@ impl<P: Fn(Global, &mut Ahead<'_>, Place, u32) -> Result<Found<Boxed<Expr>>, Rea
         no_struct: bool,
     ) -> Result<Found<Boxed<Expr>>, ReadNone>
         requires { AreExprs self.now.depth (P.pre self.now.exprs) (P.post self.now.exprs) }
-        ensures read { IsFound (reader.unary_expr (code_within self.now.depth) no_struct at.old) result at.new }
+        ensures read { IsFound (reader.unary_expr (code_within self.now.depth) no_struct at.old)
+            result at.new }
         ensures within { IfOk result (λ found. found.need ≤ self.now.depth + 1) }
     {
         let prefixes = read_prefixes(self.alloc, at)?;

@@ -28,7 +28,8 @@ impl<P: Fn(Global, &mut Ahead<'_>, Place, u32) -> Result<Found<Boxed<Expr>>, Rea
     ) -> Result<Found<Boxed<Expr>>, ReadNone>
         requires deeper { AreExprs self.now.depth (P.pre self.now.exprs) (P.post self.now.exprs) }
         requires within { start.need ≤ self.now.depth }
-        ensures read { IsFound (reader.range_expr (code_within self.now.depth) no_struct start.node start.need at.old) result at.new }
+        ensures read { IsFound (reader.range_expr
+            (code_within self.now.depth) no_struct start.node start.need at.old) result at.new }
         ensures within { IfOk result (λ found. found.need ≤ self.now.depth + 1) }
     {
         let inclusive = at.op_is(b"..=");
@@ -50,7 +51,9 @@ impl<P: Fn(Global, &mut Ahead<'_>, Place, u32) -> Result<Found<Boxed<Expr>>, Rea
     ) -> Result<Found<Boxed<Expr>>, ReadNone>
         requires deeper { AreExprs self.now.depth (P.pre self.now.exprs) (P.post self.now.exprs) }
         requires within { start.need ≤ self.now.depth }
-        ensures read { IsFound (reader.range_by (code_within self.now.depth) no_struct start.node start.need inclusive at.old) result at.new }
+        ensures read { IsFound (reader.range_by
+            (code_within self.now.depth) no_struct start.node start.need inclusive at.old) result
+            at.new }
         ensures within { IfOk result (λ found. found.need ≤ self.now.depth + 1) }
     {
         let (start, end) = both(start, self.operand_if(at, 2, no_struct))?;

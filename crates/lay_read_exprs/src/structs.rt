@@ -40,7 +40,8 @@ impl<P: Fn(Global, &mut Ahead<'_>, Place, u32) -> Result<Found<Boxed<Expr>>, Rea
     ) -> Result<Found<Boxed<Expr>>, ReadNone>
         requires deeper { AreExprs self.now.depth (P.pre self.now.exprs) (P.post self.now.exprs) }
         requires within { path.need ≤ self.now.depth }
-        ensures read { IsFound (reader.struct_expr (code_within self.now.depth) (path.node, path.need) at.old) result at.new }
+        ensures read { IsFound (reader.struct_expr (code_within self.now.depth)
+            (path.node, path.need) at.old) result at.new }
         ensures within { IfOk result (λ found. found.need ≤ self.now.depth + 1) }
     {
         let (path, found) = both(
@@ -69,7 +70,8 @@ impl<P: Fn(Global, &mut Ahead<'_>, Place, u32) -> Result<Found<Boxed<Expr>>, Rea
         requires deeper { AreExprs self.now.depth (P.pre self.now.exprs) (P.post self.now.exprs) }
         requires within { path.need ≤ self.now.depth }
         requires fields_within { found.need ≤ self.now.depth }
-        ensures read { IsFound (struct_by (code_within self.now.depth) (path.node, path.need) (found.node, found.need) at.old) result at.new }
+        ensures read { IsFound (struct_by (code_within self.now.depth) (path.node, path.need)
+            (found.node, found.need) at.old) result at.new }
         ensures within { IfOk result (λ found. found.need ≤ self.now.depth + 1) }
     {
         let Found { node, need } = found;
@@ -98,7 +100,8 @@ impl<P: Fn(Global, &mut Ahead<'_>, Place, u32) -> Result<Found<Boxed<Expr>>, Rea
         ended: bool,
     ) -> Result<Found<Option<Option<Boxed<Expr>>>>, ReadNone>
         requires { AreExprs self.now.depth (P.pre self.now.exprs) (P.post self.now.exprs) }
-        ensures read { IsFound (reader.base (code_within self.now.depth) ended at.old) result at.new }
+        ensures read { IsFound (reader.base (code_within self.now.depth) ended at.old) result
+            at.new }
         ensures within { IfOk result (λ found. found.need ≤ self.now.depth) }
     {
         if !(ended && at.op_is(b"..")) {
@@ -126,7 +129,8 @@ impl<P: Fn(Global, &mut Ahead<'_>, Place, u32) -> Result<Found<Boxed<Expr>>, Rea
     #[inline(never)]
     fn one_field(&self, at: &mut Ahead<'_>, _place: ()) -> Result<Found<FieldExpr>, ReadNone>
         requires { AreExprs self.now.depth (P.pre self.now.exprs) (P.post self.now.exprs) }
-        ensures read { IsFound (reader.one_field (code_within self.now.depth) at.old) result at.new }
+        ensures read { IsFound (reader.one_field (code_within self.now.depth) at.old) result
+            at.new }
         ensures within { IfOk result (λ found. found.need ≤ self.now.depth) }
     {
         let attrs = attrs_ahead(self.alloc, at, false)?;
@@ -146,7 +150,8 @@ impl<P: Fn(Global, &mut Ahead<'_>, Place, u32) -> Result<Found<Boxed<Expr>>, Rea
         index: Text,
     ) -> Result<Found<FieldExpr>, ReadNone>
         requires { AreExprs self.now.depth (P.pre self.now.exprs) (P.post self.now.exprs) }
-        ensures read { IsFound (numbered_field (code_within self.now.depth) attrs index at.old) result at.new }
+        ensures read { IsFound (numbered_field (code_within self.now.depth) attrs index at.old)
+            result at.new }
         ensures within { IfOk result (λ found. found.need ≤ self.now.depth) }
     {
         let ((attrs, index), found) = both((attrs, index), self.inner(at, FREE))?;
@@ -168,7 +173,8 @@ impl<P: Fn(Global, &mut Ahead<'_>, Place, u32) -> Result<Found<Boxed<Expr>>, Rea
         attrs: List<Attr>,
     ) -> Result<Found<FieldExpr>, ReadNone>
         requires { AreExprs self.now.depth (P.pre self.now.exprs) (P.post self.now.exprs) }
-        ensures read { IsFound (reader.field_by (code_within self.now.depth) attrs None at.old) result at.new }
+        ensures read { IsFound (reader.field_by (code_within self.now.depth) attrs None at.old)
+            result at.new }
         ensures within { IfOk result (λ found. found.need ≤ self.now.depth) }
     {
         let (attrs, name) = both(attrs, read_name(self.alloc, at))?;
@@ -184,7 +190,8 @@ impl<P: Fn(Global, &mut Ahead<'_>, Place, u32) -> Result<Found<Boxed<Expr>>, Rea
         name: Name,
     ) -> Result<Found<FieldExpr>, ReadNone>
         requires { AreExprs self.now.depth (P.pre self.now.exprs) (P.post self.now.exprs) }
-        ensures read { IsFound (reader.named_field (code_within self.now.depth) attrs name at.old) result at.new }
+        ensures read { IsFound (reader.named_field (code_within self.now.depth) attrs name at.old)
+            result at.new }
         ensures within { IfOk result (λ found. found.need ≤ self.now.depth) }
     {
         if !takes_op(at, b":") {

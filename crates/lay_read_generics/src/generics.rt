@@ -64,7 +64,8 @@ impl Level {
 
     /// What a parameter that is a type is by default, if anything is said of it.
     fn default_type(&self, at: &mut Ahead<'_>) -> Result<Found<Option<Ty>>, ReadNone>
-        ensures read { IsFound (if_read (is_op (codes "=") at.old) (λ ts. (within self.now.depth).types Bounds (drop 1 ts)) at.old) result at.new }
+        ensures read { IsFound (if_read (is_op (codes "=") at.old)
+            (λ ts. (within self.now.depth).types Bounds (drop 1 ts)) at.old) result at.new }
         ensures within { IfOk result (λ found. found.need ≤ self.now.depth) }
     {
         if !takes_op(at, b"=") {
@@ -87,7 +88,8 @@ impl Level {
         at: &mut Ahead<'_>,
         attrs: List<Attr>,
     ) -> Result<Found<GenericParam>, ReadNone>
-        ensures read { IsFound (reader.type_param (within self.now.depth) attrs at.old) result at.new }
+        ensures read { IsFound (reader.type_param (within self.now.depth) attrs at.old) result
+            at.new }
         ensures within { IfOk result (λ found. found.need ≤ self.now.depth) }
     {
         let (attrs, name) = both(attrs, read_name(self.alloc, at))?;
@@ -112,7 +114,8 @@ impl Level {
         at: &mut Ahead<'_>,
         attrs: List<Attr>,
     ) -> Result<Found<GenericParam>, ReadNone>
-        ensures read { IsFound (reader.const_param (within self.now.depth) attrs at.old) result at.new }
+        ensures read { IsFound (reader.const_param (within self.now.depth) attrs at.old) result
+            at.new }
         ensures within { IfOk result (λ found. found.need ≤ self.now.depth) }
     {
         let (attrs, name) = both(attrs, read_name(self.alloc, at))?;
@@ -158,7 +161,8 @@ impl Level {
     /// Generic parameters behind a `<`, and the `>` behind them.
     #[tactic(auto, using(crate::proofs::Left::one_param_leaves))]
     fn params(&self, at: &mut Ahead<'_>) -> Result<Found<List<GenericParam>>, ReadNone>
-        ensures read { IsFound (gathered (elements (is_mark (codes ">")) (reader.one_param (within self.now.depth)) at.old)) result at.new }
+        ensures read { IsFound (gathered (elements (is_mark (codes ">"))
+            (reader.one_param (within self.now.depth)) at.old)) result at.new }
         ensures within { IfOk result (λ found. found.need ≤ self.now.depth) }
     {
         read_elements::<Params, Level, GenericParam, (), _>(
@@ -203,7 +207,8 @@ fn read_const_default_if(
     alloc: Global,
     at: &mut Ahead<'_>,
 ) -> Result<Option<ConstDefault>, ReadNone>
-    ensures { IsGot (if_there (is_op (codes "=") at.old) (λ ts. reader.const_default_at (drop 1 ts)) at.old) result at.new }
+    ensures { IsGot (if_there (is_op (codes "=") at.old) (λ ts. reader.const_default_at (drop 1 ts))
+        at.old) result at.new }
 {
     if !takes_op(at, b"=") {
         return Ok(None);

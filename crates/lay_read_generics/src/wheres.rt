@@ -31,7 +31,8 @@ impl Level {
     /// What is said of a type.
     #[tactic(auto, unfolding(lay_node::specs::reader::Where::type_predicate))]
     fn type_predicate(&self, at: &mut Ahead<'_>) -> Result<Found<Predicate>, ReadNone>
-        ensures read { IsFound (reader.type_predicate (within self.now.depth) at.old) result at.new }
+        ensures read { IsFound (reader.type_predicate (within self.now.depth) at.old) result
+            at.new }
         ensures within { IfOk result (λ found. found.need ≤ self.now.depth) }
     {
         let binder = read_binder_if(self.alloc, at)?;
@@ -73,7 +74,9 @@ impl Level {
     /// Predicates as long as one begins.
     #[tactic(auto, using(crate::proofs::Left::predicate_leaves))]
     fn predicates(&self, at: &mut Ahead<'_>) -> Result<Found<(List<Predicate>, bool)>, ReadNone>
-        ensures read { IsFound (gathered_open (open_elements begins_predicate (reader.one_predicate (within self.now.depth)) at.old)) result at.new }
+        ensures read { IsFound (gathered_open
+            (open_elements begins_predicate (reader.one_predicate (within self.now.depth)) at.old))
+            result at.new }
         ensures within { IfOk result (λ found. found.need ≤ self.now.depth) }
     {
         read_open_elements::<Predicates, Level, Predicate, (), _>(

@@ -56,7 +56,8 @@ fn tuple_field_list(
     at: &mut Ahead<'_>,
     depth: u32,
 ) -> Result<Found<List<TupleField>>, ReadNone>
-    ensures read { IsFound (gathered (elements (closes Paren) (reader.tuple_field (within depth)) at.old)) result at.new }
+    ensures read { IsFound (gathered (elements (closes Paren) (reader.tuple_field (within depth))
+        at.old)) result at.new }
     ensures within { IfOk result (λ found. found.need ≤ depth) }
 {
     let level = Level { alloc, depth };
@@ -126,7 +127,8 @@ fn named_field_list(
     at: &mut Ahead<'_>,
     depth: u32,
 ) -> Result<Found<List<Field>>, ReadNone>
-    ensures read { IsFound (gathered (elements (closes Brace) (reader.field (within depth)) at.old)) result at.new }
+    ensures read { IsFound (gathered (elements (closes Brace) (reader.field (within depth)) at.old))
+        result at.new }
     ensures within { IfOk result (λ found. found.need ≤ depth) }
 {
     let level = Level { alloc, depth };
@@ -191,7 +193,8 @@ fn variant_fields(alloc: Global, at: &mut Ahead<'_>, depth: u32) -> Result<Found
 /// The discriminant of a variant, if it has one.
 #[tactic(auto, unfolding(lay_node::specs::reader::Fields::discriminant))]
 fn read_discriminant_if(alloc: Global, at: &mut Ahead<'_>) -> Result<Option<Tokens>, ReadNone>
-    ensures { IsGot (if_there (is_op (codes "=") at.old) (λ ts. reader.discriminant (drop 1 ts)) at.old) result at.new }
+    ensures { IsGot (if_there (is_op (codes "=") at.old) (λ ts. reader.discriminant (drop 1 ts))
+        at.old) result at.new }
 {
     if !takes_op(at, b"=") {
         return Ok(None);
@@ -240,7 +243,8 @@ fn variant_list(
     at: &mut Ahead<'_>,
     depth: u32,
 ) -> Result<Found<List<Variant>>, ReadNone>
-    ensures read { IsFound (gathered (elements (closes Brace) (reader.variant (within depth)) at.old)) result at.new }
+    ensures read { IsFound (gathered (elements (closes Brace) (reader.variant (within depth))
+        at.old)) result at.new }
     ensures within { IfOk result (λ found. found.need ≤ depth) }
 {
     let level = Level { alloc, depth };

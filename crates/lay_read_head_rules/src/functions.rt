@@ -135,7 +135,8 @@ fn typed_by(
     depth: u32,
 ) -> Result<Found<ParamKind>, ReadNone>
     requires { pat.need ≤ depth }
-    ensures read { IsFound (reader.typed_by (within depth) (pat.node, pat.need) at.old) result at.new }
+    ensures read { IsFound (reader.typed_by (within depth) (pat.node, pat.need) at.old) result
+        at.new }
     ensures within { IfOk result (λ found. found.need ≤ depth) }
 {
     if takes_dots(at) {
@@ -219,7 +220,8 @@ fn open_params(
     at: &mut Ahead<'_>,
     depth: u32,
 ) -> Result<Found<(List<Param>, bool)>, ReadNone>
-    ensures read { IsFound (gathered_open (open_elements reader.begins_fn_param (reader.fn_param (insides depth)) at.old)) result at.new }
+    ensures read { IsFound (gathered_open (open_elements reader.begins_fn_param
+        (reader.fn_param (insides depth)) at.old)) result at.new }
     ensures within { IfOk result (λ found. found.need ≤ depth) }
 {
     let level = Level { alloc, depth };

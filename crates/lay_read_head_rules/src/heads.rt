@@ -143,7 +143,8 @@ fn tuple_struct(
     depth: u32,
 ) -> Result<Found<Struct>, ReadNone>
     requires { named.need ≤ depth }
-    ensures read { IsFound (reader.tuple_struct (within depth) (named.node, named.need) at.old) result at.new }
+    ensures read { IsFound (reader.tuple_struct (within depth) (named.node, named.need) at.old)
+        result at.new }
     ensures within { IfOk result (λ found. found.need ≤ depth) }
 {
     let (named, fields) = both(named, tuple_fields_ahead(alloc, at, depth))?;
@@ -173,7 +174,8 @@ fn other_struct(
     depth: u32,
 ) -> Result<Found<Struct>, ReadNone>
     requires { named.need ≤ depth }
-    ensures read { IsFound (reader.other_struct (within depth) (named.node, named.need) at.old) result at.new }
+    ensures read { IsFound (reader.other_struct (within depth) (named.node, named.need) at.old)
+        result at.new }
     ensures within { IfOk result (λ found. found.need ≤ depth) }
 {
     let (named, wheres) = both(named, wheres_ahead(alloc, at, depth))?;
@@ -205,7 +207,8 @@ fn named_struct(
 ) -> Result<Found<Struct>, ReadNone>
     requires named { named.need ≤ depth }
     requires wheres { wheres.need ≤ depth }
-    ensures read { IsFound (named_struct (within depth) (named.node, named.need) (wheres.node, wheres.need) at.old) result at.new }
+    ensures read { IsFound (named_struct (within depth) (named.node, named.need)
+        (wheres.node, wheres.need) at.old) result at.new }
     ensures within { IfOk result (λ found. found.need ≤ depth) }
 {
     let ((named, wheres), fields) = both((named, wheres), named_fields_ahead(alloc, at, depth))?;

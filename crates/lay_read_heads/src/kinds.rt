@@ -32,7 +32,8 @@ pub fn read_struct(alloc: Global, at: &mut Cursor<'_>, depth: u32) -> Result<Ite
 /// The struct at the front.
 fn read_struct_alone(alloc: Global, at: &mut Cursor<'_>, depth: u32) -> Result<ItemKind, ReadNone>
     requires { AreLexed at.old }
-    ensures { IsReadAt depth (OfKind item.Struct (λ x. by_itself (headed (about_struct x)))) at.old result at.new }
+    ensures { IsReadAt depth (OfKind item.Struct (λ x. by_itself (headed (about_struct x)))) at.old
+        result at.new }
 {
     if depth == 0 {
         return Err(ReadNone::NoReading);
@@ -46,7 +47,8 @@ fn read_struct_alone(alloc: Global, at: &mut Cursor<'_>, depth: u32) -> Result<I
 /// The union at the front.
 fn read_union_alone(alloc: Global, at: &mut Cursor<'_>, depth: u32) -> Result<ItemKind, ReadNone>
     requires { AreLexed at.old }
-    ensures { IsReadAt depth (OfKind item.Union (λ x. by_itself (headed (about_union x)))) at.old result at.new }
+    ensures { IsReadAt depth (OfKind item.Union (λ x. by_itself (headed (about_union x)))) at.old
+        result at.new }
 {
     if depth == 0 {
         return Err(ReadNone::NoReading);
@@ -61,7 +63,8 @@ fn read_union_alone(alloc: Global, at: &mut Cursor<'_>, depth: u32) -> Result<It
 /// stays.
 pub fn read_enum(alloc: Global, at: &mut Cursor<'_>, depth: u32) -> Result<ItemKind, ReadNone>
     requires { AreLexed at.old }
-    ensures { IsReadAt depth (OfKind item.Enum (λ x. by_itself (headed (about_enum x)))) at.old result at.new }
+    ensures { IsReadAt depth (OfKind item.Enum (λ x. by_itself (headed (about_enum x)))) at.old
+        result at.new }
 {
     if depth == 0 {
         return Err(ReadNone::NoReading);
@@ -81,7 +84,8 @@ pub fn read_alias(
     depth: u32,
 ) -> Result<ItemKind, ReadNone>
     requires { AreLexed at.old }
-    ensures { IsReadAt depth (OfKind item.Alias (λ x. by_itself (headed (about_alias site x)))) at.old result at.new }
+    ensures { IsReadAt depth (OfKind item.Alias (λ x. by_itself (headed (about_alias site x))))
+        at.old result at.new }
 {
     if depth == 0 {
         return Err(ReadNone::NoReading);
@@ -95,7 +99,8 @@ pub fn read_alias(
 /// The extern crate declaration at the front. Where there is none the cursor stays.
 pub fn read_extern_crate(alloc: Global, at: &mut Cursor<'_>) -> Result<ItemKind, ReadNone>
     requires { AreLexed at.old }
-    ensures { IsRead (OfKind item.ExternCrate (λ x. headed (about_extern_crate x))) at.old result at.new }
+    ensures { IsRead (OfKind item.ExternCrate (λ x. headed (about_extern_crate x))) at.old result
+        at.new }
 {
     let mut ahead = Ahead::new(at.fork());
     let item = extern_crate_ahead(alloc, &mut ahead)?;

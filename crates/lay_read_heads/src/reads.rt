@@ -41,7 +41,8 @@ pub fn read_fn_head(
     depth: u32,
 ) -> Result<FnHead, ReadNone>
     requires { AreLexed at.old }
-    ensures { IsReadAt depth (λ (x : FnHeadValue). ToldFront (by_itself (about_fn_head site x))) at.old result at.new }
+    ensures { IsReadAt depth (λ (x : FnHeadValue). ToldFront (by_itself (about_fn_head site x)))
+        at.old result at.new }
 {
     if depth == 0 {
         return Err(ReadNone::NoReading);
@@ -60,7 +61,8 @@ pub fn read_value_head(
     depth: u32,
 ) -> Result<ValueHead, ReadNone>
     requires { AreLexed at.old }
-    ensures { IsReadAt depth (λ (x : ValueHeadValue). ToldFront (by_itself (about_value_head x))) at.old result at.new }
+    ensures { IsReadAt depth (λ (x : ValueHeadValue). ToldFront (by_itself (about_value_head x)))
+        at.old result at.new }
 {
     if depth == 0 {
         return Err(ReadNone::NoReading);
@@ -94,7 +96,8 @@ pub fn read_trait_head(
 /// none the cursor stays.
 pub fn read_impl_head(alloc: Global, at: &mut Cursor<'_>, depth: u32) -> Result<ImplHead, ReadNone>
     requires { AreLexed at.old }
-    ensures { IsReadAt depth (λ (x : ImplHeadValue). ToldFront (by_itself (about_impl_head x))) at.old result at.new }
+    ensures { IsReadAt depth (λ (x : ImplHeadValue). ToldFront (by_itself (about_impl_head x)))
+        at.old result at.new }
 {
     if depth == 0 {
         return Err(ReadNone::NoReading);

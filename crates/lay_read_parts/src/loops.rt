@@ -115,7 +115,8 @@ pub fn read_elements<
     place: X,
 ) -> Result<Found<List<T>>, ReadNone>
     requires { ReadsParts depth rules.now place (P.reads depth place) (E.pre part) (E.post part) }
-    ensures read { IsHeld AreFound (elements (closed_by closer) (P.reads depth place) at.old) result at.new }
+    ensures read { IsHeld AreFound (elements (closed_by closer) (P.reads depth place) at.old) result
+        at.new }
     ensures within { IfOk result (λ found. found.need ≤ depth) }
 {
     let mut nodes = List::new(alloc);
@@ -148,7 +149,8 @@ pub fn read_chain<
     place: X,
 ) -> Result<Found<List<T>>, ReadNone>
     requires { ReadsParts depth rules.now place (P.reads depth place) (E.pre part) (E.post part) }
-    ensures read { IsHeld AreFound (chain (joined_by joint) (P.reads depth place) at.old) result at.new }
+    ensures read { IsHeld AreFound (chain (joined_by joint) (P.reads depth place) at.old) result
+        at.new }
     ensures within { IfOk result (λ found. found.need ≤ depth) }
 {
     let Found { node, mut need } = part(rules, at, place)?;
@@ -191,7 +193,8 @@ pub fn read_open_elements<
     place: X,
 ) -> Result<Found<(List<T>, bool)>, ReadNone>
     requires { ReadsParts depth rules.now place (P.reads depth place) (E.pre part) (E.post part) }
-    ensures read { IsHeld AreFoundOpen (open_elements (begins_part opening) (P.reads depth place) at.old) result at.new }
+    ensures read { IsHeld AreFoundOpen (open_elements (begins_part opening) (P.reads depth place)
+        at.old) result at.new }
     ensures within { IfOk result (λ found. found.need ≤ depth) }
 {
     let mut nodes = List::new(alloc);

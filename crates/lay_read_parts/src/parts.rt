@@ -43,7 +43,8 @@ pub fn read_lifetime(alloc: Global, at: &mut Ahead<'_>) -> Result<Lifetime, Read
 
 /// A lifetime, if one stands at the front.
 pub fn read_lifetime_if(alloc: Global, at: &mut Ahead<'_>) -> Result<Option<Lifetime>, ReadNone>
-    ensures { IsGot (reader.if_there (first is_lifetime at.old) reader.lifetime at.old) result at.new }
+    ensures { IsGot (reader.if_there (first is_lifetime at.old) reader.lifetime at.old) result
+        at.new }
 {
     if !is_at_lifetime(at) {
         return Ok(None);
@@ -324,7 +325,8 @@ fn is_at_string(alloc: Global, at: &Ahead<'_>) -> Result<bool, ReadNone>
 /// An ABI, behind `extern`.
 #[tactic(auto, using(crate::proofs::Steps::literal_is))]
 fn read_abi_name(alloc: Global, at: &mut Ahead<'_>) -> Result<Option<Literal>, ReadNone>
-    ensures { IsGot (reader.if_there (first reader.is_string_token at.old) (reader.literal reader.is_string_token) at.old) result at.new }
+    ensures { IsGot (reader.if_there (first reader.is_string_token at.old)
+        (reader.literal reader.is_string_token) at.old) result at.new }
 {
     if !is_at_string(alloc, at)? {
         return Ok(None);
@@ -336,7 +338,8 @@ fn read_abi_name(alloc: Global, at: &mut Ahead<'_>) -> Result<Option<Literal>, R
 /// An ABI, if one stands at the front.
 #[tactic(auto, unfolding(lay_node::specs::reader::Types::abi))]
 pub fn read_abi_if(alloc: Global, at: &mut Ahead<'_>) -> Result<Option<Abi>, ReadNone>
-    ensures { IsGot (reader.if_there (first (is_keyword (codes "extern")) at.old) reader.abi at.old) result at.new }
+    ensures { IsGot (reader.if_there (first (is_keyword (codes "extern")) at.old) reader.abi at.old)
+        result at.new }
 {
     if !takes_keyword(at, b"extern") {
         return Ok(None);

@@ -42,7 +42,8 @@ impl<P: Fn(Global, &mut Ahead<'_>, PatPlace, u32) -> Result<Found<Pat>, ReadNone
         name: Name,
     ) -> Result<Found<Pat>, ReadNone>
         requires { ArePats self.now.depth (P.pre self.now.pats) (P.post self.now.pats) }
-        ensures read { IsFound (reader.bind (pats_within self.now.depth) by_ref mutable name at.old) result at.new }
+        ensures read { IsFound (reader.bind (pats_within self.now.depth) by_ref mutable name at.old)
+            result at.new }
         ensures within { IfOk result (λ found. found.need ≤ self.now.depth + 1) }
     {
         if takes_op(at, b"@") {
@@ -75,7 +76,8 @@ impl<P: Fn(Global, &mut Ahead<'_>, PatPlace, u32) -> Result<Found<Pat>, ReadNone
     #[tactic(auto, unfolding(lay_node::specs::reader::Patterns::marked_bind), using(crate::proofs::Steps::flag_found, crate::proofs::Steps::flag_rest))]
     pub fn marked_bind(&self, at: &mut Ahead<'_>) -> Result<Found<Pat>, ReadNone>
         requires { ArePats self.now.depth (P.pre self.now.pats) (P.post self.now.pats) }
-        ensures read { IsFound (reader.marked_bind (pats_within self.now.depth) at.old) result at.new }
+        ensures read { IsFound (reader.marked_bind (pats_within self.now.depth) at.old) result
+            at.new }
         ensures within { IfOk result (λ found. found.need ≤ self.now.depth + 1) }
     {
         let by_ref = takes_keyword(at, b"ref");

@@ -65,7 +65,8 @@ fn tuple_of(
 ) -> Result<Found<Pat>, ReadNone>
     requires first { first.need + 1 < 2 ^ 32 }
     requires more { more.need + 1 < 2 ^ 32 }
-    ensures read { IsFound (tuple_behind (first.node, first.need) more.node more.need at.now) result at.now }
+    ensures read { IsFound (tuple_behind (first.node, first.need) more.node more.need at.now) result
+        at.now }
     ensures within { IfOk result (λ tuple. tuple.need ≡ max first.need more.need + 1) }
 {
     if more.node.as_slice().is_empty() && is_rest(&first.node) {
@@ -84,7 +85,8 @@ impl<P: Fn(Global, &mut Ahead<'_>, PatPlace, u32) -> Result<Found<Pat>, ReadNone
     #[tactic(auto, using(crate::proofs::Left::alternatives_leave))]
     pub fn elements(&self, at: &mut Ahead<'_>, delim: Delim) -> Result<Found<List<Pat>>, ReadNone>
         requires { ArePats self.now.depth (P.pre self.now.pats) (P.post self.now.pats) }
-        ensures read { IsHeld AreFound (elements (closes delim) (pat_at Alternatives self.now.depth) at.old) result at.new }
+        ensures read { IsHeld AreFound (elements (closes delim) (pat_at Alternatives self.now.depth)
+            at.old) result at.new }
         ensures within { IfOk result (λ found. found.need ≤ self.now.depth) }
     {
         read_elements::<Elements, PatRules<P>, Pat, PatPlace, _>(
@@ -122,7 +124,8 @@ impl<P: Fn(Global, &mut Ahead<'_>, PatPlace, u32) -> Result<Found<Pat>, ReadNone
     #[tactic(auto, unfolding(lay_node::specs::reader::Patterns::slice_pat))]
     pub fn slice_pat(&self, at: &mut Ahead<'_>) -> Result<Found<Pat>, ReadNone>
         requires { ArePats self.now.depth (P.pre self.now.pats) (P.post self.now.pats) }
-        ensures read { IsFound (reader.slice_pat (pats_within self.now.depth) at.old) result at.new }
+        ensures read { IsFound (reader.slice_pat (pats_within self.now.depth) at.old) result
+            at.new }
         ensures within { IfOk result (λ found. found.need ≤ self.now.depth + 1) }
     {
         let found = self.elements(at, Delim::Bracket)?;
@@ -138,7 +141,8 @@ impl<P: Fn(Global, &mut Ahead<'_>, PatPlace, u32) -> Result<Found<Pat>, ReadNone
     #[tactic(auto, unfolding(lay_node::specs::reader::Patterns::paren_pat))]
     pub fn paren_pat(&self, at: &mut Ahead<'_>) -> Result<Found<Pat>, ReadNone>
         requires { ArePats self.now.depth (P.pre self.now.pats) (P.post self.now.pats) }
-        ensures read { IsFound (reader.paren_pat (pats_within self.now.depth) at.old) result at.new }
+        ensures read { IsFound (reader.paren_pat (pats_within self.now.depth) at.old) result
+            at.new }
         ensures within { IfOk result (λ found. found.need ≤ self.now.depth + 1) }
     {
         if takes_closer(at, Delim::Paren) {
@@ -156,7 +160,8 @@ impl<P: Fn(Global, &mut Ahead<'_>, PatPlace, u32) -> Result<Found<Pat>, ReadNone
     fn paren_by(&self, at: &mut Ahead<'_>, first: Found<Pat>) -> Result<Found<Pat>, ReadNone>
         requires deeper { ArePats self.now.depth (P.pre self.now.pats) (P.post self.now.pats) }
         requires within { first.need ≤ self.now.depth }
-        ensures read { IsFound (reader.paren_by (pats_within self.now.depth) (first.node, first.need) at.old) result at.new }
+        ensures read { IsFound (reader.paren_by (pats_within self.now.depth)
+            (first.node, first.need) at.old) result at.new }
         ensures within { IfOk result (λ found. found.need ≤ self.now.depth + 1) }
     {
         if takes_closer(at, Delim::Paren) {

@@ -40,7 +40,8 @@ impl<P: Fn(Global, &mut Ahead<'_>, PatPlace, u32) -> Result<Found<Pat>, ReadNone
     /// A pattern that isn't followed by what goes on with one.
     pub fn single_by(&self, at: &mut Ahead<'_>) -> Result<Found<Pat>, ReadNone>
         requires { ArePats self.now.depth (P.pre self.now.pats) (P.post self.now.pats) }
-        ensures read { IsFound (reader.single_by (pats_within self.now.depth) at.old) result at.new }
+        ensures read { IsFound (reader.single_by (pats_within self.now.depth) at.old) result
+            at.new }
         ensures within { IfOk result (λ found. found.need ≤ self.now.depth + 1) }
     {
         let found = self.pat_by(at)?;

@@ -14,7 +14,8 @@ use std::alloc::Global;
 /// The pattern at the front, which may be several alternatives, within a depth. Where there is none the cursor stays.
 pub fn read_pat(alloc: Global, at: &mut Cursor<'_>, depth: u32) -> Result<Pat, ReadNone>
     requires { AreLexed at.old }
-    ensures { IsReadAt depth (λ (x : Pat). PatFront Alternatives (about_pat x)) at.old result at.new }
+    ensures { IsReadAt depth (λ (x : Pat). PatFront Alternatives (about_pat x)) at.old result
+        at.new }
 {
     read_at(alloc, at, PatPlace::Alternatives, depth)
 }

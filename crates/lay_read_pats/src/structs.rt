@@ -111,7 +111,8 @@ impl<P: Fn(Global, &mut Ahead<'_>, PatPlace, u32) -> Result<Found<Pat>, ReadNone
     fn path_by(&self, at: &mut Ahead<'_>, path: Found<Path>) -> Result<Found<Pat>, ReadNone>
         requires deeper { ArePats self.now.depth (P.pre self.now.pats) (P.post self.now.pats) }
         requires within { path.need ≤ self.now.depth }
-        ensures read { IsFound (reader.path_by (pats_within self.now.depth) (path.node, path.need) at.old) result at.new }
+        ensures read { IsFound (reader.path_by (pats_within self.now.depth) (path.node, path.need)
+            at.old) result at.new }
         ensures within { IfOk result (λ found. found.need ≤ self.now.depth + 1) }
     {
         if takes_opener(at, Delim::Paren) {
@@ -133,7 +134,8 @@ impl<P: Fn(Global, &mut Ahead<'_>, PatPlace, u32) -> Result<Found<Pat>, ReadNone
     fn word_pat(&self, at: &mut Ahead<'_>, path: Found<Path>) -> Result<Found<Pat>, ReadNone>
         requires deeper { ArePats self.now.depth (P.pre self.now.pats) (P.post self.now.pats) }
         requires within { path.need ≤ self.now.depth }
-        ensures read { IsFound (reader.word_pat (pats_within self.now.depth) (path.node, path.need) (types.lone_word path.node) at.old) result at.new }
+        ensures read { IsFound (reader.word_pat (pats_within self.now.depth) (path.node, path.need)
+            (types.lone_word path.node) at.old) result at.new }
         ensures within { IfOk result (λ found. found.need ≤ self.now.depth + 1) }
     {
         match lone_word(&path.node) {
@@ -146,7 +148,8 @@ impl<P: Fn(Global, &mut Ahead<'_>, PatPlace, u32) -> Result<Found<Pat>, ReadNone
     /// The word is a name that is bound.
     fn word_bind(&self, at: &mut Ahead<'_>, word: &Word) -> Result<Found<Pat>, ReadNone>
         requires { ArePats self.now.depth (P.pre self.now.pats) (P.post self.now.pats) }
-        ensures read { IsFound (reader.bind (pats_within self.now.depth) false false (word_name word.now) at.old) result at.new }
+        ensures read { IsFound (reader.bind (pats_within self.now.depth) false false
+            (word_name word.now) at.old) result at.new }
         ensures within { IfOk result (λ found. found.need ≤ self.now.depth + 1) }
     {
         let text = copy_of(self.alloc, &word.text)?;
@@ -161,7 +164,8 @@ impl<P: Fn(Global, &mut Ahead<'_>, PatPlace, u32) -> Result<Found<Pat>, ReadNone
     fn tuple_struct(&self, at: &mut Ahead<'_>, path: Found<Path>) -> Result<Found<Pat>, ReadNone>
         requires deeper { ArePats self.now.depth (P.pre self.now.pats) (P.post self.now.pats) }
         requires within { path.need ≤ self.now.depth }
-        ensures read { IsFound (reader.tuple_struct (pats_within self.now.depth) (path.node, path.need) at.old) result at.new }
+        ensures read { IsFound (reader.tuple_struct (pats_within self.now.depth)
+            (path.node, path.need) at.old) result at.new }
         ensures within { IfOk result (λ found. found.need ≤ self.now.depth + 1) }
     {
         let (path, elements) = both(path, self.elements(at, Delim::Paren))?;
@@ -178,7 +182,8 @@ impl<P: Fn(Global, &mut Ahead<'_>, PatPlace, u32) -> Result<Found<Pat>, ReadNone
     fn struct_pat(&self, at: &mut Ahead<'_>, path: Found<Path>) -> Result<Found<Pat>, ReadNone>
         requires deeper { ArePats self.now.depth (P.pre self.now.pats) (P.post self.now.pats) }
         requires within { path.need ≤ self.now.depth }
-        ensures read { IsFound (reader.struct_pat (pats_within self.now.depth) (path.node, path.need) at.old) result at.new }
+        ensures read { IsFound (reader.struct_pat (pats_within self.now.depth)
+            (path.node, path.need) at.old) result at.new }
         ensures within { IfOk result (λ found. found.need ≤ self.now.depth + 1) }
     {
         let (path, found) = both(path, self.fields(at))?;
@@ -229,7 +234,8 @@ impl<P: Fn(Global, &mut Ahead<'_>, PatPlace, u32) -> Result<Found<Pat>, ReadNone
     #[tactic(auto, unfolding(lay_node::specs::reader::Patterns::one_field))]
     fn one_field(&self, at: &mut Ahead<'_>, _place: ()) -> Result<Found<FieldPat>, ReadNone>
         requires { ArePats self.now.depth (P.pre self.now.pats) (P.post self.now.pats) }
-        ensures read { IsFound (reader.one_field (pats_within self.now.depth) at.old) result at.new }
+        ensures read { IsFound (reader.one_field (pats_within self.now.depth) at.old) result
+            at.new }
         ensures within { IfOk result (λ found. found.need ≤ self.now.depth) }
     {
         let attrs = attrs_ahead(self.alloc, at, false)?;
@@ -248,7 +254,8 @@ impl<P: Fn(Global, &mut Ahead<'_>, PatPlace, u32) -> Result<Found<Pat>, ReadNone
         index: Text,
     ) -> Result<Found<FieldPat>, ReadNone>
         requires { ArePats self.now.depth (P.pre self.now.pats) (P.post self.now.pats) }
-        ensures read { IsFound (index_field (pats_within self.now.depth) attrs index at.old) result at.new }
+        ensures read { IsFound (index_field (pats_within self.now.depth) attrs index at.old) result
+            at.new }
         ensures within { IfOk result (λ found. found.need ≤ self.now.depth) }
     {
         let ((attrs, index), found) = both((attrs, index), self.inner(at, PatPlace::Alternatives))?;
@@ -269,7 +276,8 @@ impl<P: Fn(Global, &mut Ahead<'_>, PatPlace, u32) -> Result<Found<Pat>, ReadNone
         attrs: List<Attr>,
     ) -> Result<Found<FieldPat>, ReadNone>
         requires { ArePats self.now.depth (P.pre self.now.pats) (P.post self.now.pats) }
-        ensures read { IsFound (reader.named_field (pats_within self.now.depth) attrs (reader.field_name at.old) at.old) result at.new }
+        ensures read { IsFound (reader.named_field (pats_within self.now.depth) attrs
+            (reader.field_name at.old) at.old) result at.new }
         ensures within { IfOk result (λ found. found.need ≤ self.now.depth) }
     {
         let (attrs, name) = both(attrs, read_field_name_if(self.alloc, at))?;
@@ -287,7 +295,8 @@ impl<P: Fn(Global, &mut Ahead<'_>, PatPlace, u32) -> Result<Found<Pat>, ReadNone
         name: Name,
     ) -> Result<Found<FieldPat>, ReadNone>
         requires { ArePats self.now.depth (P.pre self.now.pats) (P.post self.now.pats) }
-        ensures read { IsFound (full_field (pats_within self.now.depth) attrs name at.old) result at.new }
+        ensures read { IsFound (full_field (pats_within self.now.depth) attrs name at.old) result
+            at.new }
         ensures within { IfOk result (λ found. found.need ≤ self.now.depth) }
     {
         let ((attrs, name), found) = both((attrs, name), self.inner(at, PatPlace::Alternatives))?;
@@ -308,7 +317,8 @@ impl<P: Fn(Global, &mut Ahead<'_>, PatPlace, u32) -> Result<Found<Pat>, ReadNone
         attrs: List<Attr>,
     ) -> Result<Found<FieldPat>, ReadNone>
         requires { ArePats self.now.depth (P.pre self.now.pats) (P.post self.now.pats) }
-        ensures read { IsFound (reader.short_field (pats_within self.now.depth) attrs at.old) result at.new }
+        ensures read { IsFound (reader.short_field (pats_within self.now.depth) attrs at.old) result
+            at.new }
         ensures within { IfOk result (λ found. found.need ≤ self.now.depth) }
     {
         let (attrs, found) = both(attrs, self.inner(at, PatPlace::Single))?;

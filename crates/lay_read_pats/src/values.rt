@@ -99,7 +99,8 @@ fn closed_span(
 ) -> Result<Found<Pat>, ReadNone>
     requires room { depth + 1 < 2 ^ 32 }
     requires within { start.need ≤ depth }
-    ensures read { IsFound (reader.closed_span (within depth) start.node start.need inclusive at.old) result at.new }
+    ensures read { IsFound (reader.closed_span (within depth) start.node start.need inclusive
+        at.old) result at.new }
     ensures within { IfOk result (λ found. found.need ≤ depth + 1) }
 {
     let (start, end) = both(start, one_end(alloc, at, depth))?;

@@ -58,8 +58,10 @@ fn keep_part<T: Drop>(
     nodes: &mut List<T>,
     part: Result<Found<T>, ReadNone>,
 ) -> Result<u32, ReadNone>
-    ensures ok { IfOk result (λ need. MatchResult part (λ found. (need ≡ found.need) × (nodes.new ≡ nodes.old ++ found.node ∷ [])) (λ none. ⊥)) }
-    ensures err { IfErr result (λ none. MatchResult part (λ found. none ≡ ReadNone.NoMemory) (λ stopped. none ≡ stopped)) }
+    ensures ok { IfOk result (λ need. MatchResult part
+        (λ found. (need ≡ found.need) × (nodes.new ≡ nodes.old ++ found.node ∷ [])) (λ none. ⊥)) }
+    ensures err { IfErr result (λ none. MatchResult part (λ found. none ≡ ReadNone.NoMemory)
+        (λ stopped. none ≡ stopped)) }
 {
     match part {
         Ok(found) => {
@@ -88,7 +90,8 @@ pub fn read_parts<
     place: X,
 ) -> Result<Found<List<T>>, ReadNone>
     requires { ReadsParts depth rules.now place (P.reads depth place) (E.pre part) (E.post part) }
-    ensures read { IsHeld AreFound (repeat (goes_on going) (P.reads depth place) at.old) result at.new }
+    ensures read { IsHeld AreFound (repeat (goes_on going) (P.reads depth place) at.old) result
+        at.new }
     ensures within { IfOk result (λ found. found.need ≤ depth) }
 {
     let mut nodes = List::new(alloc);

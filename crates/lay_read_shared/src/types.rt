@@ -18,7 +18,8 @@ pub fn type_if(
     op: &[u8],
     depth: u32,
 ) -> Result<Found<Option<Ty>>, ReadNone>
-    ensures read { IsFound (if_read (is_op op.now at.old) (λ ts. (within depth).types Bounds (drop 1 ts)) at.old) result at.new }
+    ensures read { IsFound (if_read (is_op op.now at.old)
+        (λ ts. (within depth).types Bounds (drop 1 ts)) at.old) result at.new }
     ensures within { IfOk result (λ found. found.need ≤ depth) }
 {
     if !takes_op(at, op) {

@@ -29,7 +29,8 @@ use std::alloc::Global;
 /// All the attributes at the front: inner ones, or outer ones. Where one that begins there can't be read the cursor stays.
 pub fn read_attrs(alloc: Global, at: &mut Cursor<'_>, inner: bool) -> Result<List<Attr>, ReadNone>
     requires { AreLexed at.old }
-    ensures { AreRead (λ (attr : Attr). Front (about_attr inner attr)) (reader.begins_attr inner) at.old result at.new }
+    ensures { AreRead (λ (attr : Attr). Front (about_attr inner attr)) (reader.begins_attr inner)
+        at.old result at.new }
 {
     let mut ahead = Ahead::new(at.fork());
     let attrs = attrs_ahead(alloc, &mut ahead, inner)?;

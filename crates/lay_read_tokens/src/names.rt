@@ -29,7 +29,8 @@ fn is_path_word(word: &[u8]) -> bool
 
 /// Whether the token is a name, and then whether it is a raw one.
 fn name_of(token: &Token) -> Option<bool>
-    ensures { option_map (named token.now.text) result ≡ reader.name_by token.now.kind token.now.text }
+    ensures { option_map (named token.now.text) result
+        ≡ reader.name_by token.now.kind token.now.text }
 {
     match token.kind {
         Kind::Ident if is_plain(token.text.as_bytes()) => Some(false),
@@ -40,7 +41,8 @@ fn name_of(token: &Token) -> Option<bool>
 
 /// Whether the token is a word of a path, and then whether it is a raw identifier.
 fn word_of(token: &Token) -> Option<bool>
-    ensures { option_map (worded token.now.text) result ≡ reader.word_by token.now.kind token.now.text }
+    ensures { option_map (worded token.now.text) result
+        ≡ reader.word_by token.now.kind token.now.text }
 {
     match token.kind {
         Kind::Ident if is_path_word(token.text.as_bytes()) => Some(false),

@@ -25,7 +25,8 @@ pub fn read_simple_path(alloc: Global, at: &mut Ahead<'_>) -> Result<SimplePath,
 
 /// The words of a simple path: its first one, and those behind it, each with a `::` before it.
 fn read_words(alloc: Global, at: &mut Ahead<'_>, first: Word) -> Result<List<Word>, ReadNone>
-    ensures { IsHeld (BeginWith first) (repeat reader.begins_colons reader.further_word at.old) result at.new }
+    ensures { IsHeld (BeginWith first) (repeat reader.begins_colons reader.further_word at.old)
+        result at.new }
 {
     let mut words = List::new(alloc);
     keep(&mut words, first)?;

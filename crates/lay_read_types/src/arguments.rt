@@ -42,7 +42,8 @@ impl<
     /// A generic argument.
     #[tactic(auto, unfolding(lay_node::specs::reader::Types::one_arg))]
     fn arg(&self, at: &mut Ahead<'_>, _place: ()) -> Result<Found<Arg>, ReadNone>
-        requires { AreDeeper self.now.depth (F.pre self.now.types) (F.post self.now.types) (G.pre self.now.constraints) (G.post self.now.constraints) }
+        requires { AreDeeper self.now.depth (F.pre self.now.types) (F.post self.now.types)
+            (G.pre self.now.constraints) (G.post self.now.constraints) }
         ensures read { IsFound (reader.one_arg (within self.now.depth) at.old) result at.new }
         ensures within { IfOk result (λ found. found.need ≤ self.now.depth) }
     {
@@ -67,9 +68,11 @@ impl<
     /// What a type among generic arguments is: the argument, or a name of which something is asked behind it.
     #[inline(never)]
     fn arg_rest(&self, at: &mut Ahead<'_>, ty: Found<Ty>) -> Result<Found<Arg>, ReadNone>
-        requires deeper { AreDeeper self.now.depth (F.pre self.now.types) (F.post self.now.types) (G.pre self.now.constraints) (G.post self.now.constraints) }
+        requires deeper { AreDeeper self.now.depth (F.pre self.now.types) (F.post self.now.types)
+            (G.pre self.now.constraints) (G.post self.now.constraints) }
         requires within { ty.need ≤ self.now.depth }
-        ensures read { IsFound (reader.arg_by (within self.now.depth) (ty.node, ty.need) at.old) result at.new }
+        ensures read { IsFound (reader.arg_by (within self.now.depth) (ty.node, ty.need) at.old)
+            result at.new }
         ensures within { IfOk result (λ found. found.need ≤ self.now.depth) }
     {
         let Found { node, need } = ty;
@@ -97,8 +100,10 @@ impl<
     /// Generic arguments behind a `<`, and the `>` behind them.
     #[tactic(auto, using(crate::proofs::Left::arg_leaves))]
     fn angle_args(&self, at: &mut Ahead<'_>) -> Result<Found<List<Arg>>, ReadNone>
-        requires { AreDeeper self.now.depth (F.pre self.now.types) (F.post self.now.types) (G.pre self.now.constraints) (G.post self.now.constraints) }
-        ensures read { IsFound (gathered (elements (is_mark (codes ">")) (reader.one_arg (within self.now.depth)) at.old)) result at.new }
+        requires { AreDeeper self.now.depth (F.pre self.now.types) (F.post self.now.types)
+            (G.pre self.now.constraints) (G.post self.now.constraints) }
+        ensures read { IsFound (gathered (elements (is_mark (codes ">"))
+            (reader.one_arg (within self.now.depth)) at.old)) result at.new }
         ensures within { IfOk result (λ found. found.need ≤ self.now.depth) }
     {
         read_elements::<Arguments, Rules<F, G>, Arg, (), _>(
@@ -115,7 +120,8 @@ impl<
     /// Generic arguments in `<` and `>`.
     #[tactic(auto, unfolding(lay_node::specs::reader::Types::angle))]
     fn angle(&self, at: &mut Ahead<'_>) -> Result<Found<Args>, ReadNone>
-        requires { AreDeeper self.now.depth (F.pre self.now.types) (F.post self.now.types) (G.pre self.now.constraints) (G.post self.now.constraints) }
+        requires { AreDeeper self.now.depth (F.pre self.now.types) (F.post self.now.types)
+            (G.pre self.now.constraints) (G.post self.now.constraints) }
         ensures read { IsFound (reader.angle (within self.now.depth) at.old) result at.new }
         ensures within { IfOk result (λ found. found.need ≤ self.now.depth) }
     {
@@ -131,7 +137,8 @@ impl<
 
     /// A return type, if one stands there.
     pub fn output(&self, at: &mut Ahead<'_>) -> Result<Found<Option<Boxed<Ty>>>, ReadNone>
-        requires { AreDeeper self.now.depth (F.pre self.now.types) (F.post self.now.types) (G.pre self.now.constraints) (G.post self.now.constraints) }
+        requires { AreDeeper self.now.depth (F.pre self.now.types) (F.post self.now.types)
+            (G.pre self.now.constraints) (G.post self.now.constraints) }
         ensures read { IsFound (reader.output (within self.now.depth) at.old) result at.new }
         ensures within { IfOk result (λ found. found.need ≤ self.now.depth) }
     {
@@ -153,7 +160,8 @@ impl<
     /// Types in parentheses and a return type.
     #[tactic(auto, unfolding(lay_node::specs::reader::Types::round))]
     fn round(&self, at: &mut Ahead<'_>) -> Result<Found<Args>, ReadNone>
-        requires { AreDeeper self.now.depth (F.pre self.now.types) (F.post self.now.types) (G.pre self.now.constraints) (G.post self.now.constraints) }
+        requires { AreDeeper self.now.depth (F.pre self.now.types) (F.post self.now.types)
+            (G.pre self.now.constraints) (G.post self.now.constraints) }
         ensures read { IsFound (reader.round (within self.now.depth) at.old) result at.new }
         ensures within { IfOk result (λ found. found.need ≤ self.now.depth) }
     {
@@ -174,7 +182,8 @@ impl<
     /// The generic arguments of a segment, if there are any.
     #[tactic(auto, unfolding(lay_node::specs::reader::Types::args_by))]
     pub fn args(&self, at: &mut Ahead<'_>, style: PathStyle) -> Result<Found<Args>, ReadNone>
-        requires { AreDeeper self.now.depth (F.pre self.now.types) (F.post self.now.types) (G.pre self.now.constraints) (G.post self.now.constraints) }
+        requires { AreDeeper self.now.depth (F.pre self.now.types) (F.post self.now.types)
+            (G.pre self.now.constraints) (G.post self.now.constraints) }
         ensures read { IsFound (reader.args_by (within self.now.depth) style at.old) result at.new }
         ensures within { IfOk result (λ found. found.need ≤ self.now.depth) }
     {

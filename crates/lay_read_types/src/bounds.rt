@@ -43,7 +43,8 @@ impl<
     /// A bound that is a path, in parentheses or not.
     #[tactic(auto, unfolding(lay_node::specs::reader::Types::meets))]
     fn meets(&self, at: &mut Ahead<'_>, parens: bool) -> Result<Found<Bound>, ReadNone>
-        requires { AreDeeper self.now.depth (F.pre self.now.types) (F.post self.now.types) (G.pre self.now.constraints) (G.post self.now.constraints) }
+        requires { AreDeeper self.now.depth (F.pre self.now.types) (F.post self.now.types)
+            (G.pre self.now.constraints) (G.post self.now.constraints) }
         ensures read { IsFound (reader.meets (within self.now.depth) parens at.old) result at.new }
         ensures within { IfOk result (λ found. found.need ≤ self.now.depth) }
     {
@@ -64,7 +65,8 @@ impl<
     /// A bound.
     #[tactic(auto, unfolding(lay_node::specs::reader::Types::one_bound))]
     fn bound(&self, at: &mut Ahead<'_>, _place: ()) -> Result<Found<Bound>, ReadNone>
-        requires { AreDeeper self.now.depth (F.pre self.now.types) (F.post self.now.types) (G.pre self.now.constraints) (G.post self.now.constraints) }
+        requires { AreDeeper self.now.depth (F.pre self.now.types) (F.post self.now.types)
+            (G.pre self.now.constraints) (G.post self.now.constraints) }
         ensures read { IsFound (reader.one_bound (within self.now.depth) at.old) result at.new }
         ensures within { IfOk result (λ found. found.need ≤ self.now.depth) }
     {
@@ -92,7 +94,8 @@ impl<
     /// Bounds, one at least.
     #[tactic(auto, using(crate::proofs::Left::bound_leaves))]
     pub fn all_bounds(&self, at: &mut Ahead<'_>) -> Result<Found<List<Bound>>, ReadNone>
-        requires { AreDeeper self.now.depth (F.pre self.now.types) (F.post self.now.types) (G.pre self.now.constraints) (G.post self.now.constraints) }
+        requires { AreDeeper self.now.depth (F.pre self.now.types) (F.post self.now.types)
+            (G.pre self.now.constraints) (G.post self.now.constraints) }
         ensures read { IsFound (reader.all_bounds (within self.now.depth) at.old) result at.new }
         ensures within { IfOk result (λ found. found.need ≤ self.now.depth) }
     {
@@ -114,8 +117,10 @@ impl<
         at: &mut Ahead<'_>,
         place: TypePlace,
     ) -> Result<Found<List<Bound>>, ReadNone>
-        requires { AreDeeper self.now.depth (F.pre self.now.types) (F.post self.now.types) (G.pre self.now.constraints) (G.post self.now.constraints) }
-        ensures read { IsFound (reader.bounds_by (within self.now.depth) place at.old) result at.new }
+        requires { AreDeeper self.now.depth (F.pre self.now.types) (F.post self.now.types)
+            (G.pre self.now.constraints) (G.post self.now.constraints) }
+        ensures read { IsFound (reader.bounds_by (within self.now.depth) place at.old) result
+            at.new }
         ensures within { IfOk result (λ found. found.need ≤ self.now.depth) }
     {
         match place {
@@ -133,7 +138,8 @@ impl<
 
     /// What a name is equal to, behind its `=`.
     fn equal(&self, at: &mut Ahead<'_>) -> Result<Found<Constraint>, ReadNone>
-        requires deeper { AreDeeper self.now.depth (F.pre self.now.types) (F.post self.now.types) (G.pre self.now.constraints) (G.post self.now.constraints) }
+        requires deeper { AreDeeper self.now.depth (F.pre self.now.types) (F.post self.now.types)
+            (G.pre self.now.constraints) (G.post self.now.constraints) }
         requires room { self.now.depth + 1 < 2 ^ 32 }
         ensures read { IsFound (reader.equal (within self.now.depth) at.old) result at.new }
         ensures within { IfOk result (λ found. found.need ≤ self.now.depth + 1) }
@@ -155,7 +161,8 @@ impl<
     /// What is asked of a name among generic arguments.
     #[tactic(auto, unfolding(lay_node::specs::reader::Types::constraint_by))]
     pub fn constraint(&self, at: &mut Ahead<'_>) -> Result<Found<Constraint>, ReadNone>
-        requires deeper { AreDeeper self.now.depth (F.pre self.now.types) (F.post self.now.types) (G.pre self.now.constraints) (G.post self.now.constraints) }
+        requires deeper { AreDeeper self.now.depth (F.pre self.now.types) (F.post self.now.types)
+            (G.pre self.now.constraints) (G.post self.now.constraints) }
         requires room { self.now.depth + 1 < 2 ^ 32 }
         ensures read { IsFound (reader.constraint_by (within self.now.depth) at.old) result at.new }
         ensures within { IfOk result (λ found. found.need ≤ self.now.depth + 1) }

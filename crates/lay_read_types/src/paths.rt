@@ -34,7 +34,8 @@ impl<
     /// A segment.
     #[tactic(auto, unfolding(lay_node::specs::reader::Types::segment))]
     fn segment(&self, at: &mut Ahead<'_>, style: PathStyle) -> Result<Found<(Word, Args)>, ReadNone>
-        requires { AreDeeper self.now.depth (F.pre self.now.types) (F.post self.now.types) (G.pre self.now.constraints) (G.post self.now.constraints) }
+        requires { AreDeeper self.now.depth (F.pre self.now.types) (F.post self.now.types)
+            (G.pre self.now.constraints) (G.post self.now.constraints) }
         ensures read { IsFound (reader.segment (within self.now.depth) style at.old) result at.new }
         ensures within { IfOk result (λ found. found.need ≤ self.now.depth) }
     {
@@ -53,8 +54,10 @@ impl<
         at: &mut Ahead<'_>,
         style: PathStyle,
     ) -> Result<Found<List<(Word, Args)>>, ReadNone>
-        requires { AreDeeper self.now.depth (F.pre self.now.types) (F.post self.now.types) (G.pre self.now.constraints) (G.post self.now.constraints) }
-        ensures read { IsFound (gathered (reader.chain (codes "::") (reader.segment (within self.now.depth) style) at.old)) result at.new }
+        requires { AreDeeper self.now.depth (F.pre self.now.types) (F.post self.now.types)
+            (G.pre self.now.constraints) (G.post self.now.constraints) }
+        ensures read { IsFound (gathered (reader.chain (codes "::")
+            (reader.segment (within self.now.depth) style) at.old)) result at.new }
         ensures within { IfOk result (λ found. found.need ≤ self.now.depth) }
     {
         read_chain::<Segments, Rules<F, G>, (Word, Args), PathStyle, _>(
@@ -70,7 +73,8 @@ impl<
 
     /// A trait, which is one level deeper, as a type is.
     fn trait_path(&self, at: &mut Ahead<'_>) -> Result<Found<Path>, ReadNone>
-        requires { AreDeeper self.now.depth (F.pre self.now.types) (F.post self.now.types) (G.pre self.now.constraints) (G.post self.now.constraints) }
+        requires { AreDeeper self.now.depth (F.pre self.now.types) (F.post self.now.types)
+            (G.pre self.now.constraints) (G.post self.now.constraints) }
         ensures read { IsFound (reader.trait_path (within self.now.depth) at.old) result at.new }
         ensures within { IfOk result (λ found. found.need ≤ self.now.depth) }
     {
@@ -83,8 +87,10 @@ impl<
 
     /// The trait that a type is taken as, if there is one.
     fn trait_if(&self, at: &mut Ahead<'_>) -> Result<Found<Option<Boxed<Path>>>, ReadNone>
-        requires { AreDeeper self.now.depth (F.pre self.now.types) (F.post self.now.types) (G.pre self.now.constraints) (G.post self.now.constraints) }
-        ensures read { IsFound (reader.if_read (first (is_keyword (codes "as")) at.old) (λ ts. reader.trait_path (within self.now.depth) (tail ts)) at.old) result at.new }
+        requires { AreDeeper self.now.depth (F.pre self.now.types) (F.post self.now.types)
+            (G.pre self.now.constraints) (G.post self.now.constraints) }
+        ensures read { IsFound (reader.if_read (first (is_keyword (codes "as")) at.old)
+            (λ ts. reader.trait_path (within self.now.depth) (tail ts)) at.old) result at.new }
         ensures within { IfOk result (λ found. found.need ≤ self.now.depth) }
     {
         if !takes_keyword(at, b"as") {
@@ -104,7 +110,8 @@ impl<
     /// A type in `<` and `>::`, and the trait that it is taken as.
     #[tactic(auto, unfolding(lay_node::specs::reader::Types::qualified))]
     fn qualified(&self, at: &mut Ahead<'_>) -> Result<Found<PathStart>, ReadNone>
-        requires { AreDeeper self.now.depth (F.pre self.now.types) (F.post self.now.types) (G.pre self.now.constraints) (G.post self.now.constraints) }
+        requires { AreDeeper self.now.depth (F.pre self.now.types) (F.post self.now.types)
+            (G.pre self.now.constraints) (G.post self.now.constraints) }
         ensures read { IsFound (reader.qualified (within self.now.depth) at.old) result at.new }
         ensures within { IfOk result (λ found. found.need ≤ self.now.depth) }
     {
@@ -126,7 +133,8 @@ impl<
 
     /// What a path begins with.
     fn path_start(&self, at: &mut Ahead<'_>) -> Result<Found<PathStart>, ReadNone>
-        requires { AreDeeper self.now.depth (F.pre self.now.types) (F.post self.now.types) (G.pre self.now.constraints) (G.post self.now.constraints) }
+        requires { AreDeeper self.now.depth (F.pre self.now.types) (F.post self.now.types)
+            (G.pre self.now.constraints) (G.post self.now.constraints) }
         ensures read { IsFound (reader.path_start (within self.now.depth) at.old) result at.new }
         ensures within { IfOk result (λ found. found.need ≤ self.now.depth) }
     {
@@ -148,7 +156,8 @@ impl<
     /// A path.
     #[tactic(auto, unfolding(lay_node::specs::reader::Types::path))]
     pub fn path(&self, at: &mut Ahead<'_>, style: PathStyle) -> Result<Found<Path>, ReadNone>
-        requires { AreDeeper self.now.depth (F.pre self.now.types) (F.post self.now.types) (G.pre self.now.constraints) (G.post self.now.constraints) }
+        requires { AreDeeper self.now.depth (F.pre self.now.types) (F.post self.now.types)
+            (G.pre self.now.constraints) (G.post self.now.constraints) }
         ensures read { IsFound (reader.path (within self.now.depth) style at.old) result at.new }
         ensures within { IfOk result (λ found. found.need ≤ self.now.depth) }
     {

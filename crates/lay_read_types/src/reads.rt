@@ -22,7 +22,8 @@ pub fn read_type(
     depth: u32,
 ) -> Result<Ty, ReadNone>
     requires { AreLexed at.old }
-    ensures { IsReadAt depth (λ (x : TyValue). TypeFront place (about_type x)) at.old result at.new }
+    ensures { IsReadAt depth (λ (x : TyValue). TypeFront place (about_type x)) at.old result
+        at.new }
 {
     let mut ahead = Ahead::new(at.fork());
     let found = type_ahead(alloc, &mut ahead, place, depth)?;
@@ -39,7 +40,8 @@ pub fn read_path(
     depth: u32,
 ) -> Result<Path, ReadNone>
     requires { AreLexed at.old }
-    ensures { IsReadAt depth (λ (x : PathValue). Front (alone (about_path x style))) at.old result at.new }
+    ensures { IsReadAt depth (λ (x : PathValue). Front (alone (about_path x style))) at.old result
+        at.new }
 {
     if depth == 0 {
         return Err(ReadNone::NoReading);
@@ -59,7 +61,8 @@ pub fn read_args(
     depth: u32,
 ) -> Result<Args, ReadNone>
     requires { AreLexed at.old }
-    ensures { IsReadAt depth (λ (x : ArgsValue). Front (alone (in_style style (about_args x)))) at.old result at.new }
+    ensures { IsReadAt depth (λ (x : ArgsValue). Front (alone (in_style style (about_args x))))
+        at.old result at.new }
 {
     if depth == 0 {
         return Err(ReadNone::NoReading);

@@ -25,7 +25,8 @@ impl<
 > Rules<F, G> {
     /// A type one level deeper.
     pub fn inner(&self, at: &mut Ahead<'_>, place: TypePlace) -> Result<Found<Ty>, ReadNone>
-        requires { AreDeeper self.now.depth (F.pre self.now.types) (F.post self.now.types) (G.pre self.now.constraints) (G.post self.now.constraints) }
+        requires { AreDeeper self.now.depth (F.pre self.now.types) (F.post self.now.types)
+            (G.pre self.now.constraints) (G.post self.now.constraints) }
         ensures read { IsFound ((within self.now.depth).types place at.old) result at.new }
         ensures within { IfOk result (λ found. found.need ≤ self.now.depth) }
     {
@@ -34,7 +35,8 @@ impl<
 
     /// What is asked of a name, one level deeper.
     pub fn asked(&self, at: &mut Ahead<'_>) -> Result<Found<Constraint>, ReadNone>
-        requires { AreDeeper self.now.depth (F.pre self.now.types) (F.post self.now.types) (G.pre self.now.constraints) (G.post self.now.constraints) }
+        requires { AreDeeper self.now.depth (F.pre self.now.types) (F.post self.now.types)
+            (G.pre self.now.constraints) (G.post self.now.constraints) }
         ensures read { IsFound ((within self.now.depth).constraints at.old) result at.new }
         ensures within { IfOk result (λ found. found.need ≤ self.now.depth) }
     {

@@ -52,9 +52,11 @@ impl<
 > Rules<F, G> {
     /// A type at its place, told from what begins it.
     pub fn type_by(&self, at: &mut Ahead<'_>, place: TypePlace) -> Result<Found<Ty>, ReadNone>
-        requires deeper { AreDeeper self.now.depth (F.pre self.now.types) (F.post self.now.types) (G.pre self.now.constraints) (G.post self.now.constraints) }
+        requires deeper { AreDeeper self.now.depth (F.pre self.now.types) (F.post self.now.types)
+            (G.pre self.now.constraints) (G.post self.now.constraints) }
         requires room { self.now.depth + 1 < 2 ^ 32 }
-        ensures read { IsFound (reader.type_by (within self.now.depth) place (lead_at at.old) at.old) result at.new }
+        ensures read { IsFound (reader.type_by (within self.now.depth) place (lead_at at.old)
+            at.old) result at.new }
         ensures within { IfOk result (λ found. found.need ≤ self.now.depth + 1) }
     {
         match lead_at(at) {
@@ -75,7 +77,8 @@ impl<
         place: TypePlace,
         lead: Lead,
     ) -> Result<Found<Ty>, ReadNone>
-        requires deeper { AreDeeper self.now.depth (F.pre self.now.types) (F.post self.now.types) (G.pre self.now.constraints) (G.post self.now.constraints) }
+        requires deeper { AreDeeper self.now.depth (F.pre self.now.types) (F.post self.now.types)
+            (G.pre self.now.constraints) (G.post self.now.constraints) }
         requires room { self.now.depth + 1 < 2 ^ 32 }
         ensures read { IsFound (marked (within self.now.depth) place lead at.old) result at.new }
         ensures within { IfOk result (λ found. found.need ≤ self.now.depth + 1) }
@@ -103,8 +106,10 @@ impl<
     /// Types with commas, and the closing parenthesis behind them.
     #[tactic(auto, using(crate::proofs::Left::types_leave))]
     pub fn paren_types(&self, at: &mut Ahead<'_>) -> Result<Found<List<Ty>>, ReadNone>
-        requires { AreDeeper self.now.depth (F.pre self.now.types) (F.post self.now.types) (G.pre self.now.constraints) (G.post self.now.constraints) }
-        ensures read { IsFound (gathered (elements (closes Paren) ((within self.now.depth).types Bounds) at.old)) result at.new }
+        requires { AreDeeper self.now.depth (F.pre self.now.types) (F.post self.now.types)
+            (G.pre self.now.constraints) (G.post self.now.constraints) }
+        ensures read { IsFound (gathered (elements (closes Paren)
+            ((within self.now.depth).types Bounds) at.old)) result at.new }
         ensures within { IfOk result (λ found. found.need ≤ self.now.depth) }
     {
         read_elements::<Types, Rules<F, G>, Ty, TypePlace, _>(
@@ -122,7 +127,8 @@ impl<
     #[tactic(auto, unfolding(lay_node::specs::reader::Types::paren_type))]
     #[inline(never)]
     fn paren_type(&self, at: &mut Ahead<'_>) -> Result<Found<Ty>, ReadNone>
-        requires deeper { AreDeeper self.now.depth (F.pre self.now.types) (F.post self.now.types) (G.pre self.now.constraints) (G.post self.now.constraints) }
+        requires deeper { AreDeeper self.now.depth (F.pre self.now.types) (F.post self.now.types)
+            (G.pre self.now.constraints) (G.post self.now.constraints) }
         requires room { self.now.depth + 1 < 2 ^ 32 }
         ensures read { IsFound (reader.paren_type (within self.now.depth) at.old) result at.new }
         ensures within { IfOk result (λ found. found.need ≤ self.now.depth + 1) }
@@ -141,10 +147,12 @@ impl<
 
     /// What stands behind a `(` and a type.
     fn paren_rest(&self, at: &mut Ahead<'_>, first: Found<Ty>) -> Result<Found<Ty>, ReadNone>
-        requires deeper { AreDeeper self.now.depth (F.pre self.now.types) (F.post self.now.types) (G.pre self.now.constraints) (G.post self.now.constraints) }
+        requires deeper { AreDeeper self.now.depth (F.pre self.now.types) (F.post self.now.types)
+            (G.pre self.now.constraints) (G.post self.now.constraints) }
         requires room { self.now.depth + 1 < 2 ^ 32 }
         requires within { first.need ≤ self.now.depth }
-        ensures read { IsFound (reader.paren_by (within self.now.depth) (first.node, first.need) at.old) result at.new }
+        ensures read { IsFound (reader.paren_by (within self.now.depth) (first.node, first.need)
+            at.old) result at.new }
         ensures within { IfOk result (λ found. found.need ≤ self.now.depth + 1) }
     {
         if takes_closer(at, Delim::Paren) {
@@ -169,7 +177,8 @@ impl<
     #[tactic(auto, unfolding(lay_node::specs::reader::Types::bracket_type))]
     #[inline(never)]
     fn bracket_type(&self, at: &mut Ahead<'_>) -> Result<Found<Ty>, ReadNone>
-        requires deeper { AreDeeper self.now.depth (F.pre self.now.types) (F.post self.now.types) (G.pre self.now.constraints) (G.post self.now.constraints) }
+        requires deeper { AreDeeper self.now.depth (F.pre self.now.types) (F.post self.now.types)
+            (G.pre self.now.constraints) (G.post self.now.constraints) }
         requires room { self.now.depth + 1 < 2 ^ 32 }
         ensures read { IsFound (reader.bracket_type (within self.now.depth) at.old) result at.new }
         ensures within { IfOk result (λ found. found.need ≤ self.now.depth + 1) }
@@ -193,9 +202,11 @@ impl<
     #[tactic(auto, unfolding(lay_node::specs::reader::Types::reference_type))]
     #[inline(never)]
     fn reference_type(&self, at: &mut Ahead<'_>) -> Result<Found<Ty>, ReadNone>
-        requires deeper { AreDeeper self.now.depth (F.pre self.now.types) (F.post self.now.types) (G.pre self.now.constraints) (G.post self.now.constraints) }
+        requires deeper { AreDeeper self.now.depth (F.pre self.now.types) (F.post self.now.types)
+            (G.pre self.now.constraints) (G.post self.now.constraints) }
         requires room { self.now.depth + 1 < 2 ^ 32 }
-        ensures read { IsFound (reader.reference_type (within self.now.depth) at.old) result at.new }
+        ensures read { IsFound (reader.reference_type (within self.now.depth) at.old) result
+            at.new }
         ensures within { IfOk result (λ found. found.need ≤ self.now.depth + 1) }
     {
         let lifetime = read_lifetime_if(self.alloc, at)?;
@@ -216,7 +227,8 @@ impl<
     /// What stands behind a `*`.
     #[tactic(auto, unfolding(lay_node::specs::reader::Types::pointer_type))]
     fn pointer_type(&self, at: &mut Ahead<'_>) -> Result<Found<Ty>, ReadNone>
-        requires deeper { AreDeeper self.now.depth (F.pre self.now.types) (F.post self.now.types) (G.pre self.now.constraints) (G.post self.now.constraints) }
+        requires deeper { AreDeeper self.now.depth (F.pre self.now.types) (F.post self.now.types)
+            (G.pre self.now.constraints) (G.post self.now.constraints) }
         requires room { self.now.depth + 1 < 2 ^ 32 }
         ensures read { IsFound (reader.pointer_type (within self.now.depth) at.old) result at.new }
         ensures within { IfOk result (λ found. found.need ≤ self.now.depth + 1) }
@@ -239,9 +251,11 @@ impl<
         dynamic: bool,
         place: TypePlace,
     ) -> Result<Found<Ty>, ReadNone>
-        requires deeper { AreDeeper self.now.depth (F.pre self.now.types) (F.post self.now.types) (G.pre self.now.constraints) (G.post self.now.constraints) }
+        requires deeper { AreDeeper self.now.depth (F.pre self.now.types) (F.post self.now.types)
+            (G.pre self.now.constraints) (G.post self.now.constraints) }
         requires room { self.now.depth + 1 < 2 ^ 32 }
-        ensures read { IsFound (reader.bounds_type (within self.now.depth) dynamic place at.old) result at.new }
+        ensures read { IsFound (reader.bounds_type (within self.now.depth) dynamic place at.old)
+            result at.new }
         ensures within { IfOk result (λ found. found.need ≤ self.now.depth + 1) }
     {
         let bounds = self.bounds(at, place)?;
@@ -257,7 +271,8 @@ impl<
     /// A macro call, or a path.
     #[inline(never)]
     fn path_or_call(&self, at: &mut Ahead<'_>) -> Result<Found<Ty>, ReadNone>
-        requires deeper { AreDeeper self.now.depth (F.pre self.now.types) (F.post self.now.types) (G.pre self.now.constraints) (G.post self.now.constraints) }
+        requires deeper { AreDeeper self.now.depth (F.pre self.now.types) (F.post self.now.types)
+            (G.pre self.now.constraints) (G.post self.now.constraints) }
         requires room { self.now.depth + 1 < 2 ^ 32 }
         ensures read { IsFound (path_or_call (within self.now.depth) at.old) result at.new }
         ensures within { IfOk result (λ found. found.need ≤ self.now.depth + 1) }
@@ -275,7 +290,8 @@ impl<
     /// A path.
     #[tactic(auto, unfolding(lay_node::specs::reader::Types::path_type))]
     fn path_type(&self, at: &mut Ahead<'_>) -> Result<Found<Ty>, ReadNone>
-        requires deeper { AreDeeper self.now.depth (F.pre self.now.types) (F.post self.now.types) (G.pre self.now.constraints) (G.post self.now.constraints) }
+        requires deeper { AreDeeper self.now.depth (F.pre self.now.types) (F.post self.now.types)
+            (G.pre self.now.constraints) (G.post self.now.constraints) }
         requires room { self.now.depth + 1 < 2 ^ 32 }
         ensures read { IsFound (reader.path_type (within self.now.depth) at.old) result at.new }
         ensures within { IfOk result (λ found. found.need ≤ self.now.depth + 1) }
@@ -293,7 +309,8 @@ impl<
     /// A parameter of a function type.
     #[tactic(auto, unfolding(lay_node::specs::reader::Types::func_param))]
     fn func_param(&self, at: &mut Ahead<'_>, _place: ()) -> Result<Found<FuncParam>, ReadNone>
-        requires { AreDeeper self.now.depth (F.pre self.now.types) (F.post self.now.types) (G.pre self.now.constraints) (G.post self.now.constraints) }
+        requires { AreDeeper self.now.depth (F.pre self.now.types) (F.post self.now.types)
+            (G.pre self.now.constraints) (G.post self.now.constraints) }
         ensures read { IsFound (reader.func_param (within self.now.depth) at.old) result at.new }
         ensures within { IfOk result (λ found. found.need ≤ self.now.depth) }
     {
@@ -313,8 +330,11 @@ impl<
     /// Parameters of a function type as long as one begins.
     #[tactic(auto, using(crate::proofs::Left::param_leaves))]
     fn open_params(&self, at: &mut Ahead<'_>) -> Result<Found<(List<FuncParam>, bool)>, ReadNone>
-        requires { AreDeeper self.now.depth (F.pre self.now.types) (F.post self.now.types) (G.pre self.now.constraints) (G.post self.now.constraints) }
-        ensures read { IsFound (gathered_open (open_elements reader.begins_param (reader.func_param (within self.now.depth)) at.old)) result at.new }
+        requires { AreDeeper self.now.depth (F.pre self.now.types) (F.post self.now.types)
+            (G.pre self.now.constraints) (G.post self.now.constraints) }
+        ensures read { IsFound (gathered_open
+            (open_elements reader.begins_param (reader.func_param (within self.now.depth)) at.old))
+            result at.new }
         ensures within { IfOk result (λ found. found.need ≤ self.now.depth) }
     {
         read_open_elements::<FuncParams, Rules<F, G>, FuncParam, (), _>(
@@ -331,7 +351,8 @@ impl<
     /// The parameters of a function type, and whether `...` stands behind them.
     #[tactic(auto, unfolding(lay_node::specs::reader::Types::func_params))]
     fn func_params(&self, at: &mut Ahead<'_>) -> Result<Found<(List<FuncParam>, bool)>, ReadNone>
-        requires { AreDeeper self.now.depth (F.pre self.now.types) (F.post self.now.types) (G.pre self.now.constraints) (G.post self.now.constraints) }
+        requires { AreDeeper self.now.depth (F.pre self.now.types) (F.post self.now.types)
+            (G.pre self.now.constraints) (G.post self.now.constraints) }
         ensures read { IsFound (reader.func_params (within self.now.depth) at.old) result at.new }
         ensures within { IfOk result (λ found. found.need ≤ self.now.depth) }
     {
@@ -355,7 +376,8 @@ impl<
     #[tactic(auto, unfolding(lay_node::specs::reader::Types::func_type))]
     #[inline(never)]
     fn func_type(&self, at: &mut Ahead<'_>) -> Result<Found<Ty>, ReadNone>
-        requires deeper { AreDeeper self.now.depth (F.pre self.now.types) (F.post self.now.types) (G.pre self.now.constraints) (G.post self.now.constraints) }
+        requires deeper { AreDeeper self.now.depth (F.pre self.now.types) (F.post self.now.types)
+            (G.pre self.now.constraints) (G.post self.now.constraints) }
         requires room { self.now.depth + 1 < 2 ^ 32 }
         ensures read { IsFound (reader.func_type (within self.now.depth) at.old) result at.new }
         ensures within { IfOk result (λ found. found.need ≤ self.now.depth + 1) }
@@ -428,7 +450,8 @@ pub fn begins_call(alloc: Global, at: &Ahead<'_>) -> Result<bool, ReadNone>
 
 /// The name of a parameter and the `:` behind it, if they stand there.
 fn read_param_name_if(alloc: Global, at: &mut Ahead<'_>) -> Result<Option<GivenName>, ReadNone>
-    ensures { IsGot (reader.if_there (reader.begins_given at.old) reader.param_name at.old) result at.new }
+    ensures { IsGot (reader.if_there (reader.begins_given at.old) reader.param_name at.old) result
+        at.new }
 {
     let mut behind = at.fork();
     match read_given_name(alloc, &mut behind) {

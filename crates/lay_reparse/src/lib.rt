@@ -61,9 +61,12 @@ ghost use Rattle.lay_code.specs.declared.file.File.{File};
 /// it is the same.
 pub fn reparse_law()
     ensures each_text { (file : File) (depth : ℕ) (text : List ℕ)
-        → Written file → least_depth (form_of_file file) ≤ depth → Anyway (layout_of_file file) text → ReadsAt depth text file }
-    ensures attained { (file : File) → Written file → IsSpelled file (least_depth (form_of_file file)) }
-    ensures own_text { (file : File) → Written file → least_depth (form_of_file file) ≤ top → Reads (out file) file }
+        → Written file → least_depth (form_of_file file) ≤ depth → Anyway (layout_of_file file) text
+        → ReadsAt depth text file }
+    ensures attained { (file : File) → Written file
+        → IsSpelled file (least_depth (form_of_file file)) }
+    ensures own_text { (file : File) → Written file → least_depth (form_of_file file) ≤ top
+        → Reads (out file) file }
     ensures again { (bytes : List ℕ) (file : File) → Reads bytes file → Reads (out file) file }
 {}
 
@@ -71,7 +74,8 @@ pub fn reparse_law()
 /// goes token by token, holds of exactly the lists that some text lexes to, with documentation that may be laid out.
 pub fn token_list_law()
     ensures reads { (tokens : List Listed) (text : List ℕ)
-        → IsTrue (is_token_list tokens) → Anyway (document (token_list tokens)) text → ReadsTokens text tokens }
+        → IsTrue (is_token_list tokens) → Anyway (document (token_list tokens)) text
+        → ReadsTokens text tokens }
     ensures decides { (tokens : List Listed) → IsTrue (is_token_list tokens) ↔ IsTokenList tokens }
 {}
 
@@ -84,7 +88,8 @@ pub fn join_law()
 /// At each depth bytes have one answer: they read to one file, or are refused for one cause at one place, and never both.
 pub fn unique_law()
     ensures some_answer { (depth : ℕ) (bytes : List ℕ)
-        → ((file : File) × ReadsAt depth bytes file) ⊎ ((refusal : Refusal) × IsRefusedAt depth bytes refusal) }
+        → ((file : File) × ReadsAt depth bytes file)
+        ⊎ ((refusal : Refusal) × IsRefusedAt depth bytes refusal) }
     ensures one_file { (depth : ℕ) (bytes : List ℕ) (file other : File)
         → ReadsAt depth bytes file → ReadsAt depth bytes other → other ≡ file }
     ensures one_refusal { (depth : ℕ) (bytes : List ℕ) (refusal other : Refusal)

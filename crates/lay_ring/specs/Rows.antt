@@ -2,6 +2,7 @@
 use Rattle.std.specs.Prelude.{◌≡◌, ℕ, zero, suc, ◌+◌, ◌-◌, min, ℤ, pos, negsuc, Bool, true, false, List, [], ◌∷◌, ◌++◌, length, take, drop, Option, None, Some}
 use Rattle.lay_layout.specs.declared.layout.Tok.{Tok}
 use Rattle.lay_layout.specs.declared.layout.Tok.TheVariants as tok
+use Rattle.lay_layout.specs.Margins.{margin}
 use Rattle.lay_ring.specs.declared.entry.Size.{Size}
 use Rattle.lay_ring.specs.declared.entry.Size.TheVariants.{Unknown, Known}
 use Rattle.lay_ring.specs.declared.entry.Entry.{Entry}
@@ -43,9 +44,9 @@ abbrev pub bytes_in : List Entry → ℕ
 bytes_in [] = 0
 bytes_in (e ∷ es) = text_bytes e.tok + bytes_in es
 
--- how many bytes a text has at the most
+-- how many bytes a text has at the most: as many as a line has columns
 abbrev pub text_most : ℕ
-text_most = 89
+text_most = margin
 
 -- how many bytes of text there is room for at first
 abbrev pub bytes_first : ℕ

@@ -2,6 +2,7 @@
 ghost use Rattle.std.specs.Prelude.{◌≡◌, ◌+◌, ◌-◌, ◌≤◌, [], ◌++◌, length, take, drop, true, IfOk, OnOk, OnErr};
 ghost use Rattle.lay_ring.specs.Rows.{bytes_kept, room_in, texts_in};
 
+use lay_layout::MARGIN;
 use lay_text::NoMemory;
 use std::alloc::Global;
 use std::marker::Model;
@@ -12,8 +13,8 @@ const FIRST: usize = 128;
 /// How many there is room for in the full room.
 const FULL: usize = 1024;
 
-/// How many bytes a text has at the most.
-const LONGEST: usize = 89;
+/// How many bytes a text has at the most: as many as a line has columns.
+const LONGEST: usize = MARGIN as usize;
 
 /// Bytes that are added at the end and taken from the front. Contracts see them as a list, and whether the room is the
 /// full one.

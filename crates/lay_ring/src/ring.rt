@@ -42,7 +42,8 @@ impl Ring {
     /// Adds an entry at the end and answers its number. `Err` hands the entry back for want of memory.
     pub fn push(&mut self, entry: Entry) -> Result<u64, Entry>
         ensures ok { OnOk result (self.new.entries ≡ self.old.entries ++ entry ∷ []) }
-        ensures number { IfOk result (λ number. number ≡ number_of self.old.first (length self.old.entries)) }
+        ensures number { IfOk result (λ number. number
+            ≡ number_of self.old.first (length self.old.entries)) }
         ensures first { self.new.first ≡ self.old.first }
         ensures err { OnErr result (self.new ≡ self.old) }
         ensures back { IfErr result (λ given. given ≡ entry) }
@@ -66,7 +67,8 @@ impl Ring {
     pub fn size_at(&mut self, number: u64, size: Size)
         requires unknown { IsUnknownAt self.old.entries (place_of self.old.first number) }
         requires known { size ≢ Size.Unknown }
-        ensures entries { self.new.entries ≡ sized_at self.old.entries (place_of self.old.first number) size }
+        ensures entries { self.new.entries ≡ sized_at self.old.entries
+            (place_of self.old.first number) size }
         ensures first { self.new.first ≡ self.old.first }
         ensures spare { self.new.spare ≡ self.old.spare }
     {
@@ -146,5 +148,6 @@ impl Ring {
 
 /// Where fewer than 2^64 entries are held, the number of an entry tells its place.
 pub fn number_law()
-    ensures { (first place : ℕ) → first < 2 ^ 64 → place < 2 ^ 64 → place_of first (number_of first place) ≡ place }
+    ensures { (first place : ℕ) → first < 2 ^ 64 → place < 2 ^ 64
+        → place_of first (number_of first place) ≡ place }
 {}

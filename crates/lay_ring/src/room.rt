@@ -19,7 +19,8 @@ pub fn reserve<T>(buffer: &mut HeapCircularBuffer<T>, more: usize) -> Result<(),
     ensures ok { OnOk result (length buffer.old.items + more ≤ buffer.new.capacity) }
     ensures err { OnErr result (buffer.new ≡ buffer.old) }
     ensures sure { more ≤ buffer.old.capacity - length buffer.old.items → IsOk result }
-    ensures as_it_was { more ≤ buffer.old.capacity - length buffer.old.items → buffer.new ≡ buffer.old }
+    ensures as_it_was { more ≤ buffer.old.capacity - length buffer.old.items
+        → buffer.new ≡ buffer.old }
 {
     if more <= spare(buffer) {
         return Ok(());

@@ -124,7 +124,8 @@ impl Row {
     pub fn size_at(&mut self, number: u64, size: u64)
         requires unknown { IsUnknownAt self.old.entries (place_of self.old.first number) }
         requires small { size < 2 ^ 63 }
-        ensures entries { self.new.entries ≡ sized_at self.old.entries (place_of self.old.first number) (Known (pos size)) }
+        ensures entries { self.new.entries ≡ sized_at self.old.entries
+            (place_of self.old.first number) (Known (pos size)) }
         ensures first { self.new.first ≡ self.old.first }
         ensures spare { self.new.spare ≡ self.old.spare }
     {

@@ -1,13 +1,16 @@
 //! The slow printer: each group and each break is measured anew.
 ghost use Rattle.std.specs.Prelude.{◌≡◌, ◌≤◌, ◌+◌, nat_lt, OnOk, IfOk};
 ghost use Rattle.lay_layout.specs.Machine.{opened, reach, Layout, step, text};
-ghost use Rattle.lay_layout.specs.Document.{Document, stream as stream_of, text_of};
-ghost use Rattle.lay_stream.specs.Pages.{At};
+ghost use Rattle.lay_layout.specs.Document.{Document, break_in, stream as stream_of, text_of, write as written_on};
+ghost use Rattle.lay_layout.specs.Indents.{IsKept};
+ghost use Rattle.lay_stream.specs.Pages.{Follows, IsLaid};
 
 use crate::frames::{Frames, asks_at_begin};
-use crate::page::Page;
+use crate::line::Line;
 use crate::stream::Stream;
-use lay_layout::{MARGIN, Tok, asks_at_break, entered, width_of};
+use crate::text_sink::TextSink;
+use lay_io::Failed;
+use lay_layout::{Break, Frame, MARGIN, Tok, asks_at_break, entered, width_of};
 use lay_text::{NoMemory, Text};
 use std::alloc::Global;
 
@@ -16,7 +19,8 @@ use std::alloc::Global;
 pub fn plain(alloc: Global, stream: &Stream) -> Result<Text, NoMemory>
     requires { opened stream.now 0 ≡ 0 }
     ensures value { IfOk result (λ t. t ≡ text stream.now) }
-    ensures document { IfOk result (λ t. (d : Document) → stream_of d ≡ stream.now → t ≡ text_of d) }
+    ensures document { IfOk result (λ t. (d : Document) → stream_of d ≡ stream.now
+        → t ≡ text_of d) }
 {
     lay(alloc, stream.toks())
 }
@@ -25,42 +29,43 @@ pub fn plain(alloc: Global, stream: &Stream) -> Result<Text, NoMemory>
 fn lay(alloc: Global, toks: &[Tok]) -> Result<Text, NoMemory>
     ensures { IfOk result (λ t. t ≡ text toks.now) }
 {
-    let mut page = Page {
-        text: Text::new(alloc),
+    let mut line = Line {
         pending: 0,
         room: MARGIN,
         used: 0,
     };
+    let mut sink = TextSink::new(alloc);
     let mut frames = Frames::new(alloc);
     let mut rest = toks;
     while let Some((tok, more)) = rest.split_first() {
-        lay_one(&mut page, &mut frames, tok, more)?;
+        lay_one(&mut line, &mut sink, &mut frames, tok, more)?;
         rest = more;
     }
-    let Page {
-        text,
-        pending: _,
-        room: _,
-        used: _,
-    } = page;
+    let TextSink { text, faults: _ } = sink;
     Ok(text)
 }
 
 /// One token, which others follow.
-fn lay_one(page: &mut Page, frames: &mut Frames, tok: &Tok, more: &[Tok]) -> Result<(), NoMemory>
-    requires { page.old.room ≤ 89 }
-    ensures { OnOk result ((m : Layout) → At page.old frames.old m → At page.new frames.new (step tok.now more.now m)) }
+fn lay_one(
+    line: &mut Line,
+    sink: &mut TextSink,
+    frames: &mut Frames,
+    tok: &Tok,
+    more: &[Tok],
+) -> Result<(), NoMemory>
+    ensures { OnOk result ((m : Layout) → IsLaid line.old frames.old sink.old.text m
+        → IsLaid line.new frames.new sink.new.text (step tok.now more.now m)) }
 {
     match tok {
-        Tok::Text(text) => page.write(text.as_bytes()),
+        Tok::Text(text) => put_text(line, sink, text.as_bytes()),
         Tok::Break(brk) => {
             let frame = frames.top();
-            let big = asks_at_break(frame, *brk) && is_over(page, width_of(*brk), more, 0);
-            page.put_break(frame, *brk, big)
+            let big = asks_at_break(frame, *brk) && is_over(line, width_of(*brk), more, 0);
+            put_break(line, sink, frame, *brk, big)
         }
         Tok::Begin { consistent, offset } => {
             let frame = frames.top();
-            let big = asks_at_begin(frame) && is_over(page, 0, more, 1);
+            let big = asks_at_begin(frame) && is_over(line, 0, more, 1);
             frames.push(entered(frame, *consistent, *offset, big))
         }
         Tok::End => {
@@ -70,24 +75,52 @@ fn lay_one(page: &mut Page, frames: &mut Frames, tok: &Tok, more: &[Tok]) -> Res
     }
 }
 
-/// Whether a measure is greater than the space. It is a width and what tokens reach up to a break at depth 0.
-fn is_over(page: &Page, width: u64, more: &[Tok], depth: usize) -> bool
-    requires depth { depth ≤ 1 }
-    requires room { page.now.room ≤ 89 }
-    ensures { result ≡ nat_lt page.now.room (page.now.used + (width + reach depth more.now)) }
+/// Puts a text on the line.
+fn put_text(line: &mut Line, sink: &mut TextSink, text: &[u8]) -> Result<(), NoMemory>
+    ensures { OnOk result (Follows line.old sink.old.text line.new sink.new.text
+        (written_on text.now)) }
 {
-    if page.used > page.room {
+    match line.write(sink, text) {
+        Ok(()) => Ok(()),
+        Err(Failed) => Err(NoMemory),
+    }
+}
+
+/// Puts a break on the line; `big` says that its measure is greater than the space.
+fn put_break(
+    line: &mut Line,
+    sink: &mut TextSink,
+    frame: Frame,
+    brk: Break,
+    big: bool,
+) -> Result<(), NoMemory>
+    requires { IsKept frame }
+    ensures { OnOk result (Follows line.old sink.old.text line.new sink.new.text
+        (break_in frame brk big)) }
+{
+    match line.put_break(sink, frame, brk, big) {
+        Ok(()) => Ok(()),
+        Err(Failed) => Err(NoMemory),
+    }
+}
+
+/// Whether a measure is greater than the space. It is a width and what tokens reach up to a break at depth 0.
+fn is_over(line: &Line, width: u64, more: &[Tok], depth: usize) -> bool
+    requires { depth ≤ 1 }
+    ensures { result ≡ nat_lt line.now.room (line.now.used + (width + reach depth more.now)) }
+{
+    if line.used > line.room {
         return true;
     }
-    let limit = page.room - page.used;
+    let limit = line.room - line.used;
     if width > limit {
         return true;
     }
-    exceeds(more, depth, limit - width)
+    reaches_past(more, depth, limit - width)
 }
 
 /// Whether what tokens reach, up to a break at depth 0, is greater than a limit. It looks no further than the limit.
-fn exceeds(toks: &[Tok], depth: usize, limit: u64) -> bool
+fn reaches_past(toks: &[Tok], depth: usize, limit: u64) -> bool
     requires { depth ≤ 1 }
     ensures { result ≡ nat_lt limit (reach depth toks.now) }
 {

@@ -77,7 +77,8 @@ impl Emit for Stream {
     ghost meanings = { list_meanings NoMemory };
 
     fn text(&mut self, text: &[u8]) -> Result<(), NoMemory>
-        ensures did { Did (list_meanings NoMemory) self.old (tok.Text text.now ∷ []) result self.new }
+        ensures did { Did (list_meanings NoMemory) self.old (tok.Text text.now ∷ []) result
+            self.new }
         ensures unchanged { OnErr result (self.new ≡ self.old) }
     {
         match Text::from_bytes(self.alloc, text) {
@@ -94,7 +95,8 @@ impl Emit for Stream {
     }
 
     fn begin(&mut self, consistent: bool, offset: i8) -> Result<(), NoMemory>
-        ensures did { Did (list_meanings NoMemory) self.old (tok.Begin consistent offset ∷ []) result self.new }
+        ensures did { Did (list_meanings NoMemory) self.old (tok.Begin consistent offset ∷ [])
+            result self.new }
         ensures unchanged { OnErr result (self.new ≡ self.old) }
     {
         self.push(Tok::Begin { consistent, offset })

@@ -24,7 +24,8 @@ pub fn put_source<E: Emit>(
 ) -> Result<(), NotPut<E::Fault>>
     requires text { IsUtf8 source.now.text }
     requires border { IsCharBoundary source.now.text source.now.start }
-    ensures { OnOk result (PutsFile E.meanings depth source.now.text source.now.start out.old out.new) }
+    ensures { OnOk result (PutsFile E.meanings depth source.now.text source.now.start out.old
+        out.new) }
 {
     let text = source.as_str();
     let mut place = source.start;
@@ -88,7 +89,8 @@ fn put_module<E: Emit>(
 ) -> Result<(), NotPut<E::Fault>>
     requires text { IsUtf8 text.now }
     requires border { IsCharBoundary text.now place.old }
-    ensures { OnOk result (PutsModule E.meanings within depth text.now place.old place.new head.now out.old out.new) }
+    ensures { OnOk result (PutsModule E.meanings within depth text.now place.old place.new head.now
+        out.old out.new) }
 {
     let first = window_at(alloc, text, *place)?;
     if is_empty_body(&first) {

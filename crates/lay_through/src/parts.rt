@@ -89,7 +89,8 @@ fn put_items<E: Emit>(
     out: &mut E,
 ) -> Result<(), NotPut<E::Fault>>
     requires { AreLexed at.old }
-    ensures { OnOk result (PutsItems E.meanings within depth are_items.old are_items.new at.old at.new out.old out.new) }
+    ensures { OnOk result (PutsItems E.meanings within depth are_items.old are_items.new at.old
+        at.new out.old out.new) }
 {
     for _ in 0..usize::MAX {
         match read_item(alloc, at, Site::Module, depth) {

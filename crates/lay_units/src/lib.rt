@@ -15,9 +15,12 @@ ghost use Rattle.lay_units.specs.Units.{AreSingle, said, units, words};
 /// The laws of units. What they say is told by the form, however it is spelled, so two spellings of one form have the same
 /// number of units, which say the same. Where the form is clear, the first match finds them by what they say alone.
 pub fn units_law()
-    ensures told { (f : Form) (depth : ℕ) (ts rest : List Token) → AreSingle ts → (s : Spells f depth ts rest) → said (units f depth ts rest s) ≡ words f }
-    ensures same { (f : Form) (depth other : ℕ) (ts us rest end : List Token) → AreSingle ts → AreSingle us → (s : Spells f depth ts rest) → (z : Spells f other us end)
+    ensures told { (f : Form) (depth : ℕ) (ts rest : List Token) → AreSingle ts
+        → (s : Spells f depth ts rest) → said (units f depth ts rest s) ≡ words f }
+    ensures same { (f : Form) (depth other : ℕ) (ts us rest end : List Token) → AreSingle ts
+        → AreSingle us → (s : Spells f depth ts rest) → (z : Spells f other us end)
         → said (units f depth ts rest s) ≡ said (units f other us end z) }
-    ensures first { (f : Form) (depth : ℕ) (ts : List Token) → AreSingle ts → clear f [] true ≡ true → is_level (words f) ≡ true
+    ensures first { (f : Form) (depth : ℕ) (ts : List Token) → AreSingle ts → clear f [] true ≡ true
+        → is_level (words f) ≡ true
         → (s : Spells f depth ts []) → chosen 0 [] (words f) ts ≡ units f depth ts [] s }
 {}

@@ -132,7 +132,8 @@ pub fn after_string(of: Contents, s: &str) -> Option<&str>
 fn after_string_char(of: Contents, c: char, tail: &str) -> Option<&str>
     requires { c ≢ 34 }
     ensures rest { MatchOption result (run (string_step of) Plain (c ∷ chars tail.now) ≡ None)
-        (λ r. run (string_step of) Plain (c ∷ chars tail.now) ≡ run (string_step of) Plain (chars r.now)) }
+        (λ r. run (string_step of) Plain (c ∷ chars tail.now)
+        ≡ run (string_step of) Plain (chars r.now)) }
     ensures shorter { IfSome result (λ r. length r.now ≤ length tail.now) }
 {
     if c != '\\' {

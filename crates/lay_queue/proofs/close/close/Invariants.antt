@@ -1,5 +1,6 @@
 use Rattle.std.proofs.Common.{◌≡◌, ◌^◌, ◌<◌, ◌≤◌, length}
 use Rattle.lay_queue.specs.Closed.{Left, toks_of}
+use Rattle.lay_queue.specs.Scan.{cap}
 use Rattle.lay_queue.proofs.close.close.Given as goal
 
 abbrev pub invariant-loop-note : goal.invariant-loop-note
@@ -10,7 +11,7 @@ invariant-loop-note l = record {
   first : l.ring.first ≡ l.initial.ring.first;
   ring_spare : l.ring.spare ≡ l.initial.ring.spare;
   notes_spare : l.initial.notes.spare ≤ l.notes.spare;
-  width : l.acc ≤ 0x4000_0000_0000_0000;
+  width : l.acc ≤ cap;
 }
 
 abbrev pub decreases-loop-note : goal.decreases-loop-note

@@ -1,5 +1,5 @@
 use Rattle.std.proofs.Common.{◌≡◌, None, ap, ◌∙◌, arith}
-use Rattle.lay_printer.specs.declared.line.Line.{Line}
+use Rattle.lay_stream.specs.declared.line.Line.{Line}
 use Rattle.lay_printer.specs.Printing.{Printing}
 use Rattle.lay_printer.proofs.Lockstep.{in_step}
 use Rattle.lay_printer.proofs.printer.Core.waiting.Goals as goal

@@ -1,7 +1,7 @@
 use Rattle.std.proofs.Common.{◌≡◌, ◌≤◌, ◌-◌, replicate}
 use Rattle.lay_io.specs.Told.{GrewBy}
 use Rattle.lay_io.specs.Faults.{SameLoan}
-use Rattle.lay_printer.proofs.line.Line.write_pending.Given as goal
+use Rattle.lay_stream.proofs.line.Line.write_pending.Given as goal
 
 abbrev pub invariant-loop-self : goal.invariant-loop-self
 invariant-loop-self g l = record {

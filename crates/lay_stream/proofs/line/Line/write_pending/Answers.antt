@@ -1,6 +1,6 @@
 use Rattle.std.proofs.Common.{le_trans, ◌∙◌, arith}
-use Rattle.lay_printer.proofs.Paging.{blanks_err, blanks_more}
-use Rattle.lay_printer.proofs.line.Line.write_pending.Goals as goal
+use Rattle.lay_stream.proofs.Paging.{blanks_err, blanks_more}
+use Rattle.lay_stream.proofs.line.Line.write_pending.Goals as goal
 
 pub returns-in_err-write-clause-bytes : goal.returns-in_err-write-clause-bytes
 returns-in_err-write-clause-bytes g c = blanks_err _ _ _ _ _ _ _ c.min-count.result c.from_residual.ensures.1 (omega (arith, c.loop-self.invariant.less)) (omega (arith, c.min-count.ensures)) (omega (arith, c.min-count.ensures)) c.loop-self.invariant.bytes c.in_err-write.ensures.bytes

@@ -4,9 +4,12 @@ ghost use Rattle.lay_layout.specs.Document.{State, write as written_on, put_mark
 ghost use Rattle.lay_io.specs.Calls.{Writes};
 ghost use Rattle.lay_io.specs.Faults.{HasCause, SameLoan};
 ghost use Rattle.lay_layout.specs.Indents.{IsKept};
+ghost use Rattle.lay_layout.specs.Margins.{margin, greatest_indent, greatest_blanks};
 
 use lay_io::{Failed, Sink};
-use lay_layout::{Break, Frame, GREATEST_BLANKS, LEAST_SPACE, MARGIN, Mark, shifted};
+use lay_layout::{
+    Break, Frame, GREATEST_BLANKS, GREATEST_WIDTH, LEAST_SPACE, MARGIN, Mark, shifted,
+};
 
 /// The blanks that are to be written before what comes next, the room of the line and what was used of it.
 #[derive(Clone, Copy, Debug)]
@@ -14,11 +17,11 @@ pub struct Line {
     pub pending: u64,
     pub room: u64,
     pub used: u64,
-    ghost small: { room ≤ 89 },
+    ghost small: { room ≤ margin },
 }
 
 /// The greatest count of what was used of a line: the space is exact down to -2^62.
-const USED: u64 = 0x4000_0000_0000_0000 + MARGIN;
+const USED: u64 = GREATEST_WIDTH + MARGIN;
 
 /// Whether the sum of a width and a length is greater than the space.
 #[inline(always)]
@@ -36,12 +39,13 @@ pub fn exceeds(line: &Line, width: u64, length: u64) -> bool
 }
 
 impl Line {
-    ghost use Rattle.lay_printer.specs.Pages.{Moves};
+    ghost use Rattle.lay_stream.specs.Pages.{Moves, greatest_used};
 
     /// Writes the blanks that wait, if there are any.
     #[inline(always)]
     fn write_blanks<K: Sink>(&mut self, sink: &mut K) -> Result<(), Failed>
-        ensures bytes { Writes (K.written sink.old) (K.written sink.new) result (replicate self.old.pending 32) }
+        ensures bytes { Writes (K.written sink.old) (K.written sink.new) result
+            (replicate self.old.pending 32) }
         ensures pending { OnOk result (self.new.pending ≡ 0) }
         ensures room { self.new.room ≡ self.old.room }
         ensures used { self.new.used ≡ self.old.used }
@@ -57,7 +61,8 @@ impl Line {
     /// Writes the blanks that wait, up to 64 at once.
     #[inline(never)]
     fn write_pending<K: Sink>(&mut self, sink: &mut K) -> Result<(), Failed>
-        ensures bytes { Writes (K.written sink.old) (K.written sink.new) result (replicate self.old.pending 32) }
+        ensures bytes { Writes (K.written sink.old) (K.written sink.new) result
+            (replicate self.old.pending 32) }
         ensures pending { OnOk result (self.new.pending ≡ 0) }
         ensures room { self.new.room ≡ self.old.room }
         ensures used { self.new.used ≡ self.old.used }
@@ -75,7 +80,8 @@ impl Line {
 
     /// Writes the blanks that wait, and then the bytes.
     pub fn write<K: Sink>(&mut self, sink: &mut K, bytes: &[u8]) -> Result<(), Failed>
-        ensures moves { Moves self.old (K.written sink.old) result self.new (K.written sink.new) (written_on bytes.now) }
+        ensures moves { Moves self.old (K.written sink.old) result self.new (K.written sink.new)
+            (written_on bytes.now) }
         ensures cause { HasCause (K.faults sink.old) (K.faults sink.new) result }
         ensures loan { SameLoan (K.loan sink.old) (K.loan sink.new) }
     {
@@ -88,7 +94,8 @@ impl Line {
     /// Writes a mark, if there is one.
     #[inline(always)]
     fn put_mark<K: Sink>(&mut self, sink: &mut K, mark: Mark) -> Result<(), Failed>
-        ensures moves { Moves self.old (K.written sink.old) result self.new (K.written sink.new) (marked mark) }
+        ensures moves { Moves self.old (K.written sink.old) result self.new (K.written sink.new)
+            (marked mark) }
         ensures cause { HasCause (K.faults sink.old) (K.faults sink.new) result }
         ensures loan { SameLoan (K.loan sink.old) (K.loan sink.new) }
     {
@@ -102,7 +109,8 @@ impl Line {
 
     /// Begins a line with so many blanks, which wait.
     fn start_line<K: Sink>(&mut self, sink: &mut K, blanks: u64) -> Result<(), Failed>
-        ensures moves { Moves self.old (K.written sink.old) result self.new (K.written sink.new) (on_line blanks) }
+        ensures moves { Moves self.old (K.written sink.old) result self.new (K.written sink.new)
+            (on_line blanks) }
         ensures cause { HasCause (K.faults sink.old) (K.faults sink.new) result }
         ensures loan { SameLoan (K.loan sink.old) (K.loan sink.new) }
     {
@@ -116,8 +124,9 @@ impl Line {
     /// A break that is a newline, in a frame of this indent.
     #[inline(never)]
     fn newline<K: Sink>(&mut self, sink: &mut K, brk: Break, indent: u64) -> Result<(), Failed>
-        requires { indent ≤ 240 }
-        ensures moves { Moves self.old (K.written sink.old) result self.new (K.written sink.new) (on_newline brk indent) }
+        requires { indent ≤ greatest_indent }
+        ensures moves { Moves self.old (K.written sink.old) result self.new (K.written sink.new)
+            (on_newline brk indent) }
         ensures cause { HasCause (K.faults sink.old) (K.faults sink.new) result }
         ensures loan { SameLoan (K.loan sink.old) (K.loan sink.new) }
     {
@@ -126,11 +135,11 @@ impl Line {
         self.put_mark(sink, brk.after)
     }
 
-    /// Blanks that wait, of which there are never more than 1,000,000.
+    /// Blanks that wait, up to the greatest count.
     #[inline(always)]
     fn add_blanks(&mut self, blank: u16)
-        ensures pending { self.new.pending ≡ min (self.old.pending + blank) 1000000 }
-        ensures used { self.new.used ≡ min (self.old.used + blank) USED }
+        ensures pending { self.new.pending ≡ min (self.old.pending + blank) greatest_blanks }
+        ensures used { self.new.used ≡ min (self.old.used + blank) greatest_used }
         ensures room { self.new.room ≡ self.old.room }
     {
         self.pending = self
@@ -143,7 +152,8 @@ impl Line {
     /// A break that is no newline.
     #[inline(always)]
     fn skip<K: Sink>(&mut self, sink: &mut K, brk: Break) -> Result<(), Failed>
-        ensures moves { Moves self.old (K.written sink.old) result self.new (K.written sink.new) (skipped brk) }
+        ensures moves { Moves self.old (K.written sink.old) result self.new (K.written sink.new)
+            (skipped brk) }
         ensures cause { HasCause (K.faults sink.old) (K.faults sink.new) result }
         ensures loan { SameLoan (K.loan sink.old) (K.loan sink.new) }
     {
@@ -161,7 +171,8 @@ impl Line {
         big: bool,
     ) -> Result<(), Failed>
         requires { IsKept frame }
-        ensures moves { Moves self.old (K.written sink.old) result self.new (K.written sink.new) (break_in frame brk big) }
+        ensures moves { Moves self.old (K.written sink.old) result self.new (K.written sink.new)
+            (break_in frame brk big) }
         ensures cause { HasCause (K.faults sink.old) (K.faults sink.new) result }
         ensures loan { SameLoan (K.loan sink.old) (K.loan sink.new) }
     {

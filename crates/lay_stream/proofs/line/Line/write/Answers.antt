@@ -1,5 +1,5 @@
-use Rattle.lay_printer.proofs.Paging.{moves_no_blanks, moves_no_bytes}
-use Rattle.lay_printer.proofs.line.Line.write.Goals as goal
+use Rattle.lay_stream.proofs.Paging.{moves_no_blanks, moves_no_bytes}
+use Rattle.lay_stream.proofs.line.Line.write.Goals as goal
 
 pub returns-in_err-write_blanks-clause-moves : goal.returns-in_err-write_blanks-clause-moves
 returns-in_err-write_blanks-clause-moves g c = moves_no_blanks _ _ _ _ _ _ c.args.bytes.now c.from_residual.ensures.1 c.in_err-write_blanks.ensures.bytes

@@ -1,7 +1,7 @@
 use Rattle.std.proofs.Common.{rules, ◌≡◌, ℕ, ap}
 use Rattle.lay_layout.specs.Document.{State, shift, line, put_mark, newline}
-use Rattle.lay_printer.proofs.Paging.{moves_then, moves_as}
-use Rattle.lay_printer.proofs.line.Line.newline.Goals as goal
+use Rattle.lay_stream.proofs.Paging.{moves_then, moves_as}
+use Rattle.lay_stream.proofs.line.Line.newline.Goals as goal
 
 pub returns-clause-moves : goal.returns-clause-moves
 returns-clause-moves g c =

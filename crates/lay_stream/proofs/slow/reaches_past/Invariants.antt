@@ -1,6 +1,6 @@
 use Rattle.std.proofs.Common.{◌≡◌, ◌≤◌, ◌+◌, length, nat_lt}
 use Rattle.lay_layout.specs.Machine.{reach}
-use Rattle.lay_stream.proofs.slow.exceeds.Given as goal
+use Rattle.lay_stream.proofs.slow.reaches_past.Given as goal
 
 abbrev pub invariant-loop-tok : goal.invariant-loop-tok
 invariant-loop-tok l = record {

@@ -1,13 +1,13 @@
 -- A page that moves from state to state.
 use Rattle.std.proofs.Common.{◌≡◌, ℕ, zero, suc, ◌+◌, ◌-◌, ◌≤◌, min, List, [], ◌∷◌, ◌++◌, replicate, take, Option, Some, None, Result, Ok, Err, IsErrAnd, refl, sym, ap, ◌∙◌, subst, append_assoc, append-nil, take-append-drop, drop, arith}
+use Rattle.lay_layout.specs.Margins.{greatest_blanks}
 use Rattle.lay_layout.specs.Document.{State, write, put_mark, skip}
 use Rattle.lay_layout.specs.declared.layout.Break.{Break}
 use Rattle.lay_io.specs.Told.{GrewBy, GrewByPrefix}
 use Rattle.lay_io.specs.Calls.{Writes}
-use Rattle.lay_printer.specs.declared.line.Line.{Line}
+use Rattle.lay_stream.specs.declared.line.Line.{Line}
 use Rattle.lay_io.proofs.Growth.{grew_by-more, grew_by_prefix-more, grew_by_prefix-longer}
-use Rattle.lay_printer.specs.Pages.{Is, Wrote, Cut, Moves}
-use Rattle.lay_printer.proofs.Steps.{Grows}
+use Rattle.lay_stream.specs.Pages.{greatest_used, Is, Wrote, Cut, Moves}
 
 take-replicate : (k n x : ℕ) → k ≤ n → take k (replicate n x) ≡ replicate k x
 take-replicate zero n x l = refl
@@ -20,9 +20,13 @@ replicate-add (suc m) n x =
     let e : suc (m + n) ≡ suc m + n = omega arith in
     ap (λ (y : List ℕ). x ∷ y) (replicate-add m n x) ∙ ap (λ (k : ℕ). replicate k x) e
 
-blanked : (p q : Line) (k : Break) (s : State) → q.pending ≡ min (p.pending + k.blank) 1000000 → q.used ≡ min (p.used + k.blank) 0x4000_0000_0000_0059 → q.room ≡ p.room → Is p s →
-    Is q (record { text = s.text; pending = min (s.pending + k.blank) 1000000; room = s.room; used = s.used + k.blank })
+blanked : (p q : Line) (k : Break) (s : State) → q.pending ≡ min (p.pending + k.blank) greatest_blanks → q.used ≡ min (p.used + k.blank) greatest_used → q.room ≡ p.room → Is p s →
+    Is q (record { text = s.text; pending = min (s.pending + k.blank) greatest_blanks; room = s.room; used = s.used + k.blank })
 blanked p q k s e f g i = record { pending = omega (arith, i.pending); room = omega (arith, i.room); small = i.small; used = omega (arith, i.used) }
+
+-- what was written is a front of what will be
+abbrev pub Grows : List ℕ → List ℕ → Type 0
+Grows a b = (u : List ℕ) × (b ≡ a ++ u)
 
 -- a front of what is a front
 pub cut_more : (now : Option (List ℕ)) (content t u : List ℕ) → Cut now content t → Grows t u → Cut now content u
@@ -61,15 +65,15 @@ moves_as p q b n (Err y) f g e h = record { ok = tt; err = λ c s i w. subst (λ
 
 -- blanks that wait are added, and then a mark is put
 pub moves_blanks : {T E : Type 0} (p q r : Line) (b n : Option (List ℕ)) (res : Result T E) (k : Break) →
-    q.pending ≡ min (p.pending + k.blank) 1000000 → q.used ≡ min (p.used + k.blank) 0x4000_0000_0000_0059 → q.room ≡ p.room →
+    q.pending ≡ min (p.pending + k.blank) greatest_blanks → q.used ≡ min (p.used + k.blank) greatest_used → q.room ≡ p.room →
     Moves q b res r n (put_mark k.instead) → Moves p b res r n (skip k)
 moves_blanks p q r b n (Ok y) k e f g h = record {
-  ok = λ c s i w. h.ok c (record { text = s.text; pending = min (s.pending + k.blank) 1000000; room = s.room; used = s.used + k.blank }) (blanked p q k s e f g i) w;
+  ok = λ c s i w. h.ok c (record { text = s.text; pending = min (s.pending + k.blank) greatest_blanks; room = s.room; used = s.used + k.blank }) (blanked p q k s e f g i) w;
   err = tt;
 }
 moves_blanks p q r b n (Err y) k e f g h = record {
   ok = tt;
-  err = λ c s i w. h.err c (record { text = s.text; pending = min (s.pending + k.blank) 1000000; room = s.room; used = s.used + k.blank }) (blanked p q k s e f g i) w;
+  err = λ c s i w. h.err c (record { text = s.text; pending = min (s.pending + k.blank) greatest_blanks; room = s.room; used = s.used + k.blank }) (blanked p q k s e f g i) w;
 }
 
 -- the blanks weren't all written
