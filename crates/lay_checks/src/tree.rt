@@ -32,7 +32,7 @@ impl Chain {
 #[test]
 fn boxes(rt: HostRuntime) -> Result<(), Fail> {
     let mut number = Boxed::new(rt.alloc(), 3u8)?;
-    *number.get_mut() += 4;
+    *number.get_mut() = 7;
     assert_eq!(rt; *number.get(), 7);
     assert_eq!(rt; number.into_inner(), 7);
     Ok(())
