@@ -1,10 +1,12 @@
 -- What each node becomes, by its kind, and an expression by what fits.
-use Rattle.std.proofs.Common.{◌≡◌, ℕ, suc, ◌+◌, Bool, true, false, not, ◌&&◌, if◌then◌else◌, List, [], ◌∷◌, map, Option, Some, None, option_map, refl, sym, ap, ap₂, subst, ◌∙◌}
+use Rattle.std.proofs.Common.{◌≡◌, ℕ, suc, ◌+◌, Bool, true, false, not, ◌&&◌, if◌then◌else◌, List, [], ◌∷◌, map, Option, Some, None, is_some, option_map, refl, sym, ap, ap₂, subst, ◌∙◌, arith}
 use Rattle.lay_node.specs.nodes.Types.{is_there}
 use Rattle.lay_node.specs.declared.patterns.Pat.{Pat}
 use Rattle.lay_node.specs.declared.attr.Attr.{Attr}
 use Rattle.lay_code.specs.nodes.Code.{about_expr, about_step}
-use Rattle.lay_code.specs.nodes.Exprs.{ExprFacts}
+use Rattle.std.proofs.lemmas.Bool.{le-leb}
+use Rattle.lay_code.specs.nodes.Blocks.{may_precede_else}
+use Rattle.lay_code.specs.nodes.Exprs.{ExprFacts, may}
 use Rattle.lay_code.specs.nodes.Layers.{ArmNode, BlockNode, BranchNode, ConditionNode, ExprNode, FieldNode, ItemNode, KindNode, LinkNode, StepNode, StmtNode}
 use Rattle.lay_code.specs.nodes.Places.{FREE, before_op, begins, link_place, plain, statement}
 use Rattle.lay_code.specs.nodes.PlacesTable.{as_node}
@@ -30,7 +32,7 @@ use Rattle.lay_code.specs.declared.item.ItemKind.{ItemKind}
 use Rattle.lay_code.specs.declared.item.ItemKind.TheVariants as kind
 use Rattle.lay_code.specs.declared.operators.Op.{Op}
 use Rattle.lay_loose.specs.Slots.{Any, BeforeElse, BeforeIndex, Optional, Prefixed, Slot, fits}
-use Rattle.lay_paren.specs.InPlace.{arm_least, base_least, block_least, block_or_none_least, branch_least, condition_least, exprs_least, field_least, first_place, free_least, item_least, kind_least, least_in, link_least, links_from, links_least, operand_least, operands_least, parts_least, step_least, stmt_least, targets_least}
+use Rattle.lay_paren.specs.InPlace.{arm_least, base_least, block_least, block_or_none_least, branch_least, condition_least, exprs_least, field_least, first_place, free_least, item_least, kind_least, least_in, link_least, links_from, links_least, operand_least, operands_least, parts_least, step_least, stmt_least, targets_least, value_slot}
 use Rattle.lay_paren.specs.Least.{chosen, least_made, made_of, wrapped}
 use Rattle.lay_paren.specs.Made.{Made, all, kept, may_be, one}
 use Rattle.lay_paren.specs.Nodes.{arm_parts, block_parts, expr_parts, field_parts, kind_parts, link_parts, step_parts, stmt_parts, made_arm, made_block, made_branch, made_condition, made_field, made_item, made_kind, made_link, made_step, made_stmt}
@@ -129,14 +131,9 @@ step_becomes x =
     ap (λ (z : Step). (made_step z).result) (sym (views.roll-out-Step x))
     ∙ ap (λ (m : Made Step). m.result) (made.step_parts_is (views.out-Step x)) ∙ step_by (views.out-Step x)
 
--- a value before an `else`, or without one
-abbrev value_slot : Option Block → Slot
-value_slot None = Any
-value_slot (Some b) = BeforeElse
-
 abbrev stmt_in : StmtNode → Stmt
 stmt_in (Stmt-F.Stmt::Let attrs pat ty x otherwise) =
-    stmt.Let attrs pat ty (operand_least FREE (value_slot otherwise) x) (block_or_none_least otherwise)
+    stmt.Let attrs pat ty (operand_least FREE (value_slot (is_some otherwise)) x) (block_or_none_least otherwise)
 stmt_in (Stmt-F.Item item) = stmt.Item (item_least item)
 stmt_in (Stmt-F.Stmt::Expr attrs x ended) = stmt.Expr attrs (least_in x statement Any) ended
 
@@ -388,3 +385,23 @@ fitting x new p s fit is = is ∙ sym (least_is x p s ∙ ap (λ (b : Bool). by_
 pub enclosed : (x new : Expr) (p : Place) (s : Slot) → fits (about_expr (parts_least p x)) p s ≡ false → new ≡ expr.Paren (parts_least FREE x)
     → new ≡ least_in x p s
 enclosed x new p s fails is = is ∙ sym (least_is x p s ∙ ap (λ (b : Bool). by_fit b (parts_least p x) (parts_least FREE x)) fails)
+
+-- ---- before an `else`
+
+asked : (F : ExprFacts) → fits F FREE BeforeElse ≡ may_precede_else F
+asked F = ap (λ (b : Bool). b && may_precede_else F) (lowest F)
+  where
+    lowest : (F : ExprFacts) → may F FREE ≡ true
+    lowest F = rw (le-leb 0 F.level (omega arith)) refl
+
+pub before_else : (x made : Expr) → made ≡ parts_least FREE x → may_precede_else (about_expr made) ≡ true → made ≡ least_in x FREE BeforeElse
+before_else x made is may =
+    fitting x made FREE BeforeElse
+    (asked (about_expr (parts_least FREE x)) ∙ ap (λ (z : Expr). may_precede_else (about_expr z)) (sym is) ∙ may) is
+
+pub not_before_else : (x made new : Expr) → made ≡ parts_least FREE x → may_precede_else (about_expr made) ≡ false → new ≡ expr.Paren made
+    → new ≡ least_in x FREE BeforeElse
+not_before_else x made new is may paren =
+    enclosed x new FREE BeforeElse
+    (asked (about_expr (parts_least FREE x)) ∙ ap (λ (z : Expr). may_precede_else (about_expr z)) (sym is) ∙ may)
+    (paren ∙ ap expr.Paren is)

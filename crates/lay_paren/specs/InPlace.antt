@@ -32,6 +32,11 @@ slot_of slot.Optional = of.Optional
 slot_of slot.Unlabelled = of.Unlabelled
 slot_of slot.BeforeIndex = of.BeforeIndex
 
+-- the slot of the value of a statement, before an `else` or without one
+abbrev pub value_slot : Bool → of.Slot
+value_slot true = of.BeforeElse
+value_slot false = Any
+
 -- ---- expressions
 
 -- the expression with the parentheses that it lacks in this place and this slot

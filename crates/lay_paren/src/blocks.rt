@@ -2,7 +2,7 @@
 ghost use Rattle.std.specs.Prelude.{◌≡◌, OnOk, map};
 ghost use Rattle.lay_code.specs.nodes.Places.{FREE};
 ghost use Rattle.lay_loose.specs.Slots.{BeforeElse};
-ghost use Rattle.lay_paren.specs.InPlace.{arm_least, block_least, block_or_none_least, branch_least, operand_least, stmt_least};
+ghost use Rattle.lay_paren.specs.InPlace.{arm_least, block_least, block_or_none_least, branch_least, least_in, operand_least, stmt_least, value_slot};
 
 use crate::conditions::place_condition;
 use crate::exprs::{enclose, place_expr, place_operand, place_parts};
@@ -57,40 +57,48 @@ fn place_stmt(alloc: Global, stmt: &mut Stmt) -> Result<(), NoMemory>
     match stmt {
         Stmt::Let {
             value,
-            otherwise: Some(otherwise),
+            otherwise,
             ..
         } => {
-            place_before_else(alloc, value)?;
-            place_block(alloc, otherwise)
+            place_value(alloc, value, otherwise.is_some())?;
+            place_block_or_none(alloc, otherwise)
         },
-        Stmt::Let {
-            value,
-            otherwise: None,
-            ..
-        } => place_operand(alloc, value, FREE, Slot::Any),
         Stmt::Item { item } => place_item(alloc, item.get_mut()),
         Stmt::Expr { expr, .. } => place_expr(alloc, expr.get_mut(), STATEMENT, Slot::Any),
     }
 }
 
-/// The same of a value before an `else`. Nothing but the `else` is asked there, so it has its parts as it has them in parentheses, and
-/// what it ends in is told when they have theirs.
+/// The same of the value of a statement, if there is one, before an `else` or without one.
 #[cycle(code)]
-#[tactic(auto, using(crate::proofs::Becoming::fitting, crate::proofs::Becoming::enclosed))]
-fn place_before_else(alloc: Global, value: &mut Option<Boxed<Expr>>) -> Result<(), NoMemory>
-    ensures { OnOk result (value.new ≡ operand_least FREE BeforeElse value.old) }
+fn place_value(
+    alloc: Global,
+    value: &mut Option<Boxed<Expr>>,
+    before_else: bool,
+) -> Result<(), NoMemory>
+    ensures { OnOk result (value.new ≡ operand_least FREE (value_slot before_else) value.old) }
 {
     match value {
-        Some(value) => {
-            let value = value.get_mut();
-            place_parts(alloc, value, FREE)?;
-            if may_precede_else(value) {
-                return Ok(());
-            }
-            enclose(alloc, value)
+        Some(value) => if before_else {
+            place_before_else(alloc, value.get_mut())
+        } else {
+            place_expr(alloc, value.get_mut(), FREE, Slot::Any)
         },
         None => Ok(()),
     }
+}
+
+/// The same of a value before an `else`. Nothing but the `else` is asked there, so its parts get what they get where it stands in
+/// parentheses, and whether it needs these is told when they have it.
+#[cycle(code)]
+#[tactic(auto, using(crate::proofs::Becoming::before_else, crate::proofs::Becoming::not_before_else))]
+fn place_before_else(alloc: Global, value: &mut Expr) -> Result<(), NoMemory>
+    ensures { OnOk result (value.new ≡ least_in value.old FREE BeforeElse) }
+{
+    place_parts(alloc, value, FREE)?;
+    if may_precede_else(value) {
+        return Ok(());
+    }
+    enclose(alloc, value)
 }
 
 /// The same of branches.

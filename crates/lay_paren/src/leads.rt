@@ -25,6 +25,7 @@ enum Edge<'a> {
 
 /// What begins an expression of which the parts have the parentheses that they lack, where their places are from this place. Down
 /// the left edge a part is asked for no more than what its root tells, so one loop finds it.
+#[tactic(auto, using(crate::proofs::Beginning::bare_lead, crate::proofs::Beginning::paren_lead))]
 pub(crate) fn lead(expr: &Expr, place: Place) -> ExprLead
     ensures { told result ≡ (about_expr (parts_least place expr.now)).lead }
 {

@@ -7,14 +7,16 @@
 #![tactic(auto)]
 
 mod blocks;
+mod calls;
 mod conditions;
 mod exprs;
 mod items;
 mod laws;
 mod leads;
-mod parenthesize;
+
 mod places;
 mod slots;
 
+pub use calls::{ParenError, parenthesize};
 pub use laws::parenthesize_law;
-pub use parenthesize::{ParenError, parenthesize};
+

@@ -3,7 +3,7 @@ ghost use Rattle.std.specs.Prelude.{◌≡◌, ◌<◌, ◌≤◌, IfOk, MatchRe
 ghost use Rattle.lay_form.specs.Depth.{least_depth};
 ghost use Rattle.lay_code.specs.nodes.Code.{about_expr};
 ghost use Rattle.lay_paren.specs.Least.{least};
-ghost use Rattle.lay_paren.specs.declared.parenthesize.ParenError.TheVariants.{TooDeep};
+ghost use Rattle.lay_paren.specs.declared.calls.ParenError.TheVariants.{TooDeep};
 
 use crate::exprs::place_expr;
 use crate::slots::Slot;
