@@ -1,5 +1,7 @@
 -- Loops that put one item after the other: those before are put, and those behind are as they were.
-use Rattle.std.proofs.Common.{◌≡◌, ℕ, zero, suc, ◌+◌, ◌<◌, Bool, true, false, List, [], ◌∷◌, ◌++◌, map, length, take, drop, slice_set, slice_index_or, refl, sym, ap, ◌∙◌, arith}
+use Rattle.std.proofs.Common.{◌≡◌, ℕ, zero, suc, ◌+◌, ◌<◌, ◌≤◌, ◌⊎◌, inl, inr, Bool, true, false, Some, None, List, [], ◌∷◌, ◌++◌, map, length, take, drop, slice_set, slice_index_or, refl, sym, ap, ◌∙◌, arith}
+use Rattle.std.proofs.lemmas.Bool.{cases_lt, eq-eqb, le-ltb, lt-ltb, ne_eqb}
+use Rattle.std.specs.Prelude.{eqb, ltb}
 use Rattle.lay_node.specs.nodes.Types.{is_there}
 use Rattle.lay_code.specs.nodes.Places.{before_op}
 use Rattle.lay_code.specs.declared.conditions.Link.{Link}
@@ -7,7 +9,7 @@ use Rattle.lay_code.specs.declared.exprs.Expr.{Expr}
 use Rattle.lay_code.specs.declared.exprs.Place.{Place}
 use Rattle.lay_code.specs.declared.operators.Op.{Op}
 use Rattle.lay_loose.specs.Slots.{Any}
-use Rattle.lay_paren.specs.InPlace.{least_in, link_least, links_from, operands_least, targets_least}
+use Rattle.lay_paren.specs.InPlace.{is_single, least_in, link_least, links_from, links_least, operand_before, operands_least, targets_least}
 use Rattle.lay_paren.specs.Parts.{operand_at}
 
 next : (i : ℕ) → i + 1 ≡ suc i
@@ -45,11 +47,6 @@ index_kept f zero xs d = refl
 index_kept f (suc n) [] d = refl
 index_kept f (suc n) (x ∷ xs) d = index_kept (λ i. f (suc i)) n xs d
 
-rest_kept : {A : Type 0} (f : ℕ → A → A) (n : ℕ) (xs : List A) → drop (suc n) (turned f n xs) ≡ drop (suc n) xs
-rest_kept f zero xs = refl
-rest_kept f (suc n) [] = refl
-rest_kept f (suc n) (x ∷ xs) = rest_kept (λ i. f (suc i)) n xs
-
 set_turned : {A : Type 0} (f : ℕ → A → A) (n : ℕ) (xs : List A) (d : A) → n < length xs
     → slice_set (turned f n xs) n (f n (slice_index_or xs n d)) ≡ turned f (suc n) xs
 set_turned f n [] d h = absurd (omega (arith, h))
@@ -61,10 +58,6 @@ pub turn_at : {A : Type 0} (f : ℕ → A → A) (xs ys : List A) (i : ℕ) (new
 turn_at f xs ys i new d so_far within is =
     rw (is, so_far, next i) (ap (λ x. slice_set (turned f i xs) i (f i x)) (index_kept f i xs d) ∙ set_turned f i xs d within)
 
--- what stands behind the item is as it was
-pub behind_kept : {A : Type 0} (f : ℕ → A → A) (xs ys : List A) (i : ℕ) → ys ≡ turned f i xs → drop (i + 1) ys ≡ drop (suc i) xs
-behind_kept f xs ys i so_far = rw (so_far, next i) (rest_kept f i xs)
-
 -- ---- operands
 
 abbrev pub operand_put : Place → ℕ → List (Op × Expr) → ℕ → Op × Expr → Op × Expr
@@ -74,6 +67,36 @@ pub operands_put : (p : Place) (level : ℕ) (xs : List (Op × Expr)) → turned
 operands_put p level [] = refl
 operands_put p level (x ∷ more) =
     ap (λ (ys : List (Op × Expr)). (x.0, least_in x.1 (operand_at p level more) Any) ∷ ys) (operands_put p level more)
+
+-- what stands at the next place is as it was
+next_kept : {A : Type 0} (f : ℕ → A → A) (n : ℕ) (xs : List A) (d : A) → slice_index_or (turned f n xs) (suc n) d ≡ slice_index_or xs (suc n) d
+next_kept f zero xs d = refl
+next_kept f (suc n) [] d = refl
+next_kept f (suc n) (x ∷ xs) d = next_kept (λ i. f (suc i)) n xs d
+
+at_operator : (p : Place) (level : ℕ) (xs : List (Op × Expr)) (n : ℕ) (d : Op × Expr) → n < length xs
+    → operand_before p level (Some (slice_index_or xs n d).0) ≡ operand_at p level (drop n xs)
+at_operator p level [] n d h = absurd (omega (arith, h))
+at_operator p level (x ∷ xs) zero d h = refl
+at_operator p level (x ∷ xs) (suc n) d h = at_operator p level xs n d (omega (arith, h))
+
+at_end : (p : Place) (level : ℕ) (xs : List (Op × Expr)) (n : ℕ) → length xs ≤ n → operand_before p level None ≡ operand_at p level (drop n xs)
+at_end p level [] zero h = refl
+at_end p level [] (suc n) h = refl
+at_end p level (x ∷ xs) zero h = absurd (omega (arith, h))
+at_end p level (x ∷ xs) (suc n) h = at_end p level xs n (omega (arith, h))
+
+-- the place of an operand before the next of those that aren't put yet, or at the end
+pub before_next : (p : Place) (level : ℕ) (f : ℕ → Op × Expr → Op × Expr) (xs ys : List (Op × Expr)) (i : ℕ) (d : Op × Expr) → ys ≡ turned f i xs
+    → i + 1 < length xs → operand_before p level (Some (slice_index_or ys (i + 1) d).0) ≡ operand_at p level (drop (suc i) xs)
+before_next p level f xs ys i d so_far within =
+    ap (λ (zs : List (Op × Expr)). operand_before p level (Some (slice_index_or zs (i + 1) d).0)) so_far
+    ∙ ap (λ (j : ℕ). operand_before p level (Some (slice_index_or (turned f i xs) j d).0)) (next i)
+    ∙ ap (λ (x : Op × Expr). operand_before p level (Some x.0)) (next_kept f i xs d) ∙ at_operator p level xs (suc i) d (omega (arith, within))
+
+pub before_end : (p : Place) (level : ℕ) (xs : List (Op × Expr)) (i : ℕ) → length xs ≤ i + 1
+    → operand_before p level None ≡ operand_at p level (drop (suc i) xs)
+before_end p level xs i last = at_end p level xs (suc i) (omega (arith, last))
 
 -- ---- targets
 
@@ -99,6 +122,28 @@ targets_put p first (x ∷ more) =
 
 abbrev pub link_put : Bool → List Link → ℕ → Link → Link
 link_put alone xs i x = link_least alone (is_there (drop (suc i) xs)) x
+
+-- a further link follows
+pub more_behind : (xs : List Link) (i : ℕ) → ltb (i + 1) (length xs) ≡ is_there (drop (suc i) xs)
+more_behind xs i = by (cases_lt (i + 1) (length xs))
+  where
+    there : (xs : List Link) (n : ℕ) → n < length xs → is_there (drop n xs) ≡ true
+    there [] n h = absurd (omega (arith, h))
+    there (x ∷ xs) zero h = refl
+    there (x ∷ xs) (suc n) h = there xs n (omega (arith, h))
+    not_there : (xs : List Link) (n : ℕ) → length xs ≤ n → is_there (drop n xs) ≡ false
+    not_there [] zero h = refl
+    not_there [] (suc n) h = refl
+    not_there (x ∷ xs) zero h = absurd (omega (arith, h))
+    not_there (x ∷ xs) (suc n) h = not_there xs n (omega (arith, h))
+    by : (i + 1 < length xs) ⊎ (length xs ≤ i + 1) → ltb (i + 1) (length xs) ≡ is_there (drop (suc i) xs)
+    by (inl h) = lt-ltb (i + 1) (length xs) h ∙ sym (there xs (suc i) (omega (arith, h)))
+    by (inr h) = le-ltb (i + 1) (length xs) h ∙ sym (not_there xs (suc i) (omega (arith, h)))
+
+pub one_alone : (xs : List Link) → eqb (length xs) 1 ≡ is_single xs
+one_alone [] = ne_eqb (length {A = Link} []) 1 (λ h. omega (arith, h))
+one_alone (x ∷ []) = eq-eqb (length (x ∷ [])) 1 (omega arith)
+one_alone (x ∷ y ∷ more) = ne_eqb (length (x ∷ y ∷ more)) 1 (λ h. omega (arith, h))
 
 pub links_put : (alone : Bool) (xs : List Link) → turned (link_put alone xs) (length xs) xs ≡ links_from alone xs
 links_put alone [] = refl

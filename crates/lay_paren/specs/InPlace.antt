@@ -1,7 +1,9 @@
 -- What the parts of a node become where each gets its parentheses, part by part.
 use Rattle.std.specs.Prelude.{ℕ, suc, Bool, true, false, List, [], ◌∷◌, map, Option, Some, None, option_map}
 use Rattle.lay_node.specs.nodes.Types.{is_there}
+use Rattle.lay_code.specs.Operators.{is_angle_op}
 use Rattle.lay_code.specs.nodes.Places.{FREE, before_op, begins}
+use Rattle.lay_code.specs.nodes.PlacesTable.{as_node}
 use Rattle.lay_code.specs.declared.blocks.Arm.{Arm}
 use Rattle.lay_code.specs.declared.blocks.Block.{Block}
 use Rattle.lay_code.specs.declared.blocks.Branch.{Branch}
@@ -65,6 +67,11 @@ base_least (Some x) = Some (operand_least FREE Any x)
 -- the place of the first operand, before the others
 abbrev pub first_place : Place → List (Op × Expr) → Place
 first_place p rest = before_op (suc (level_by rest)) p.no_struct (begins p.start) (angle_next rest)
+
+-- the place of an operand behind an operator of this level, before a further operator or without one
+abbrev pub operand_before : Place → ℕ → Option Op → Place
+operand_before p level None = as_node p (suc level)
+operand_before p level (Some o) = before_op (suc level) p.no_struct false (is_angle_op o)
 
 -- the operands behind operators of this level
 abbrev pub operands_least : Place → ℕ → List (Op × Expr) → List (Op × Expr)

@@ -1,8 +1,7 @@
 //! Conditions and their links.
 ghost use Rattle.std.specs.Prelude.{◌≡◌, OnOk, if◌then◌else◌, true};
-ghost use Rattle.lay_node.specs.nodes.Types.{is_there};
 ghost use Rattle.lay_code.specs.nodes.Places as places;
-ghost use Rattle.lay_paren.specs.InPlace.{condition_least, is_single, link_least, links_least};
+ghost use Rattle.lay_paren.specs.InPlace.{condition_least, link_least, links_least};
 
 use crate::exprs::place_expr;
 use crate::slots::Slot;
@@ -25,27 +24,12 @@ pub(crate) fn place_condition(alloc: Global, condition: &mut Condition) -> Resul
 fn place_links(alloc: Global, links: &mut [Link]) -> Result<(), NoMemory>
     ensures { OnOk result (links.new ≡ links_least links.old) }
 {
-    let alone = is_single(links);
-    for index in 0..links.len() {
-        let more = is_there(&links[index + 1..]);
-        let link = &mut links[index];
-        place_link(alloc, link, alone, more)?;
+    let count = links.len();
+    let alone = count == 1;
+    for (index, link) in links.iter_mut().enumerate() {
+        place_link(alloc, link, alone, index + 1 < count)?;
     }
     Ok(())
-}
-
-/// Whether it is one link alone.
-fn is_single(links: &[Link]) -> bool
-    ensures { result ≡ is_single links.now }
-{
-    matches!(links, [_])
-}
-
-/// Whether there is a link.
-fn is_there(links: &[Link]) -> bool
-    ensures { result ≡ is_there links.now }
-{
-    !links.is_empty()
 }
 
 /// The same of a link, which is a condition by itself, or has a further one behind it, if it is said.

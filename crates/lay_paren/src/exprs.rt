@@ -203,8 +203,10 @@ fn place_operands(
     requires { level ≤ 10 }
     ensures { OnOk result (operands.new ≡ operands_least place level operands.old) }
 {
-    for index in 0..operands.len() {
-        let at = operand_place(&operands[index + 1..], level, place);
+    let count = operands.len();
+    for index in 0..count {
+        let next = if index + 1 < count { Some(operands[index + 1].0) } else { None };
+        let at = operand_place(next, level, place);
         let operand = &mut operands[index];
         place_expr(alloc, operand.1.get_mut(), at, Slot::Any)?;
     }

@@ -1,10 +1,11 @@
 //! The places of the parts of expressions, from the place of the whole.
 ghost use Rattle.std.specs.Prelude.{◌≡◌, ◌≤◌, map};
+ghost use Rattle.lay_code.specs.Operators.{is_angle_op};
 ghost use Rattle.lay_code.specs.nodes.Code.{about_step};
 ghost use Rattle.lay_code.specs.nodes.Exprs.{first_step, is_tuple_index};
 ghost use Rattle.lay_code.specs.nodes.Places as places;
 ghost use Rattle.lay_code.specs.nodes.PlacesTable.{as_node};
-ghost use Rattle.lay_paren.specs.InPlace.{first_place};
+ghost use Rattle.lay_paren.specs.InPlace.{first_place, operand_before};
 ghost use Rattle.lay_paren.specs.Parts as parts;
 
 use lay_code::{Boxed, Expr, Op, Place, Start, Step};
@@ -48,14 +49,14 @@ pub(crate) fn first_place(rest: &[(Op, Boxed<Expr>)], place: Place) -> Place
     before_op(level_by(rest) + 1, place.no_struct, first, angle_next(rest))
 }
 
-/// The place of an operand behind an operator of this level, before these further ones.
-pub(crate) fn operand_place(more: &[(Op, Boxed<Expr>)], level: u8, place: Place) -> Place
+/// The place of an operand behind an operator of this level, before a further operator or without one.
+pub(crate) fn operand_place(next: Option<Op>, level: u8, place: Place) -> Place
     requires { level ≤ 10 }
-    ensures { result ≡ parts.operand_at place level more.now }
+    ensures { result ≡ operand_before place level next }
 {
-    match more {
-        [] => as_node(place, level + 1),
-        _ => before_op(level + 1, place.no_struct, false, angle_next(more)),
+    match next {
+        Some(op) => before_op(level + 1, place.no_struct, false, is_angle(op)),
+        None => as_node(place, level + 1),
     }
 }
 
@@ -63,7 +64,17 @@ pub(crate) fn operand_place(more: &[(Op, Boxed<Expr>)], level: u8, place: Place)
 fn angle_next(rest: &[(Op, Boxed<Expr>)]) -> bool
     ensures { result ≡ parts.angle_next rest.now }
 {
-    matches!(rest, [(Op::Less | Op::Shl, _), ..])
+    match rest {
+        [(op, _), ..] => is_angle(*op),
+        [] => false,
+    }
+}
+
+/// Whether an operator is `<` or `<<`.
+fn is_angle(op: Op) -> bool
+    ensures { result ≡ is_angle_op op }
+{
+    matches!(op, Op::Less | Op::Shl)
 }
 
 /// The place of what stands before these steps.

@@ -1,6 +1,6 @@
 use Rattle.std.proofs.Common.{◌≡◌, ◌++◌, map, take, drop}
 use Rattle.lay_code.specs.nodes.Places.{begins}
-use Rattle.lay_paren.specs.InPlace.{arm_least, branch_least, exprs_least, field_least, item_least, step_least, stmt_least}
+use Rattle.lay_paren.specs.InPlace.{arm_least, branch_least, exprs_least, field_least, is_single, item_least, step_least, stmt_least}
 use Rattle.lay_paren.proofs.Turning.{first_at, link_put, operand_put, target_put, turned}
 use Rattle.lay_paren.proofs.+code.Given as goal
 
@@ -51,4 +51,6 @@ invariant-exprs::place_targets-loop-target l =
     × (l.first ≡ first_at (begins l.fn.place.start) l.target-index)
 
 abbrev pub invariant-conditions::place_links-loop-index : goal.invariant-conditions::place_links-loop-index
-invariant-conditions::place_links-loop-index l = l.links ≡ turned (link_put l.alone l.fn.links) l.index l.fn.links
+invariant-conditions::place_links-loop-index l =
+    goal.unvisited-conditions::place_links-loop-index l
+    × (l.links ≡ turned (link_put (is_single l.fn.links) l.fn.links) l.index l.fn.links)

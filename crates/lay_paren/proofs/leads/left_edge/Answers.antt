@@ -30,7 +30,7 @@ returns-in-len1-up-clause-told c =
     let x = c.in-Assign in
     of_target x.targets c.as_slice-in-Assign.result.now c.index-target-0.result c.args.expr.now c.get-in-len1-up.result.now x.value c.args.place
     c.before_op-at-in-len1-up.result c.begins-in-len1-up.result x.is c.as_slice-in-Assign.ensures c.in-len1-up.len_at_least
-    (c.get-in-len1-up.ensures ∙ ap (λ t. t.0) c.index-target-0.is) c.before_op-at-in-len1-up.ensures c.begins-in-len1-up.ensures
+    c.get-in-len1-up.ensures c.before_op-at-in-len1-up.ensures c.begins-in-len1-up.ensures
 
 pub returns-in-Postfix-clause-told : goal.returns-in-Postfix-clause-told
 returns-in-Postfix-clause-told c =
