@@ -3,6 +3,11 @@ use Rattle.std.proofs.Common.{◌≡◌, ℕ, suc, ◌+◌, Bool, true, false, n
 use Rattle.lay_node.specs.nodes.Types.{is_there}
 use Rattle.lay_node.specs.declared.patterns.Pat.{Pat}
 use Rattle.lay_node.specs.declared.attr.Attr.{Attr}
+use Rattle.lay_node.specs.declared.tokens.MacroCall.{MacroCall}
+use Rattle.lay_node.specs.declared.token.Lifetime.{Lifetime}
+use Rattle.lay_node.specs.declared.token.Literal.{Literal}
+use Rattle.lay_node.specs.declared.token.Name.{Name}
+use Rattle.lay_node.specs.declared.types.Path.{Path}
 use Rattle.lay_code.specs.nodes.Code.{about_expr, about_step}
 use Rattle.std.proofs.lemmas.Bool.{le-leb}
 use Rattle.lay_code.specs.nodes.Blocks.{may_precede_else}
@@ -405,3 +410,30 @@ not_before_else x made new is may paren =
     enclosed x new FREE BeforeElse
     (asked (about_expr (parts_least FREE x)) ∙ ap (λ (z : Expr). may_precede_else (about_expr z)) (sym is) ∙ may)
     (paren ∙ ap expr.Paren is)
+
+-- ---- what has no parts stays as it is
+
+stays : (x y : Expr) (p : Place) {layer : ExprNode} → x ≡ y → views.out-Expr y ≡ layer → expr_in p layer ≡ y → x ≡ parts_least p x
+stays x y p is out same = is ∙ sym (ap (parts_least p) is ∙ parts_become y p ∙ ap (expr_in p) out ∙ same)
+
+pub lit_stays : (x : Expr) (p : Place) (l : Literal) → x ≡ expr.Lit l → x ≡ parts_least p x
+lit_stays x p l is = stays x (expr.Lit l) p is (views.outs-Lit l) refl
+
+pub path_stays : (x : Expr) (p : Place) (path : Path) → x ≡ expr.Path path → x ≡ parts_least p x
+path_stays x p path is = stays x (expr.Path path) p is (views.outs-Path path) refl
+
+pub call_stays : (x : Expr) (p : Place) (call : MacroCall) → x ≡ expr.Call call → x ≡ parts_least p x
+call_stays x p call is = stays x (expr.Call call) p is (views.outs-Expr::Call call) refl
+
+pub continue_stays : (x : Expr) (p : Place) (label : Option Lifetime) → x ≡ expr.Continue label → x ≡ parts_least p x
+continue_stays x p label is = stays x (expr.Continue label) p is (views.outs-Continue label) refl
+
+pub short_stays : (x : FieldExpr) (attrs : List Attr) (name : Name) → x ≡ field.Short attrs name → x ≡ field_least x
+short_stays x attrs name is =
+    is ∙ sym (ap field_least is ∙ field_becomes (field.Short attrs name) ∙ ap field_in (views.outs-Short attrs name))
+
+pub name_stays : (x : Step) (name : Name) → x ≡ step.Field name → x ≡ step_least x
+name_stays x name is = is ∙ sym (ap step_least is ∙ step_becomes (step.Field name) ∙ ap step_in (views.outs-Field name))
+
+pub index_stays : (x : Step) (index : List ℕ) → x ≡ step.TupleIndex index → x ≡ step_least x
+index_stays x index is = is ∙ sym (ap step_least is ∙ step_becomes (step.TupleIndex index) ∙ ap step_in (views.outs-TupleIndex index))

@@ -15,6 +15,14 @@ use Rattle.lay_paren.specs.Parts.{operand_at}
 next : (i : ℕ) → i + 1 ≡ suc i
 next i = omega arith
 
+-- a list whose items were lent is what they became
+pub refill : {A : Type 0} (xs ys : List A) → length ys ≡ length xs → take (length xs) (ys ++ drop (length ys) xs) ≡ ys
+refill xs ys same = ap (λ (n : ℕ). take n (ys ++ drop (length ys) xs)) (sym same) ∙ front ys (drop (length ys) xs)
+  where
+    front : {A : Type 0} (ys zs : List A) → take (length ys) (ys ++ zs) ≡ ys
+    front [] zs = refl
+    front (y ∷ ys) zs = ap (λ us. y ∷ us) (front ys zs)
+
 -- ---- each item by itself
 
 module _ {A : Type 0} (f : A → A) where
@@ -58,6 +66,13 @@ pub turn_at : {A : Type 0} (f : ℕ → A → A) (xs ys : List A) (i : ℕ) (new
 turn_at f xs ys i new d so_far within is =
     rw (is, so_far, next i) (ap (λ x. slice_set (turned f i xs) i (f i x)) (index_kept f i xs d) ∙ set_turned f i xs d within)
 
+-- all are put behind the last
+past : {A : Type 0} (f : ℕ → A → A) (i : ℕ) (xs : List A) → length xs ≤ i → turned f i xs ≡ turned f (length xs) xs
+past f zero [] h = refl
+past f (suc i) [] h = refl
+past f zero (x ∷ xs) h = absurd (omega (arith, h))
+past f (suc i) (x ∷ xs) h = ap (λ ys. f zero x ∷ ys) (past (λ j. f (suc j)) i xs (omega (arith, h)))
+
 -- ---- operands
 
 abbrev pub operand_put : Place → ℕ → List (Op × Expr) → ℕ → Op × Expr → Op × Expr
@@ -67,6 +82,10 @@ pub operands_put : (p : Place) (level : ℕ) (xs : List (Op × Expr)) → turned
 operands_put p level [] = refl
 operands_put p level (x ∷ more) =
     ap (λ (ys : List (Op × Expr)). (x.0, least_in x.1 (operand_at p level more) Any) ∷ ys) (operands_put p level more)
+
+pub operands_done : (p : Place) (level : ℕ) (xs ys : List (Op × Expr)) (i : ℕ) → ys ≡ turned (operand_put p level xs) i xs → length xs ≤ i
+    → ys ≡ operands_least p level xs
+operands_done p level xs ys i so_far end = so_far ∙ past (operand_put p level xs) i xs end ∙ operands_put p level xs
 
 -- what stands at the next place is as it was
 next_kept : {A : Type 0} (f : ℕ → A → A) (n : ℕ) (xs : List A) (d : A) → slice_index_or (turned f n xs) (suc n) d ≡ slice_index_or xs (suc n) d
@@ -118,6 +137,10 @@ targets_put p first [] = refl
 targets_put p first (x ∷ more) =
     ap (λ (ys : List (Expr × Op)). (least_in x.0 (before_op 1 p.no_struct first false) Any, x.1) ∷ ys) (later_put p more)
 
+pub targets_done : (p : Place) (first : Bool) (xs ys : List (Expr × Op)) (i : ℕ) → ys ≡ turned (target_put p first) i xs → length xs ≤ i
+    → ys ≡ targets_least p first xs
+targets_done p first xs ys i so_far end = so_far ∙ past (target_put p first) i xs end ∙ targets_put p first xs
+
 -- ---- links
 
 abbrev pub link_put : Bool → List Link → ℕ → Link → Link
@@ -148,3 +171,6 @@ one_alone (x ∷ y ∷ more) = ne_eqb (length (x ∷ y ∷ more)) 1 (λ h. omega
 pub links_put : (alone : Bool) (xs : List Link) → turned (link_put alone xs) (length xs) xs ≡ links_from alone xs
 links_put alone [] = refl
 links_put alone (x ∷ more) = ap (λ (ys : List Link). link_least alone (is_there more) x ∷ ys) (links_put alone more)
+
+pub links_done : (xs ys : List Link) (i : ℕ) → ys ≡ turned (link_put (is_single xs) xs) i xs → length xs ≤ i → ys ≡ links_least xs
+links_done xs ys i so_far end = so_far ∙ past (link_put (is_single xs) xs) i xs end ∙ links_put (is_single xs) xs

@@ -11,7 +11,7 @@ use crate::slots::Slot;
 use lay_code::{Arm, Block, Boxed, Branch, Expr, Stmt};
 use lay_ends::may_precede_else;
 use lay_ops::places::{FREE, STATEMENT};
-use lay_token::NoMemory;
+use lay_token::{List, NoMemory};
 use std::alloc::Global;
 
 /// Gives what stands in a block its parentheses.
@@ -20,7 +20,7 @@ use std::alloc::Global;
 pub(crate) fn place_block(alloc: Global, block: &mut Block) -> Result<(), NoMemory>
     ensures { OnOk result (block.new ≡ block_least block.old) }
 {
-    place_stmts(alloc, block.stmts.as_mut_slice())
+    place_stmts(alloc, &mut block.stmts)
 }
 
 /// The same of a block that may be left out.
@@ -39,7 +39,16 @@ pub(crate) fn place_block_or_none(
 
 /// The same of statements.
 #[cycle(code)]
-fn place_stmts(alloc: Global, stmts: &mut [Stmt]) -> Result<(), NoMemory>
+#[tactic(auto, using(crate::proofs::Turning::refill))]
+fn place_stmts(alloc: Global, stmts: &mut List<Stmt>) -> Result<(), NoMemory>
+    ensures { OnOk result (stmts.new ≡ map stmt_least stmts.old) }
+{
+    place_each_stmt(alloc, stmts.as_mut_slice())
+}
+
+/// The same of each of these.
+#[cycle(code)]
+fn place_each_stmt(alloc: Global, stmts: &mut [Stmt]) -> Result<(), NoMemory>
     ensures { OnOk result (stmts.new ≡ map stmt_least stmts.old) }
 {
     for stmt in stmts.iter_mut() {
@@ -103,7 +112,16 @@ fn place_before_else(alloc: Global, value: &mut Expr) -> Result<(), NoMemory>
 
 /// The same of branches.
 #[cycle(code)]
-pub(crate) fn place_branches(alloc: Global, branches: &mut [Branch]) -> Result<(), NoMemory>
+#[tactic(auto, using(crate::proofs::Turning::refill))]
+pub(crate) fn place_branches(alloc: Global, branches: &mut List<Branch>) -> Result<(), NoMemory>
+    ensures { OnOk result (branches.new ≡ map branch_least branches.old) }
+{
+    place_each_branch(alloc, branches.as_mut_slice())
+}
+
+/// The same of each of these.
+#[cycle(code)]
+fn place_each_branch(alloc: Global, branches: &mut [Branch]) -> Result<(), NoMemory>
     ensures { OnOk result (branches.new ≡ map branch_least branches.old) }
 {
     for branch in branches.iter_mut() {
@@ -124,7 +142,16 @@ fn place_branch(alloc: Global, branch: &mut Branch) -> Result<(), NoMemory>
 
 /// The same of arms.
 #[cycle(code)]
-pub(crate) fn place_arms(alloc: Global, arms: &mut [Arm]) -> Result<(), NoMemory>
+#[tactic(auto, using(crate::proofs::Turning::refill))]
+pub(crate) fn place_arms(alloc: Global, arms: &mut List<Arm>) -> Result<(), NoMemory>
+    ensures { OnOk result (arms.new ≡ map arm_least arms.old) }
+{
+    place_each_arm(alloc, arms.as_mut_slice())
+}
+
+/// The same of each of these.
+#[cycle(code)]
+fn place_each_arm(alloc: Global, arms: &mut [Arm]) -> Result<(), NoMemory>
     ensures { OnOk result (arms.new ≡ map arm_least arms.old) }
 {
     for arm in arms.iter_mut() {

@@ -7,7 +7,7 @@ use crate::exprs::place_expr;
 use crate::slots::Slot;
 use lay_code::{Condition, Link, Place};
 use lay_ops::places::{link_place, plain};
-use lay_token::NoMemory;
+use lay_token::{List, NoMemory};
 use std::alloc::Global;
 
 /// Gives what stands in a condition its parentheses.
@@ -16,12 +16,21 @@ use std::alloc::Global;
 pub(crate) fn place_condition(alloc: Global, condition: &mut Condition) -> Result<(), NoMemory>
     ensures { OnOk result (condition.new ≡ condition_least condition.old) }
 {
-    place_links(alloc, condition.links.as_mut_slice())
+    place_links(alloc, &mut condition.links)
 }
 
 /// The same of links.
 #[cycle(code)]
-fn place_links(alloc: Global, links: &mut [Link]) -> Result<(), NoMemory>
+#[tactic(auto, using(crate::proofs::Turning::refill))]
+fn place_links(alloc: Global, links: &mut List<Link>) -> Result<(), NoMemory>
+    ensures { OnOk result (links.new ≡ links_least links.old) }
+{
+    place_each_link(alloc, links.as_mut_slice())
+}
+
+/// The same of each of these.
+#[cycle(code)]
+fn place_each_link(alloc: Global, links: &mut [Link]) -> Result<(), NoMemory>
     ensures { OnOk result (links.new ≡ links_least links.old) }
 {
     let count = links.len();

@@ -14,7 +14,7 @@ use crate::places::{
 use crate::slots::{Slot, fits};
 use lay_code::{Boxed, Expr, FieldExpr, Lifetime, Op, Place, Step};
 use lay_ops::places::{FREE, before_op, plain};
-use lay_token::NoMemory;
+use lay_token::{List, NoMemory};
 use std::alloc::Global;
 use std::mem;
 
@@ -50,7 +50,7 @@ pub(crate) fn place_expr(
 
 /// Gives the parts of an expression the parentheses that they lack, where it stands in this place.
 #[cycle(code)]
-#[tactic(auto, using(crate::proofs::Becoming::parts_become))]
+#[tactic(auto, using(crate::proofs::Becoming::parts_become, crate::proofs::Becoming::lit_stays, crate::proofs::Becoming::path_stays, crate::proofs::Becoming::call_stays, crate::proofs::Becoming::continue_stays))]
 pub(crate) fn place_parts(alloc: Global, expr: &mut Expr, place: Place) -> Result<(), NoMemory>
     ensures { OnOk result (expr.new ≡ parts_least place expr.old) }
 {
@@ -60,21 +60,19 @@ pub(crate) fn place_parts(alloc: Global, expr: &mut Expr, place: Place) -> Resul
         | Expr::Underscore
         | Expr::Call { .. }
         | Expr::Continue { .. } => Ok(()),
-        Expr::Paren { inner: part } | Expr::Repeat { element: part, .. } => {
-            place_expr(alloc, part.get_mut(), FREE, Slot::Any)
-        },
-        Expr::Tuple { elements } | Expr::Array { elements } => {
-            place_exprs(alloc, elements.as_mut_slice())
-        },
+        Expr::Paren { inner } => place_expr(alloc, inner.get_mut(), FREE, Slot::Any),
+        Expr::Tuple { elements } => place_exprs(alloc, elements),
+        Expr::Array { elements } => place_exprs(alloc, elements),
+        Expr::Repeat { element, .. } => place_expr(alloc, element.get_mut(), FREE, Slot::Any),
         Expr::Struct { fields, base, .. } => {
-            place_fields(alloc, fields.as_mut_slice())?;
+            place_fields(alloc, fields)?;
             place_base(alloc, base)
         },
         Expr::Chain { first, rest } => {
             let level = level_by(rest.as_slice());
             let at = first_place(rest.as_slice(), place);
             place_expr(alloc, first.get_mut(), at, Slot::Any)?;
-            place_operands(alloc, rest.as_mut_slice(), level, place)
+            place_operands(alloc, rest, level, place)
         },
         Expr::Cast { operand, .. } => {
             let at = before_op(12, place.no_struct, begins(place.start), false);
@@ -89,26 +87,26 @@ pub(crate) fn place_parts(alloc: Global, expr: &mut Expr, place: Place) -> Resul
             place_operand(alloc, end, as_node(place, 2), Slot::Optional)
         },
         Expr::Assign { targets, value } => {
-            place_targets(alloc, targets.as_mut_slice(), place)?;
+            place_targets(alloc, targets, place)?;
             place_expr(alloc, value.get_mut(), as_node(place, 1), Slot::Any)
         },
         Expr::Postfix { base, steps } => {
-            place_steps(alloc, steps.as_mut_slice())?;
+            place_steps(alloc, steps)?;
             let at = base_place(steps.as_slice(), place);
             let slot = base_slot(steps.as_slice());
             place_expr(alloc, base.get_mut(), at, slot)
         },
-        Expr::Block { body, .. }
-        | Expr::Unsafe { body }
-        | Expr::ConstBlock { body }
-        | Expr::Async { body, .. }
-        | Expr::Loop { body, .. }
-        | Expr::TypedClosure { body, .. } => place_block(alloc, body),
+        Expr::Block { body, .. } => place_block(alloc, body),
+        Expr::Unsafe { body } => place_block(alloc, body),
+        Expr::ConstBlock { body } => place_block(alloc, body),
+        Expr::Async { body, .. } => place_block(alloc, body),
+        Expr::Loop { body, .. } => place_block(alloc, body),
+        Expr::TypedClosure { body, .. } => place_block(alloc, body),
         Expr::If {
             branches,
             otherwise,
         } => {
-            place_branches(alloc, branches.as_mut_slice())?;
+            place_branches(alloc, branches)?;
             place_block_or_none(alloc, otherwise)
         },
         Expr::Match {
@@ -117,7 +115,7 @@ pub(crate) fn place_parts(alloc: Global, expr: &mut Expr, place: Place) -> Resul
             ..
         } => {
             place_expr(alloc, scrutinee.get_mut(), plain(0, true), Slot::Any)?;
-            place_arms(alloc, arms.as_mut_slice())
+            place_arms(alloc, arms)
         },
         Expr::While {
             condition,
@@ -167,7 +165,16 @@ fn break_slot(label: &Option<Lifetime>) -> Slot
 
 /// Gives each of the expressions its parentheses, within delimiters.
 #[cycle(code)]
-fn place_exprs(alloc: Global, exprs: &mut [Expr]) -> Result<(), NoMemory>
+#[tactic(auto, using(crate::proofs::Turning::refill))]
+fn place_exprs(alloc: Global, exprs: &mut List<Expr>) -> Result<(), NoMemory>
+    ensures { OnOk result (exprs.new ≡ exprs_least exprs.old) }
+{
+    place_each_expr(alloc, exprs.as_mut_slice())
+}
+
+/// The same of each of these.
+#[cycle(code)]
+fn place_each_expr(alloc: Global, exprs: &mut [Expr]) -> Result<(), NoMemory>
     ensures { OnOk result (exprs.new ≡ exprs_least exprs.old) }
 {
     for expr in exprs.iter_mut() {
@@ -194,7 +201,22 @@ pub(crate) fn place_operand(
 
 /// The same of the operands behind operators of this level.
 #[cycle(code)]
+#[tactic(auto, using(crate::proofs::Turning::refill))]
 fn place_operands(
+    alloc: Global,
+    operands: &mut List<(Op, Boxed<Expr>)>,
+    level: u8,
+    place: Place,
+) -> Result<(), NoMemory>
+    requires { level ≤ 10 }
+    ensures { OnOk result (operands.new ≡ operands_least place level operands.old) }
+{
+    place_each_operand(alloc, operands.as_mut_slice(), level, place)
+}
+
+/// The same of each of these.
+#[cycle(code)]
+fn place_each_operand(
     alloc: Global,
     operands: &mut [(Op, Boxed<Expr>)],
     level: u8,
@@ -215,7 +237,20 @@ fn place_operands(
 
 /// The same of the targets of an assignment.
 #[cycle(code)]
+#[tactic(auto, using(crate::proofs::Turning::refill))]
 fn place_targets(
+    alloc: Global,
+    targets: &mut List<(Boxed<Expr>, Op)>,
+    place: Place,
+) -> Result<(), NoMemory>
+    ensures { OnOk result (targets.new ≡ targets_least place (begins place.start) targets.old) }
+{
+    place_each_target(alloc, targets.as_mut_slice(), place)
+}
+
+/// The same of each of these.
+#[cycle(code)]
+fn place_each_target(
     alloc: Global,
     targets: &mut [(Boxed<Expr>, Op)],
     place: Place,
@@ -233,7 +268,16 @@ fn place_targets(
 
 /// The same of the fields of a struct literal.
 #[cycle(code)]
-fn place_fields(alloc: Global, fields: &mut [FieldExpr]) -> Result<(), NoMemory>
+#[tactic(auto, using(crate::proofs::Turning::refill))]
+fn place_fields(alloc: Global, fields: &mut List<FieldExpr>) -> Result<(), NoMemory>
+    ensures { OnOk result (fields.new ≡ map field_least fields.old) }
+{
+    place_each_field(alloc, fields.as_mut_slice())
+}
+
+/// The same of each of these.
+#[cycle(code)]
+fn place_each_field(alloc: Global, fields: &mut [FieldExpr]) -> Result<(), NoMemory>
     ensures { OnOk result (fields.new ≡ map field_least fields.old) }
 {
     for field in fields.iter_mut() {
@@ -244,14 +288,13 @@ fn place_fields(alloc: Global, fields: &mut [FieldExpr]) -> Result<(), NoMemory>
 
 /// The same of a field of a struct literal.
 #[cycle(code)]
-#[tactic(auto, using(crate::proofs::Becoming::field_becomes))]
+#[tactic(auto, using(crate::proofs::Becoming::field_becomes, crate::proofs::Becoming::short_stays))]
 fn place_field(alloc: Global, field: &mut FieldExpr) -> Result<(), NoMemory>
     ensures { OnOk result (field.new ≡ field_least field.old) }
 {
     match field {
-        FieldExpr::Named { value, .. } | FieldExpr::Numbered { value, .. } => {
-            place_expr(alloc, value.get_mut(), FREE, Slot::Any)
-        },
+        FieldExpr::Named { value, .. } => place_expr(alloc, value.get_mut(), FREE, Slot::Any),
+        FieldExpr::Numbered { value, .. } => place_expr(alloc, value.get_mut(), FREE, Slot::Any),
         FieldExpr::Short { .. } => Ok(()),
     }
 }
@@ -262,14 +305,23 @@ fn place_base(alloc: Global, base: &mut Option<Option<Boxed<Expr>>>) -> Result<(
     ensures { OnOk result (base.new ≡ base_least base.old) }
 {
     match base {
-        Some(base) => place_operand(alloc, base, FREE, Slot::Any),
-        None => Ok(()),
+        Some(Some(base)) => place_expr(alloc, base.get_mut(), FREE, Slot::Any),
+        _ => Ok(()),
     }
 }
 
 /// The same of what stands in steps.
 #[cycle(code)]
-fn place_steps(alloc: Global, steps: &mut [Step]) -> Result<(), NoMemory>
+#[tactic(auto, using(crate::proofs::Turning::refill))]
+fn place_steps(alloc: Global, steps: &mut List<Step>) -> Result<(), NoMemory>
+    ensures { OnOk result (steps.new ≡ map step_least steps.old) }
+{
+    place_each_step(alloc, steps.as_mut_slice())
+}
+
+/// The same of each of these.
+#[cycle(code)]
+fn place_each_step(alloc: Global, steps: &mut [Step]) -> Result<(), NoMemory>
     ensures { OnOk result (steps.new ≡ map step_least steps.old) }
 {
     for step in steps.iter_mut() {
@@ -280,15 +332,14 @@ fn place_steps(alloc: Global, steps: &mut [Step]) -> Result<(), NoMemory>
 
 /// The same of what stands in a step.
 #[cycle(code)]
-#[tactic(auto, using(crate::proofs::Becoming::step_becomes))]
+#[tactic(auto, using(crate::proofs::Becoming::step_becomes, crate::proofs::Becoming::name_stays, crate::proofs::Becoming::index_stays))]
 fn place_step(alloc: Global, step: &mut Step) -> Result<(), NoMemory>
     ensures { OnOk result (step.new ≡ step_least step.old) }
 {
     match step {
         Step::Field { .. } | Step::TupleIndex { .. } | Step::Try | Step::Await => Ok(()),
-        Step::Method { args, .. } | Step::Apply { args } => {
-            place_exprs(alloc, args.as_mut_slice())
-        },
+        Step::Method { args, .. } => place_exprs(alloc, args),
+        Step::Apply { args } => place_exprs(alloc, args),
         Step::Index { index } => place_expr(alloc, index.get_mut(), FREE, Slot::Any),
     }
 }

@@ -7,7 +7,7 @@ use crate::exprs::place_operand;
 use crate::slots::Slot;
 use lay_code::{Item, ItemKind};
 use lay_ops::places::FREE;
-use lay_token::NoMemory;
+use lay_token::{List, NoMemory};
 use std::alloc::Global;
 
 /// Gives what stands in an item its parentheses.
@@ -21,7 +21,16 @@ pub(crate) fn place_item(alloc: Global, item: &mut Item) -> Result<(), NoMemory>
 
 /// The same of items.
 #[cycle(code)]
-fn place_items(alloc: Global, items: &mut [Item]) -> Result<(), NoMemory>
+#[tactic(auto, using(crate::proofs::Turning::refill))]
+fn place_items(alloc: Global, items: &mut List<Item>) -> Result<(), NoMemory>
+    ensures { OnOk result (items.new ≡ map item_least items.old) }
+{
+    place_each_item(alloc, items.as_mut_slice())
+}
+
+/// The same of each of these.
+#[cycle(code)]
+fn place_each_item(alloc: Global, items: &mut [Item]) -> Result<(), NoMemory>
     ensures { OnOk result (items.new ≡ map item_least items.old) }
 {
     for item in items.iter_mut() {
@@ -37,10 +46,10 @@ fn place_kind(alloc: Global, kind: &mut ItemKind) -> Result<(), NoMemory>
     ensures { OnOk result (kind.new ≡ kind_least kind.old) }
 {
     match kind {
-        ItemKind::Module { items, .. }
-        | ItemKind::Trait { items, .. }
-        | ItemKind::Impl { items, .. }
-        | ItemKind::Foreign { items, .. } => place_items(alloc, items.as_mut_slice()),
+        ItemKind::Module { items, .. } => place_items(alloc, items),
+        ItemKind::Trait { items, .. } => place_items(alloc, items),
+        ItemKind::Impl { items, .. } => place_items(alloc, items),
+        ItemKind::Foreign { items, .. } => place_items(alloc, items),
         ItemKind::Function { body, .. } => place_block_or_none(alloc, body),
         ItemKind::Value { value, .. } => place_operand(alloc, value, FREE, Slot::Any),
         _ => Ok(()),
