@@ -1,5 +1,5 @@
 -- What each node becomes, by its kind, and an expression by what fits.
-use Rattle.std.proofs.Common.{◌≡◌, ℕ, suc, ◌+◌, Bool, true, false, not, ◌&&◌, if◌then◌else◌, List, [], ◌∷◌, map, Option, Some, None, is_some, option_map, refl, sym, ap, ap₂, subst, ◌∙◌, arith}
+use Rattle.std.proofs.Common.{◌≡◌, ℕ, suc, ◌+◌, ◌<◌, ◌≤◌, Bool, true, false, not, ◌&&◌, if◌then◌else◌, List, [], ◌∷◌, map, Option, Some, None, is_some, option_map, refl, sym, ap, ap₂, subst, ◌∙◌, arith}
 use Rattle.lay_node.specs.nodes.Types.{is_there}
 use Rattle.lay_node.specs.declared.patterns.Pat.{Pat}
 use Rattle.lay_node.specs.declared.attr.Attr.{Attr}
@@ -38,7 +38,9 @@ use Rattle.lay_code.specs.declared.item.ItemKind.TheVariants as kind
 use Rattle.lay_code.specs.declared.operators.Op.{Op}
 use Rattle.lay_loose.specs.Slots.{Any, BeforeElse, BeforeIndex, Optional, Prefixed, Slot, fits}
 use Rattle.lay_paren.specs.InPlace.{arm_least, base_least, block_least, block_or_none_least, branch_least, condition_least, exprs_least, field_least, first_place, free_least, item_least, kind_least, least_in, link_least, links_from, links_least, operand_least, operands_least, parts_least, step_least, stmt_least, targets_least, value_slot}
-use Rattle.lay_paren.specs.Least.{chosen, least_made, made_of, wrapped}
+use Rattle.lay_paren.specs.Least.{chosen, least, least_made, made_of, wrapped}
+use Rattle.lay_form.specs.Depth.{least_depth}
+use Rattle.lay_depth_nodes.specs.Depths.{counted}
 use Rattle.lay_paren.specs.Made.{Made, all, kept, may_be, one}
 use Rattle.lay_paren.specs.Nodes.{arm_parts, block_parts, expr_parts, field_parts, kind_parts, link_parts, step_parts, stmt_parts, made_arm, made_block, made_branch, made_condition, made_field, made_item, made_kind, made_link, made_step, made_stmt}
 use Rattle.lay_paren.specs.Parts.{Linked, Placed, angle_next, arm_made, field_made, kind_made, link_made, step_made, stmt_made, base_place, base_slot, break_slot, condition_links, else_slot, expr_made, free_made, level_by, links_made, may_at, operand_at, operands_made, targets_made}
@@ -437,3 +439,15 @@ name_stays x name is = is ∙ sym (ap step_least is ∙ step_becomes (step.Field
 
 pub index_stays : (x : Step) (index : List ℕ) → x ≡ step.TupleIndex index → x ≡ step_least x
 index_stays x index is = is ∙ sym (ap step_least is ∙ step_becomes (step.TupleIndex index) ∙ ap step_in (views.outs-TupleIndex index))
+
+-- ---- the whole
+
+pub whole : (x new : Expr) (p : Place) → new ≡ least_in x p Any → new ≡ least x p
+unfolding least_in
+whole x new p is = is
+
+pub too_deep : (x made : Expr) (p : Place) (depth : ℕ) → made ≡ least_in x p Any → depth ≡ counted (least_depth (about_expr made).form) → 256 < depth
+    → 256 < least_depth (about_expr (least x p)).form
+too_deep x made p depth is told deep =
+    subst (λ (z : Expr). 256 < least_depth (about_expr z).form) (whole x made p is)
+    (let below : counted (least_depth (about_expr made).form) ≤ least_depth (about_expr made).form = omega arith in omega (arith, told, deep, below))

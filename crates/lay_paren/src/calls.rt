@@ -49,6 +49,7 @@ fn kept<A: Drop>(value: A, answer: Result<(), ParenError>) -> Result<A, ParenErr
 }
 
 /// Gives an expression its parentheses, and tells whether it is too deep with them.
+#[tactic(auto, using(crate::proofs::Becoming::whole, crate::proofs::Becoming::too_deep))]
 fn placed(alloc: Global, expr: &mut Expr, place: Place) -> Result<(), ParenError>
     ensures least { OnOk result (expr.new ≡ least expr.old place) }
     ensures within { OnOk result (least_depth (about_expr expr.new).form ≤ 256) }
