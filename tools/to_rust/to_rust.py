@@ -16,7 +16,7 @@ from dataclasses import dataclass, replace
 # The crates whose calls the cargo crate offers. All crates below them become modules.
 ROOTS = ['lay_front', 'lay_laws']
 # Crates that hold nothing that runs.
-LAWS = {'lay_form', 'lay_loose', 'lay_paren', 'lay_reparse', 'lay_units'}
+LAWS = {'lay_form', 'lay_loose', 'lay_reparse', 'lay_units'}
 # Modules that aren't taken over: what reaches the system, which the cargo crate does by its own standard library, and what only tests use.
 LEFT_OUT = {
     'lay_io': {'host', 'inputs', 'lent', 'room', 'sinks', 'stored'},
@@ -63,7 +63,7 @@ RAW_STRING = re.compile(r'b?r(#*)"')
 CHARACTER = re.compile(r"b?'(\\x[0-9a-fA-F]{2}|\\u\{[0-9a-fA-F_]+\}|\\.|[^\\'])'")
 LIFETIME = re.compile(r"'[A-Za-z_]\w*", re.ASCII)
 NUMBER = re.compile(r'\d\w*(\.\d\w*)?', re.ASCII)
-CLAUSE_HEAD = re.compile(r'\s+([A-Za-z_]\w*\s*)?(?=\{)', re.ASCII)
+CLAUSE_HEAD = re.compile(r'\*?\s+([A-Za-z_]\w*\s*)?(?=\{)', re.ASCII)
 GHOST_USE = re.compile(r'\s+use\s')
 GHOST_MEMBER = re.compile(r'\s+[A-Za-z_]\w*\s*[:=]\s*(?=\{)', re.ASCII)
 GHOST_DEFAULT = re.compile(r'\s*=\s*(?=\{)')

@@ -22,6 +22,8 @@ mod nest;
 #[cfg(test)]
 mod outside;
 #[cfg(test)]
+mod pieces;
+#[cfg(test)]
 mod token;
 #[cfg(test)]
 mod tree;

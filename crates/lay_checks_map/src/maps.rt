@@ -1,12 +1,16 @@
 //! Rows of texts, and where what they say stands in them and in their output.
+ghost use Rattle.std.specs.Prelude.{List as Items, IsUtf8};
+ghost use Rattle.std.specs.Str.{IsCharBoundary};
+ghost use Rattle.lay_token.specs.Lexes.{Lexes};
+ghost use Rattle.lay_token.specs.declared.token.Token.{Token as TokenValue};
 ghost use Rattle.lay_code.specs.Reading.{SpellsFile, top};
 ghost use Rattle.lay_read_tokens.specs.Answers.{AreLexed};
 
 use lay_code::File;
 use lay_files::{DEPTH, text_of};
 use lay_given::{BETWEEN, parts};
-use lay_lex::{lex, normalise};
-use lay_map::{Unit, pairs, units};
+use lay_lex::{Source, lex, normalise};
+use lay_map::{Span, Unit, pairs, units, units_of_text};
 use lay_nest::{Nested, nest};
 use lay_read_code::read_file;
 use lay_text::{FormatError, List, NoMemory, Text};
@@ -33,27 +37,67 @@ fn found(alloc: Global, file: &File, nested: &Nested) -> Result<(List<Unit>, Tex
     Ok((found, text))
 }
 
+/// The units of a text of which no tokens are handed in.
+fn found_of_text(alloc: Global, file: &File, source: &Source) -> Result<List<Span>, NoMemory>
+    requires utf8 { IsUtf8 source.now.text }
+    requires border { IsCharBoundary source.now.text source.now.start }
+    requires read { (tokens : Items TokenValue) × Lexes source.now.text source.now.start tokens × SpellsFile top file.now tokens }
+{
+    units_of_text(alloc, file, source.as_str(), source.start)
+}
+
+/// What is found of a text without a first line.
+#[derive(Drop)]
+struct Found {
+    units: List<Unit>,
+    /// The same, found of the text.
+    of_text: List<Span>,
+    output: Text,
+}
+
 /// The units of a text without a first line, and its output.
-fn read(alloc: Global, text: &[u8]) -> Result<(List<Unit>, Text), FormatError> {
+fn read(alloc: Global, text: &[u8]) -> Result<Found, FormatError> {
     let source = normalise(alloc, text)?;
     let tokens = lex(alloc, &source)?;
     let nested = nest(alloc, tokens)?;
     let file = read_file(alloc, &nested, None, DEPTH)?;
-    match found(alloc, &file, &nested) {
-        Ok(found) => Ok(found),
+    let Ok((units, output)) = found(alloc, &file, &nested) else {
+        return Err(FormatError::NoMemory);
+    };
+    match found_of_text(alloc, &file, &source) {
+        Ok(of_text) => Ok(Found {
+            units,
+            of_text,
+            output,
+        }),
         Err(NoMemory) => Err(FormatError::NoMemory),
     }
 }
 
+/// The units that were found of the text are those that were found of its tokens.
+fn is_same(found: &Found) -> bool {
+    let (units, of_text) = (found.units.as_slice(), found.of_text.as_slice());
+    units.len() == of_text.len()
+        && units
+            .iter()
+            .zip(of_text)
+            .all(|(unit, span)| *unit == span.unit())
+}
+
 /// The lines of a text.
 fn lines(alloc: Global, text: &str) -> Result<String, Fail> {
-    let (source, output) = read(alloc, text.as_bytes())?;
-    let (target, _) = read(alloc, output.as_bytes())?;
+    let source = read(alloc, text.as_bytes())?;
+    let target = read(alloc, source.output.as_bytes())?;
     let mut lines = String::new(alloc);
-    if source.as_slice().len() != target.as_slice().len() {
+    if !is_same(&source) || !is_same(&target) {
+        lines.push_str("the units of a text aren't those of its tokens")?;
         return Ok(lines);
     }
-    for pair in pairs(alloc, source.as_slice(), target.as_slice())?.as_slice() {
+    let (source, target) = (source.units.as_slice(), target.units.as_slice());
+    if source.len() != target.len() {
+        return Ok(lines);
+    }
+    for pair in pairs(alloc, source, target)?.as_slice() {
         let (here, there) = (pair.source, pair.output);
         let line = format!(in alloc; "{}+{} {}+{}\n", here.at, here.len, there.at, there.len)?;
         lines.push_str(line.as_str())?;

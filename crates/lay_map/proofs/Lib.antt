@@ -9,5 +9,6 @@ pub mod PieceLemmas
 pub mod PushLemmas
 pub mod RowRules
 pub mod Rules
+pub mod WalkLemmas
 pub mod WordLemmas
 pub mod nodes

@@ -1,3 +1,5 @@
+pub mod Ahead
+pub mod Finding
 pub mod Flow
 pub mod Marking
 pub mod Meanings

@@ -1,28 +1,62 @@
 //! The units of the tokens that spell a file.
-ghost use Rattle.std.specs.Prelude.{IfOk};
+ghost use Rattle.std.specs.Prelude.{IfOk, List as Items};
+ghost use Rattle.std.specs.Str.{IsCharBoundary};
+ghost use Rattle.lay_token.specs.Lexes.{Lexes};
+ghost use Rattle.lay_token.specs.declared.token.Token.{Token as TokenValue};
 ghost use Rattle.lay_code.specs.Reading.{SpellsFile, top};
+ghost use Rattle.lay_map.specs.Ahead.{tokens_of};
 ghost use Rattle.lay_map.specs.Places.{ArePlaces};
 ghost use Rattle.lay_read_tokens.specs.Answers.{AreLexed};
 
+use crate::ahead::Ahead;
 use crate::marker::Marker;
-use crate::unit::Unit;
+use crate::unit::{Span, Unit, units_of_spans};
 use lay_code::File;
 use lay_nest::Nested;
 use lay_out_code::put_file;
+use lay_pieces::Cursor;
 use lay_text::{List, NoMemory};
 use std::alloc::Global;
 
 /// Where the units of the tokens stand that spell the file, in their order: each token that says something of it, and the tokens of one
 /// documentation together. A mark that the grammar lets stand or not is in none.
 ///
-/// The tokens are those that some text lexes to.
+/// The tokens are those that some text lexes to. There is no room, as where memory is wanting, for a unit that begins behind 2^32 bytes or is
+/// as long.
 pub fn units(alloc: Global, file: &File, nested: &Nested) -> Result<List<Unit>, NoMemory>
     requires lexed { AreLexed nested.now }
     requires spells { SpellsFile top file.now nested.now }
     ensures { IfOk result (λ list. ArePlaces file.now nested.now list) }
 {
     let cursor = nested.cursor();
-    let mut marker = Marker::new(alloc, cursor.as_slice(), file.shebang.is_some());
+    let spans = found(alloc, file, Ahead::Tokens(cursor.as_slice()))?;
+    units_of_spans(alloc, spans.as_slice())
+}
+
+/// The same of a text, from a place on: where the units of the tokens stand that it lexes to. No list of these tokens is made, and each place
+/// is kept in 8 bytes.
+pub fn units_of_text(
+    alloc: Global,
+    file: &File,
+    text: &str,
+    start: usize,
+) -> Result<List<Span>, NoMemory>
+    requires border { IsCharBoundary text.now start }
+    requires read { (tokens : Items TokenValue) × Lexes text.now start tokens
+        × SpellsFile top file.now tokens }
+    ensures { IfOk result (λ list. (tokens : Items TokenValue) → Lexes text.now start tokens
+        → ArePlaces file.now tokens list) }
+{
+    found(alloc, file, Ahead::Text(Cursor::new(text, start)))
+}
+
+/// Where the units of these tokens stand.
+fn found(alloc: Global, file: &File, tokens: Ahead<'_>) -> Result<List<Span>, NoMemory>
+    requires lexed { AreLexed (tokens_of tokens) }
+    requires spells { SpellsFile top file.now (tokens_of tokens) }
+    ensures { IfOk result (λ list. ArePlaces file.now (tokens_of tokens.entry) list) }
+{
+    let mut marker = Marker::new(alloc, tokens, file.shebang.is_some());
     put_file(&mut marker, file)?;
     marker.into_units()
 }

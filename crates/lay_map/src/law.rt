@@ -19,17 +19,25 @@ ghost use Rattle.lay_map.specs.Places.{place_of};
 /// Where a form is clear, and its layout tells which of its commas are words, the units of tokens that spell it are those that are found by
 /// the stream of its layout.
 pub fn found_law()
-    ensures { (f : Form) (depth : ℕ) (ts : List Token) (arrow : Bool) → AreSingle ts → clear f [] true ≡ true → is_level (words f) ≡ true
-        → are_pieces f ≡ true → flow (At Still false) f ≡ At Still arrow → (s : Spells f depth ts [])
+    ensures { (f : Form) (depth : ℕ) (ts : List Token) (arrow : Bool) → AreSingle ts
+        → clear f [] true ≡ true → is_level (words f) ≡ true
+        → are_pieces f ≡ true → flow (At Still false) f ≡ At Still arrow
+        → (s : Spells f depth ts [])
         → units_of (fed_all (stream_of f) (begun ts false)) ≡ map place_of (units f depth ts [] s) }
 {}
 
 /// Two lists of tokens that spell one file have as many units, which say the same. One list that spells a file in two ways has them at the same places.
 pub fn map_law()
-    ensures said { (file : File) (ts us : List Token) → AreLexed ts → AreLexed us → (s : Spells (form_of_file file) top ts []) → (z : Spells (form_of_file file) top us [])
-        → said (units (form_of_file file) top ts [] s) ≡ said (units (form_of_file file) top us [] z) }
-    ensures number { (file : File) (ts us : List Token) → AreLexed ts → AreLexed us → (s : Spells (form_of_file file) top ts []) → (z : Spells (form_of_file file) top us [])
-        → length (units (form_of_file file) top ts [] s) ≡ length (units (form_of_file file) top us [] z) }
-    ensures once { (file : File) (ts : List Token) → Written file → AreLexed ts → (s z : Spells (form_of_file file) top ts [])
-        → map place_of (units (form_of_file file) top ts [] s) ≡ map place_of (units (form_of_file file) top ts [] z) }
+    ensures said { (file : File) (ts us : List Token) → AreLexed ts → AreLexed us
+        → (s : Spells (form_of_file file) top ts []) → (z : Spells (form_of_file file) top us [])
+        → said (units (form_of_file file) top ts [] s)
+        ≡ said (units (form_of_file file) top us [] z) }
+    ensures number { (file : File) (ts us : List Token) → AreLexed ts → AreLexed us
+        → (s : Spells (form_of_file file) top ts []) → (z : Spells (form_of_file file) top us [])
+        → length (units (form_of_file file) top ts [] s)
+        ≡ length (units (form_of_file file) top us [] z) }
+    ensures once { (file : File) (ts : List Token) → Written file → AreLexed ts
+        → (s z : Spells (form_of_file file) top ts [])
+        → map place_of (units (form_of_file file) top ts [] s)
+        ≡ map place_of (units (form_of_file file) top ts [] z) }
 {}

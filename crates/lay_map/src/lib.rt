@@ -6,6 +6,7 @@
 //! say the same. [`found_law`] says of each form which is clear, as that of a file is, that the layout finds its units.
 #![tactic(auto)]
 
+mod ahead;
 mod files;
 mod flags;
 mod law;
@@ -15,6 +16,6 @@ mod tokens;
 mod unit;
 mod walk;
 
-pub use files::units;
+pub use files::{units, units_of_text};
 pub use law::{found_law, map_law};
-pub use unit::{Pair, Unit, pairs};
+pub use unit::{Pair, Span, Unit, pairs};

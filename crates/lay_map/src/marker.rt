@@ -2,15 +2,16 @@
 ghost use Rattle.std.specs.Prelude.{◌≡◌, ◌<◌, [], ◌∷◌, IfOk, OnErr, OnOk, length, true, false};
 ghost use Rattle.lay_layout.specs.declared.layout.Tok.TheVariants as tok;
 ghost use Rattle.lay_stream.specs.Fed.{Did};
+ghost use Rattle.lay_map.specs.Ahead.{tokens_of};
 ghost use Rattle.lay_map.specs.Marking.{begun, units_of};
 ghost use Rattle.lay_map.specs.Meanings.{mark_meanings};
 
+use crate::ahead::Ahead;
 use crate::marking::Marking;
-use crate::unit::Unit;
+use crate::unit::Span;
 use lay_layout::Break;
 use lay_stream::Emit;
 use lay_text::{List, NoMemory};
-use lay_token::Token;
 use std::alloc::Global;
 use std::marker::Model;
 
@@ -18,7 +19,7 @@ use std::marker::Model;
 #[derive(Drop)]
 pub(crate) struct Marker<'a> {
     /// All the tokens.
-    tokens: &'a [Token],
+    tokens: Ahead<'a>,
     /// The first line is that of a shebang.
     shebang: bool,
     marking: Marking<'a>,
@@ -27,17 +28,18 @@ pub(crate) struct Marker<'a> {
 }
 
 impl<'a> Model for Marker<'a> {
+    ghost use Rattle.lay_map.specs.Ahead.{tokens_of};
     ghost use Rattle.lay_map.specs.Meanings.{Seen};
 
     ghost Value = { Seen };
 
-    ghost view = { λ m. record { tokens = m.tokens.now; shebang = m.shebang; state = m.marking; failed = m.failed } };
+    ghost view = { λ m. record { tokens = tokens_of m.tokens; shebang = m.shebang; state = m.marking; failed = m.failed } };
 }
 
 impl<'a> Marker<'a> {
     /// Nothing was fed. The flag says that the first line is that of a shebang.
-    pub(crate) fn new(alloc: Global, tokens: &'a [Token], shebang: bool) -> Marker<'a>
-        ensures { result ≡ record { tokens = tokens.now; shebang = shebang; state = begun tokens.now shebang; failed = false } }
+    pub(crate) fn new(alloc: Global, tokens: Ahead<'a>, shebang: bool) -> Marker<'a>
+        ensures { result ≡ record { tokens = tokens_of tokens.entry; shebang = shebang; state = begun (tokens_of tokens.entry) shebang; failed = false } }
     {
         Marker {
             tokens,
@@ -48,7 +50,7 @@ impl<'a> Marker<'a> {
     }
 
     /// The units, where nothing more is fed.
-    pub(crate) fn into_units(self) -> Result<List<Unit>, NoMemory>
+    pub(crate) fn into_units(self) -> Result<List<Span>, NoMemory>
         ensures { IfOk result (λ units. units ≡ units_of self.entry.state) }
     {
         let Marker {

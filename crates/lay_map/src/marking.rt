@@ -1,14 +1,15 @@
 //! What the tokens of a layout tell of the tokens of a text.
 ghost use Rattle.std.specs.Prelude.{◌≡◌, ◌∷◌, [], cond, drop, not, ◌==◌, IfOk, OnOk, true};
+ghost use Rattle.lay_map.specs.Ahead.{tokens_of};
 ghost use Rattle.lay_map.specs.Marking.{BeginsWord, begun, behind_line, broken, comma_settled, documented, first_ahead, group_begun, group_ended};
 ghost use Rattle.lay_map.specs.Marking.{is_free, opening_of, raised, read, read_code, settled, text_within, units_of, words_of, worded};
 
+use crate::ahead::Ahead;
 use crate::flags::Flags;
-use crate::unit::Unit;
-use crate::walk::{Sought, Walk};
+use crate::unit::Span;
+use crate::walk::{Walk, one_more};
 use lay_layout::Break;
 use lay_text::{List, NoMemory};
-use lay_token::Token;
 use std::alloc::Global;
 use std::marker::Model;
 
@@ -59,11 +60,11 @@ impl<'a> Model for Marking<'a> {
 
 impl<'a> Marking<'a> {
     /// Nothing was fed. The flag says that the first line is that of a shebang, which has no tokens.
-    pub(crate) fn new(alloc: Global, tokens: &'a [Token], shebang: bool) -> Marking<'a>
-        ensures { result ≡ begun tokens.now shebang }
+    pub(crate) fn new(alloc: Global, ahead: Ahead<'a>, shebang: bool) -> Marking<'a>
+        ensures { result ≡ begun (tokens_of ahead.entry) shebang }
     {
         Marking {
-            walk: Walk::new(alloc, tokens),
+            walk: Walk::new(alloc, ahead),
             row: 0,
             comma: false,
             within: if shebang { Within::Line } else { Within::Code },
@@ -123,7 +124,7 @@ impl<'a> Marking<'a> {
     }
 
     /// The units that were found, where nothing more is fed.
-    pub(crate) fn into_units(self) -> Result<List<Unit>, NoMemory>
+    pub(crate) fn into_units(self) -> Result<List<Span>, NoMemory>
         ensures { IfOk result (λ units. units ≡ units_of self.entry) }
     {
         let mut marking = self;
@@ -152,9 +153,13 @@ impl<'a> Marking<'a> {
     }
 
     /// Takes the opening braces that wait, before a word that isn't `;`, or that is.
+    #[inline(always)]
     fn settle(&mut self, loose: bool) -> Result<(), NoMemory>
         ensures { OnOk result (self.new ≡ settled loose self.old) }
     {
+        if self.row == 0 {
+            return Ok(());
+        }
         let row = self.row;
         self.row = 0;
         self.walk.place(row, loose)
@@ -166,10 +171,7 @@ impl<'a> Marking<'a> {
         ensures length { IfOk result (λ length. length ≡ first_ahead byte self.old) }
     {
         self.settle(byte != b';')?;
-        self.walk.seek(Sought::First(byte))?;
-        let length = self.walk.first_length();
-        self.walk.take(0)?;
-        Ok(length)
+        self.walk.word(byte)
     }
 
     /// A text that isn't within documentation.
@@ -204,9 +206,7 @@ impl<'a> Marking<'a> {
         ensures { OnOk result (self.new ≡ documented opening self.old) }
     {
         self.settle(true)?;
-        self.walk.seek(Sought::Docs)?;
-        let more = self.walk.more_doc(opening.inner);
-        self.walk.take(more)?;
+        self.walk.docs(opening.inner)?;
         self.within = if opening.block {
             Within::Block
         } else {
@@ -245,13 +245,8 @@ impl<'a> Marking<'a> {
     fn raise(&mut self) -> Result<(), NoMemory>
         ensures { OnOk result (self.new ≡ raised self.old) }
     {
-        match self.row.checked_add(1) {
-            Some(row) => {
-                self.row = row;
-                Ok(())
-            }
-            None => Err(NoMemory),
-        }
+        self.row = one_more(self.row)?;
+        Ok(())
     }
 }
 

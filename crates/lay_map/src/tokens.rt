@@ -1,11 +1,17 @@
 //! What is told of single tokens.
-ghost use Rattle.std.specs.Prelude.{◌≡◌, [], ◌∷◌};
+ghost use Rattle.std.specs.Prelude.{◌≡◌, [], ◌∷◌, IfOk, drop};
+ghost use Rattle.lay_token.specs.declared.token.Token.{Token as TokenValue};
 ghost use Rattle.lay_units.specs.Choice.{alike, closes, is_doc, is_semicolon, more_doc, opens};
+ghost use Rattle.lay_pieces.specs.Ahead.{Tells};
+ghost use Rattle.lay_map.specs.Ahead.{tokens_of};
 ghost use Rattle.lay_map.specs.Walks.{is_said, last_of, unit_from};
 
+use crate::ahead::Ahead;
 use crate::unit::Unit;
 use crate::walk::Sought;
-use lay_token::{Delim, Kind, Token};
+use lay_pieces::Lexeme;
+use lay_text::NoMemory;
+use lay_token::{Delim, Kind};
 
 /// Whether a token of this kind is an opening brace.
 pub(crate) fn opens(kind: Kind) -> bool
@@ -22,23 +28,23 @@ pub(crate) fn closes(kind: Kind) -> bool
 }
 
 /// Whether the token is a `;`.
-pub(crate) fn is_semicolon(token: &Token) -> bool
-    ensures { result ≡ is_semicolon token.now.kind token.now.text }
+pub(crate) fn is_semicolon(lexeme: &Lexeme<'_>) -> bool
+    ensures { result ≡ is_semicolon lexeme.now.kind lexeme.now.text.now }
 {
-    match token.kind {
-        Kind::Punct => b";".as_slice() == token.text.as_bytes(),
+    match lexeme.kind {
+        Kind::Punct => b";".as_slice() == lexeme.text,
         _ => false,
     }
 }
 
 /// Whether the token says what is looked for, as far as its first byte tells.
-pub(crate) fn says(sought: Sought, token: &Token) -> bool
-    ensures { result ≡ is_said sought token.now.kind token.now.text }
+#[inline(always)]
+pub(crate) fn says(sought: Sought, lexeme: &Lexeme<'_>) -> bool
+    ensures { result ≡ is_said sought lexeme.now.kind lexeme.now.text.now }
 {
-    let text = token.text.as_bytes();
     match sought {
-        Sought::First(byte) => begins(text, byte),
-        Sought::Docs => is_doc(token.kind) || begins(text, b'#'),
+        Sought::First(byte) => begins(lexeme.text, byte),
+        Sought::Docs => is_doc(lexeme.kind) || begins(lexeme.text, b'#'),
     }
 }
 
@@ -73,18 +79,19 @@ pub(crate) fn more_doc(inner: bool, kind: Kind) -> usize
     }
 }
 
-/// The token that stands so many places behind the first one, or else the last one.
-pub(crate) fn last_of<'a>(first: &'a Token, behind: &'a [Token], more: usize) -> &'a Token
-    ensures { result.now ≡ last_of more first.now behind.now }
+/// Goes past so many tokens, as far as they are: the last of them, or else the first one.
+#[inline(always)]
+pub(crate) fn last_of<'a>(first: Lexeme<'a>, ahead: &mut Ahead<'a>, more: usize) -> Lexeme<'a>
+    ensures last { (t : TokenValue) → Tells first.entry t
+        → Tells result (last_of more t (tokens_of ahead.old)) }
+    ensures behind { tokens_of ahead.new ≡ drop more (tokens_of ahead.old) }
 {
     let mut last = first;
-    let mut rest = behind;
     let mut left = more;
     while left > 0 {
-        match rest.split_first() {
-            Some((token, behind)) => {
-                last = token;
-                rest = behind;
+        match ahead.next() {
+            Some(lexeme) => {
+                last = lexeme;
                 left -= 1;
             }
             None => return last,
@@ -94,8 +101,9 @@ pub(crate) fn last_of<'a>(first: &'a Token, behind: &'a [Token], more: usize) ->
 }
 
 /// The unit from a token to another.
-pub(crate) fn unit_from(first: &Token, last: &Token) -> Unit
-    ensures { result ≡ unit_from first.now last.now }
+#[inline(always)]
+pub(crate) fn unit_from(first: &Lexeme<'_>, last: &Lexeme<'_>) -> Unit
+    ensures { (t u : TokenValue) → Tells first.now t → Tells last.now u → result ≡ unit_from t u }
 {
     Unit {
         at: first.at,

@@ -4,12 +4,52 @@ ghost use Rattle.lay_map.specs.Pairs.{paired};
 
 use lay_text::{List, NoMemory};
 use std::alloc::Global;
+use std::marker::Model;
 
 /// Where a unit stands: from the start of its first token to the end of its last one, in bytes of the text.
 #[derive(Clone, Copy, Debug, PartialEq, Eq)]
 pub struct Unit {
     pub at: usize,
     pub len: usize,
+}
+
+/// Where a unit stands, in 8 bytes, so that all units of a large text have room beside its tree. Contracts see the unit.
+#[derive(Debug, Drop)]
+pub struct Span {
+    at: u32,
+    len: u32,
+}
+
+impl Model for Span {
+    ghost use Rattle.lay_map.specs.declared.unit.Unit.{Unit as UnitValue};
+
+    ghost Value = { UnitValue };
+
+    ghost view = { λ span. record { at = span.at; len = span.len } };
+}
+
+impl Span {
+    /// The unit, kept. `Err` where it begins behind 2^32 bytes or has as many: there is no room for it.
+    #[inline(always)]
+    pub(crate) fn new(unit: Unit) -> Result<Span, NoMemory>
+        ensures { IfOk result (λ span. span ≡ unit) }
+    {
+        match (u32::try_from(unit.at), u32::try_from(unit.len)) {
+            (Ok(at), Ok(len)) => Ok(Span { at, len }),
+            _ => Err(NoMemory),
+        }
+    }
+
+    /// The unit.
+    #[inline(always)]
+    pub fn unit(&self) -> Unit
+        ensures { result ≡ self.now }
+    {
+        Unit {
+            at: self.at as usize,
+            len: self.len as usize,
+        }
+    }
 }
 
 /// Where what one unit says stands in the source, and where in the output.
@@ -40,9 +80,25 @@ pub fn pairs(alloc: Global, source: &[Unit], output: &[Unit]) -> Result<List<Pai
     Ok(list)
 }
 
+/// The units that are kept so.
+pub(crate) fn units_of_spans(alloc: Global, spans: &[Span]) -> Result<List<Unit>, NoMemory>
+    ensures { IfOk result (λ list. list ≡ spans.now) }
+{
+    let mut list = List::new(alloc);
+    let mut rest = spans;
+    while let Some((span, behind)) = rest.split_first() {
+        match list.push(span.unit()) {
+            Ok(()) => rest = behind,
+            Err(_) => return Err(NoMemory),
+        }
+    }
+    Ok(list)
+}
+
 /// Adds a pair at the end.
 fn add(list: &mut List<Pair>, source: Unit, output: Unit) -> Result<(), NoMemory>
-    ensures { OnOk result (list.new ≡ list.old ++ record { source = source; output = output } ∷ []) }
+    ensures { OnOk result (list.new ≡ list.old ++ record { source = source; output = output }
+        ∷ []) }
 {
     match list.push(Pair { source, output }) {
         Ok(()) => Ok(()),

@@ -1,14 +1,19 @@
 //! A walk over tokens, which finds the first one that begins as a word does.
-ghost use Rattle.std.specs.Prelude.{◌≡◌, ◌++◌, ◌∷◌, [], IfOk, List as Items, OnOk};
-ghost use Rattle.lay_units.specs.Choice.{behind_token, opens, openers};
-ghost use Rattle.lay_map.specs.Walks.{IsCount, first_length, is_closing, is_sought, more_of, placed, placed_in, sought_from, sought_in, taken_from, taken_in};
-ghost use Rattle.lay_map.specs.declared.unit.Unit.{Unit as UnitValue};
+ghost use Rattle.std.specs.Prelude.{◌≡◌, ◌+◌, ◌++◌, ◌∷◌, [], IfOk, OnOk};
+ghost use Rattle.lay_token.specs.declared.token.Token.{Token as TokenValue};
+ghost use Rattle.lay_units.specs.Choice.{behind_token, openers};
+ghost use Rattle.lay_pieces.specs.Ahead.{Tells};
+ghost use Rattle.lay_map.specs.Ahead.{tokens_of};
+ghost use Rattle.lay_map.specs.Finding.{Finds, documented_from};
+ghost use Rattle.lay_map.specs.Walks.{IsCount, first_length, is_closing, is_sought, placed, placed_in, sought_from, taken_from, taken_in};
 
+use crate::ahead::Ahead;
 use crate::flags::Flags;
 use crate::tokens::{closes, is_semicolon, last_of, more_doc, opens, says, unit_from};
-use crate::unit::Unit;
+use crate::unit::{Span, Unit};
+use lay_pieces::Lexeme;
 use lay_text::{List, NoMemory};
-use lay_token::{Kind, Token};
+use lay_token::Kind;
 use std::alloc::Global;
 use std::marker::Model;
 
@@ -24,79 +29,94 @@ pub(crate) enum Sought {
 /// A place in the tokens, and what was found before it.
 #[derive(Drop)]
 pub(crate) struct Walk<'a> {
-    ahead: &'a [Token],
+    ahead: Ahead<'a>,
     /// Of each brace that is open, whether it is in a unit.
     braces: Flags,
-    units: List<Unit>,
+    units: List<Span>,
 }
 
 impl<'a> Model for Walk<'a> {
+    ghost use Rattle.lay_map.specs.Ahead.{tokens_of};
     ghost use Rattle.lay_map.specs.Walks.{Place};
 
     ghost Value = { Place };
 
-    ghost view = { λ walk. record { ahead = walk.ahead.now; braces = walk.braces; units = walk.units } };
+    ghost view = { λ walk. record { ahead = tokens_of walk.ahead; braces = walk.braces; units = walk.units } };
 }
 
 impl<'a> Walk<'a> {
     /// A walk before the first token.
-    pub(crate) fn new(alloc: Global, tokens: &'a [Token]) -> Walk<'a>
-        ensures { result ≡ record { ahead = tokens.now; braces = []; units = [] } }
+    pub(crate) fn new(alloc: Global, ahead: Ahead<'a>) -> Walk<'a>
+        ensures { result ≡ record { ahead = tokens_of ahead.entry; braces = []; units = [] } }
     {
         Walk {
-            ahead: tokens,
+            ahead,
             braces: Flags::new(alloc),
             units: List::new(alloc),
         }
     }
 
-    /// Passes the tokens before the one that is looked for; they are in no unit.
-    pub(crate) fn seek(&mut self, sought: Sought) -> Result<(), NoMemory>
-        ensures { OnOk result (self.new ≡ sought_from sought self.old) }
+    /// Takes the first token whose text begins with this byte as a unit: how many bytes its text has. The tokens before it are in no
+    /// unit.
+    pub(crate) fn word(&mut self, byte: u8) -> Result<usize, NoMemory>
+        ensures word { OnOk result (self.new ≡ taken_from 0
+            (sought_from (Sought.First byte) self.old)) }
+        ensures length { IfOk result (λ length. length
+            ≡ first_length (sought_from (Sought.First byte) self.old).ahead) }
     {
-        self.ahead = seek(&mut self.braces, self.ahead, sought)?;
-        Ok(())
+        let found = find(&mut self.braces, &mut self.ahead, Sought::First(byte))?;
+        match found {
+            Some(lexeme) => {
+                take(
+                    &mut self.braces,
+                    &mut self.units,
+                    &mut self.ahead,
+                    lexeme,
+                    0,
+                )?;
+                Ok(lexeme.text.len())
+            }
+            None => Ok(0),
+        }
     }
 
-    /// Takes the next token, and so many more behind it, as a unit.
-    pub(crate) fn take(&mut self, more: usize) -> Result<(), NoMemory>
-        ensures { OnOk result (self.new ≡ taken_from more self.old) }
+    /// Takes the first documentation as a unit. The tokens before it are in no unit.
+    pub(crate) fn docs(&mut self, inner: bool) -> Result<(), NoMemory>
+        ensures { OnOk result (self.new ≡ documented_from inner self.old) }
     {
-        self.ahead = take(&mut self.braces, &mut self.units, self.ahead, more)?;
-        Ok(())
+        let found = find(&mut self.braces, &mut self.ahead, Sought::Docs)?;
+        match found {
+            Some(lexeme) => {
+                let more = more_doc(inner, lexeme.kind);
+                take(
+                    &mut self.braces,
+                    &mut self.units,
+                    &mut self.ahead,
+                    lexeme,
+                    more,
+                )
+            }
+            None => Ok(()),
+        }
     }
 
     /// Takes so many opening braces, each as a unit: of those that stand in a row the last ones. The flag says that `;` may stand
     /// between them.
+    #[inline(never)]
     pub(crate) fn place(&mut self, row: usize, loose: bool) -> Result<(), NoMemory>
         ensures { OnOk result (self.new ≡ placed loose row self.old) }
     {
-        self.ahead = place(&mut self.braces, &mut self.units, self.ahead, row, loose)?;
-        Ok(())
-    }
-
-    /// How many bytes the text of the next token has.
-    pub(crate) fn first_length(&self) -> usize
-        ensures { result ≡ first_length self.now.ahead }
-    {
-        match self.ahead {
-            [token, ..] => token.text.as_bytes().len(),
-            [] => 0,
-        }
-    }
-
-    /// How many tokens behind the next one belong to the same documentation.
-    pub(crate) fn more_doc(&self, inner: bool) -> usize
-        ensures { result ≡ more_of inner self.now.ahead }
-    {
-        match self.ahead {
-            [token, ..] => more_doc(inner, token.kind),
-            [] => 0,
-        }
+        place(
+            &mut self.braces,
+            &mut self.units,
+            &mut self.ahead,
+            row,
+            loose,
+        )
     }
 
     /// The units that were found.
-    pub(crate) fn into_units(self) -> List<Unit>
+    pub(crate) fn into_units(self) -> List<Span>
         ensures { result ≡ self.entry.units }
     {
         let Walk {
@@ -108,32 +128,36 @@ impl<'a> Walk<'a> {
     }
 }
 
-/// The tokens from the one on that is looked for.
-fn seek<'a>(braces: &mut Flags, ahead: &'a [Token], sought: Sought) -> Result<&'a [Token], NoMemory>
-    ensures { IfOk result (λ rest. (units : Items UnitValue)
-        → sought_in sought ahead.now braces.old units ≡ record { ahead = rest.now; braces = braces.new; units = units }) }
+/// Goes past the token that is looked for and tells it; or past all, where there is none.
+#[inline(always)]
+fn find<'a>(
+    braces: &mut Flags,
+    ahead: &mut Ahead<'a>,
+    sought: Sought,
+) -> Result<Option<Lexeme<'a>>, NoMemory>
+    ensures { IfOk result (λ found. Finds sought (tokens_of ahead.old) braces.old found
+        (tokens_of ahead.new) braces.new) }
 {
-    let mut rest = ahead;
-    while let Some((token, behind)) = rest.split_first() {
-        if is_sought(braces, sought, token) {
-            return Ok(rest);
+    while let Some(lexeme) = ahead.next() {
+        if is_sought(braces, sought, &lexeme) {
+            return Ok(Some(lexeme));
         }
-        pass(braces, token.kind, false)?;
-        rest = behind;
+        pass(braces, lexeme.kind, false)?;
     }
-    Ok(rest)
+    Ok(None)
 }
 
 /// Whether the token is the one that is looked for.
-fn is_sought(braces: &Flags, sought: Sought, token: &Token) -> bool
-    ensures { result ≡ is_sought sought braces.now token.now }
+#[inline(always)]
+fn is_sought(braces: &Flags, sought: Sought, lexeme: &Lexeme<'_>) -> bool
+    ensures { (t : TokenValue) → Tells lexeme.now t → result ≡ is_sought sought braces.now t }
 {
-    if opens(token.kind) {
+    if opens(lexeme.kind) {
         false
-    } else if closes(token.kind) {
+    } else if closes(lexeme.kind) {
         is_closing(sought) && braces.top()
     } else {
-        says(sought, token)
+        says(sought, lexeme)
     }
 }
 
@@ -148,6 +172,7 @@ fn is_closing(sought: Sought) -> bool
 }
 
 /// Goes past a token of this kind, which is in a unit or isn't.
+#[inline(always)]
 fn pass(braces: &mut Flags, kind: Kind, is_kept: bool) -> Result<(), NoMemory>
     ensures { OnOk result (braces.new ≡ behind_token is_kept kind braces.old) }
 {
@@ -160,96 +185,101 @@ fn pass(braces: &mut Flags, kind: Kind, is_kept: bool) -> Result<(), NoMemory>
     Ok(())
 }
 
-/// Takes the next token, and so many more behind it, as a unit: what is ahead then.
+/// Takes a token, and so many more of those ahead, as a unit.
+#[inline(always)]
 fn take<'a>(
     braces: &mut Flags,
-    units: &mut List<Unit>,
-    ahead: &'a [Token],
+    units: &mut List<Span>,
+    ahead: &mut Ahead<'a>,
+    lexeme: Lexeme<'a>,
     more: usize,
-) -> Result<&'a [Token], NoMemory>
-    ensures { IfOk result (λ rest. taken_in more ahead.now braces.old units.old
-        ≡ record { ahead = rest.now; braces = braces.new; units = units.new }) }
+) -> Result<(), NoMemory>
+    ensures { OnOk result ((t : TokenValue) → Tells lexeme.entry t
+        → taken_in more (t ∷ tokens_of ahead.old) braces.old units.old
+        ≡ record { ahead = tokens_of ahead.new; braces = braces.new; units = units.new }) }
 {
-    match ahead.split_first() {
-        Some((token, behind)) => {
-            add(units, unit_from(token, last_of(token, behind, more)))?;
-            pass(braces, token.kind, true)?;
-            Ok(&behind[more.min(behind.len())..])
-        }
-        None => Ok(ahead),
-    }
+    let last = last_of(lexeme, ahead, more);
+    add(units, unit_from(&lexeme, &last))?;
+    pass(braces, lexeme.kind, true)
 }
 
 /// Adds a unit at the end.
-fn add(units: &mut List<Unit>, unit: Unit) -> Result<(), NoMemory>
+fn add(units: &mut List<Span>, unit: Unit) -> Result<(), NoMemory>
     ensures { OnOk result (units.new ≡ units.old ++ unit ∷ []) }
 {
-    match units.push(unit) {
+    match units.push(Span::new(unit)?) {
         Ok(()) => Ok(()),
         Err(_) => Err(NoMemory),
     }
 }
 
-/// Takes so many opening braces, each as a unit: what is ahead then.
-fn place<'a>(
+/// Takes so many opening braces, each as a unit.
+fn place(
     braces: &mut Flags,
-    units: &mut List<Unit>,
-    ahead: &'a [Token],
+    units: &mut List<Span>,
+    ahead: &mut Ahead<'_>,
     row: usize,
     loose: bool,
-) -> Result<&'a [Token], NoMemory>
-    ensures { IfOk result (λ rest. placed_in loose row ahead.now braces.old units.old
-        ≡ record { ahead = rest.now; braces = braces.new; units = units.new }) }
+) -> Result<(), NoMemory>
+    ensures { OnOk result (placed_in loose row (tokens_of ahead.old) braces.old units.old
+        ≡ record { ahead = tokens_of ahead.new; braces = braces.new; units = units.new }) }
 {
-    let mut rest = ahead;
     let mut left = row;
     let mut count = 0;
     while left > 0 {
-        match rest.split_first() {
-            Some((token, behind)) => {
-                count = counted(count, rest, loose);
-                let is_kept = opens(token.kind) && count <= left;
+        count = counted(count, *ahead, loose)?;
+        match ahead.next() {
+            Some(lexeme) => {
+                let is_kept = opens(lexeme.kind) && count <= left;
                 if is_kept {
-                    add(units, unit_from(token, token))?;
+                    add(units, unit_from(&lexeme, &lexeme))?;
                     left -= 1;
                 }
-                if opens(token.kind) {
+                if opens(lexeme.kind) {
                     count -= 1;
                 }
-                pass(braces, token.kind, is_kept)?;
-                rest = behind;
+                pass(braces, lexeme.kind, is_kept)?;
             }
-            None => return Ok(rest),
+            None => return Ok(()),
         }
     }
-    Ok(rest)
+    Ok(())
 }
 
 /// How many opening braces stand in a row ahead. They were counted before, or else the count is 0; so no row is counted twice.
-fn counted(count: usize, ahead: &[Token], loose: bool) -> usize
-    requires { IsCount loose count ahead.now }
-    ensures { result ≡ openers loose ahead.now }
+fn counted(count: usize, ahead: Ahead<'_>, loose: bool) -> Result<usize, NoMemory>
+    requires { IsCount loose count (tokens_of ahead) }
+    ensures { IfOk result (λ given. given ≡ openers loose (tokens_of ahead.entry)) }
 {
     if count == 0 {
         count_openers(ahead, loose)
     } else {
-        count
+        Ok(count)
     }
 }
 
 /// How many opening braces stand in a row, with any number of `;` between, or with none.
-fn count_openers(tokens: &[Token], loose: bool) -> usize
-    ensures { result ≡ openers loose tokens.now }
+fn count_openers(ahead: Ahead<'_>, loose: bool) -> Result<usize, NoMemory>
+    ensures { IfOk result (λ count. count ≡ openers loose (tokens_of ahead.entry)) }
 {
     let mut count = 0;
-    let mut rest = tokens;
-    while let Some((token, behind)) = rest.split_first() {
-        if opens(token.kind) {
-            count += 1;
-        } else if !(loose && is_semicolon(token)) {
-            return count;
+    let mut rest = ahead;
+    while let Some(lexeme) = rest.next() {
+        if opens(lexeme.kind) {
+            count = one_more(count)?;
+        } else if !(loose && is_semicolon(&lexeme)) {
+            return Ok(count);
         }
-        rest = behind;
     }
-    count
+    Ok(count)
+}
+
+/// One more. There is no room to count beyond the greatest number.
+pub(crate) fn one_more(count: usize) -> Result<usize, NoMemory>
+    ensures { IfOk result (λ more. more ≡ count + 1) }
+{
+    match count.checked_add(1) {
+        Some(more) => Ok(more),
+        None => Err(NoMemory),
+    }
 }

@@ -1,7 +1,8 @@
 -- Bytes have one map.
-use Rattle.std.proofs.Common.{◌≡◌, ℕ, List, Ok, Option, sym, ap, ap₂, ◌∙◌, subst}
+use Rattle.std.proofs.Common.{◌≡◌, ℕ, List, Result, Ok, Err, Option, sym, ap, ap₂, ◌∙◌, subst}
 use Rattle.lay_io.specs.Told.{GrewBy, GrewByPrefix}
 use Rattle.lay_io.proofs.Growth.{grew_by_prefix-nothing}
+use Rattle.lay_text.specs.declared.refusal.Refusal.{Refusal}
 use Rattle.lay_token.specs.Lexes.{Lexes}
 use Rattle.lay_token.specs.Source.{Source, source}
 use Rattle.lay_token.specs.declared.token.Token.{Token}
@@ -18,17 +19,32 @@ use Rattle.lay_map.proofs.LexedLemmas.{lexes_single}
 use Rattle.lay_mapping.specs.Lines.{map_text}
 use Rattle.lay_mapping.specs.Maps.{IsMap, WroteMap, WroteMapPart, units_read}
 
+-- The text lexes from here on to tokens that spell the file.
+abbrev pub CanBeRead : File → List ℕ → ℕ → Type 0
+CanBeRead file text start = (tokens : List Token) × Lexes text start tokens × SpellsFile top file tokens
+
+abbrev source_in : Source → Result Source Refusal → Source
+source_in from (Ok s) = s
+source_in from (Err r) = from
+
 module _ (bytes : List ℕ) (file : File) where
   -- The tokens that the bytes lex to are those by which they are read.
   pub tokens_read : (from : Source) (ts : List Token) → source bytes ≡ Ok from → Lexes from.text from.start ts → (r : Reads bytes file) → ts ≡ r.tokens
   tokens_read from ts e l r = same_tokens bytes from r.from ts r.tokens e r.text l r.lexes
 
-  pub spelled : (from : Source) (ts : List Token) → source bytes ≡ Ok from → Lexes from.text from.start ts → Reads bytes file → SpellsFile top file ts
-  spelled from ts e l r = subst (SpellsFile top file) (sym (tokens_read from ts e l r)) r.spells
-
   pub places_read : (from : Source) (ts : List Token) (places : List Unit) → source bytes ≡ Ok from → Lexes from.text from.start ts
       → ArePlaces file ts places → (r : Reads bytes file) → places ≡ units_read r
   places_read from ts places e l h r = subst (λ (us : List Token). ArePlaces file us places) (tokens_read from ts e l r) h r.spells.1
+
+  same_source : (from other : Source) → source bytes ≡ Ok from → source bytes ≡ Ok other → from ≡ other
+  same_source from other e f = ap (source_in from) (sym e ∙ f)
+
+  -- The text that is lexed of the bytes lexes to them.
+  pub lexes_read : (from : Source) → source bytes ≡ Ok from → (r : Reads bytes file) → Lexes from.text from.start r.tokens
+  lexes_read from e r = subst (λ (s : Source). Lexes s.text s.start r.tokens) (same_source r.from from r.text e) r.lexes
+
+  pub read_from : (from : Source) → source bytes ≡ Ok from → Reads bytes file → CanBeRead file from.text from.start
+  read_from from e r = (r.tokens, lexes_read from e r, r.spells)
 
   -- The units stand at the same places however the bytes are read.
   read_once : (r q : Reads bytes file) → units_read r ≡ units_read q

@@ -8,7 +8,7 @@ ghost use Rattle.lay_mapping.specs.Lines.{line_of, map_text, unit_text};
 
 use itoa::Buffer;
 use lay_io::{Failed, Sink};
-use lay_map::Unit;
+use lay_map::{Span, Unit};
 use lay_printer::PrintError;
 use lay_token::NoMemory;
 use std::alloc::Global;
@@ -16,13 +16,16 @@ use std::alloc::Global;
 /// Writes a line for each unit of the source and the unit of the output that has the same number.
 pub fn write_lines<K: Sink>(
     alloc: Global,
-    source: &[Unit],
-    output: &[Unit],
+    source: &[Span],
+    output: &[Span],
     out: &mut K,
 ) -> Result<(), PrintError>
-    ensures whole { OnOk result (GrewBy (K.written out.old) (K.written out.new) (map_text (paired source.now output.now))) }
-    ensures part { OnErr result (GrewByPrefix (K.written out.old) (K.written out.new) (map_text (paired source.now output.now))) }
-    ensures cause { IsErrOf result PrintError.WriteFailed → Rose (K.faults out.old) (K.faults out.new) }
+    ensures whole { OnOk result (GrewBy (K.written out.old) (K.written out.new)
+        (map_text (paired source.now output.now))) }
+    ensures part { OnErr result (GrewByPrefix (K.written out.old) (K.written out.new)
+        (map_text (paired source.now output.now))) }
+    ensures cause { IsErrOf result PrintError.WriteFailed
+        → Rose (K.faults out.old) (K.faults out.new) }
     ensures later { K.faults out.old ≤ K.faults out.new }
     ensures loan { SameLoan (K.loan out.old) (K.loan out.new) }
 {
@@ -32,7 +35,7 @@ pub fn write_lines<K: Sink>(
     while let Some((unit, more)) = units.split_first() {
         match others.split_first() {
             Some((other, behind)) => {
-                match write_line(&mut line, *unit, *other, out) {
+                match write_line(&mut line, unit.unit(), other.unit(), out) {
                     Ok(()) => {}
                     Err(error) => return Err(error),
                 }
@@ -52,9 +55,12 @@ fn write_line<K: Sink>(
     output: Unit,
     out: &mut K,
 ) -> Result<(), PrintError>
-    ensures whole { OnOk result (GrewBy (K.written out.old) (K.written out.new) (line_of (record { source = source; output = output }))) }
-    ensures part { OnErr result (GrewByPrefix (K.written out.old) (K.written out.new) (line_of (record { source = source; output = output }))) }
-    ensures cause { IsErrOf result PrintError.WriteFailed → Rose (K.faults out.old) (K.faults out.new) }
+    ensures whole { OnOk result (GrewBy (K.written out.old) (K.written out.new)
+        (line_of (record { source = source; output = output }))) }
+    ensures part { OnErr result (GrewByPrefix (K.written out.old) (K.written out.new)
+        (line_of (record { source = source; output = output }))) }
+    ensures cause { IsErrOf result PrintError.WriteFailed
+        → Rose (K.faults out.old) (K.faults out.new) }
     ensures later { K.faults out.old ≤ K.faults out.new }
     ensures loan { SameLoan (K.loan out.old) (K.loan out.new) }
 {
@@ -71,7 +77,8 @@ fn write_line<K: Sink>(
 
 /// Adds the line of two units: where the one stands, and where the other does.
 fn add_line(line: &mut Vec<u8>, source: Unit, output: Unit) -> Result<(), NoMemory>
-    ensures { OnOk result (line.new.items ≡ line.old.items ++ line_of (record { source = source; output = output })) }
+    ensures { OnOk result (line.new.items ≡ line.old.items
+        ++ line_of (record { source = source; output = output })) }
 {
     add_unit(line, source, b' ')?;
     add_unit(line, output, b'\n')
@@ -86,7 +93,7 @@ fn add_unit(line: &mut Vec<u8>, unit: Unit, behind: u8) -> Result<(), NoMemory>
 }
 
 /// Adds a number in decimal digits, and a byte behind it.
-fn add_number(line: &mut Vec<u8>, number: usize, behind: u8) -> Result<(), NoMemory>
+fn add_number(line: &mut Vec<u8>, number: u32, behind: u8) -> Result<(), NoMemory>
     ensures { OnOk result (line.new.items ≡ line.old.items ++ (decimal number ++ behind ∷ [])) }
 {
     line.extend_from_slice(Buffer::new().format(number).as_bytes())?;

@@ -9,9 +9,8 @@ use crate::lines::write_lines;
 use lay_code::File;
 use lay_files::text_of;
 use lay_io::Sink;
-use lay_lex::{lex, normalise};
-use lay_map::{Unit, units};
-use lay_nest::nest;
+use lay_lex::normalise;
+use lay_map::{Span, units_of_text};
 use lay_printer::PrintError;
 use lay_token::{List, NoMemory};
 use std::alloc::Global;
@@ -25,9 +24,12 @@ pub fn write_map<K: Sink>(
     out: &mut K,
 ) -> Result<(), PrintError>
     requires { Reads bytes.now file.now }
-    ensures whole { OnOk result (WroteMap bytes.now file.now (K.written out.old) (K.written out.new)) }
-    ensures part { OnErr result (WroteMapPart bytes.now file.now (K.written out.old) (K.written out.new)) }
-    ensures cause { IsErrOf result PrintError.WriteFailed → Rose (K.faults out.old) (K.faults out.new) }
+    ensures whole { OnOk result (WroteMap bytes.now file.now (K.written out.old)
+        (K.written out.new)) }
+    ensures part { OnErr result (WroteMapPart bytes.now file.now (K.written out.old)
+        (K.written out.new)) }
+    ensures cause { IsErrOf result PrintError.WriteFailed
+        → Rose (K.faults out.old) (K.faults out.new) }
     ensures later { K.faults out.old ≤ K.faults out.new }
     ensures loan { SameLoan (K.loan out.old) (K.loan out.new) }
 {
@@ -35,7 +37,7 @@ pub fn write_map<K: Sink>(
         Ok(units) => units,
         Err(NoMemory) => return Err(PrintError::NoMemory),
     };
-    let output = match units_of_text(alloc, file) {
+    let output = match units_of_output(alloc, file) {
         Ok(units) => units,
         Err(NoMemory) => return Err(PrintError::NoMemory),
     };
@@ -43,27 +45,22 @@ pub fn write_map<K: Sink>(
 }
 
 /// The units of a file's text, which reads to it.
-fn units_of_text(alloc: Global, file: &File) -> Result<List<Unit>, NoMemory>
+fn units_of_output(alloc: Global, file: &File) -> Result<List<Span>, NoMemory>
     requires { Reads (text_of_file file.now) file.now }
-    ensures { IfOk result (λ units. (reads : Reads (text_of_file file.now) file.now) → units ≡ units_read reads) }
+    ensures { IfOk result (λ units. (reads : Reads (text_of_file file.now) file.now)
+        → units ≡ units_read reads) }
 {
     let text = text_of(alloc, file)?;
     units_in(alloc, text.as_bytes(), file)
 }
 
 /// The units of bytes that read to a file. No step of reading them is refused, so an error of one is want of memory.
-fn units_in(alloc: Global, bytes: &[u8], file: &File) -> Result<List<Unit>, NoMemory>
+fn units_in(alloc: Global, bytes: &[u8], file: &File) -> Result<List<Span>, NoMemory>
     requires { Reads bytes.now file.now }
     ensures { IfOk result (λ units. (reads : Reads bytes.now file.now) → units ≡ units_read reads) }
 {
     let Ok(source) = normalise(alloc, bytes) else {
         return Err(NoMemory);
     };
-    let Ok(tokens) = lex(alloc, &source) else {
-        return Err(NoMemory);
-    };
-    let Ok(nested) = nest(alloc, tokens) else {
-        return Err(NoMemory);
-    };
-    units(alloc, file, &nested)
+    units_of_text(alloc, file, source.as_str(), source.start)
 }

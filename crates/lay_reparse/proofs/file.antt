@@ -1,4 +1,5 @@
 pub mod ArmKinds
+pub mod BareNumbers
 pub mod BlockKinds
 pub mod Blocks
 pub mod Closures

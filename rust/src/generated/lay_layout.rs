@@ -11,4 +11,4 @@ pub mod layout;
 pub mod widths;
 pub use frames::{GREATEST_INDENT, OUTSIDE, asks_at_break, entered, shifted};
 pub use layout::{Break, Frame, Mark, Tok};
-pub use widths::{GREATEST_BLANKS, LEAST_SPACE, MARGIN, width_of};
+pub use widths::{GREATEST_BLANKS, GREATEST_WIDTH, LEAST_SPACE, MARGIN, width_of};

@@ -6,6 +6,7 @@
 //! one documentation together. It takes no second walk over the tree: a `Marker` is fed the layout of the file and finds the units by it. [`pairs`] puts
 //! those of a source and of its output side by side. [`map_law`] says why they belong together: however a file is spelled, its units are as many, and
 //! say the same. [`found_law`] says of each form which is clear, as that of a file is, that the layout finds its units.
+mod ahead;
 mod files;
 mod flags;
 mod law;
@@ -14,5 +15,5 @@ mod marking;
 mod tokens;
 mod unit;
 mod walk;
-pub use files::units;
-pub use unit::{Pair, Unit, pairs};
+pub use files::{units, units_of_text};
+pub use unit::{Pair, Span, Unit, pairs};

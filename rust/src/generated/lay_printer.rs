@@ -10,7 +10,7 @@
 //!
 //! Two sides work on a row of entries, each a token with its size. The scanning side, which is `lay_queue`, takes the
 //! tokens that are fed, and writes their sizes back when their measures end. The printing side ([`page`]) puts tokens on the
-//! line that is being written ([`line`]) and keeps the frames of the groups that are open there ([`frames`]).
+//! line that is being written ([`Line`](lay_stream::Line)) and keeps the frames of the groups that are open there ([`frames`]).
 //!
 //! The two meet at the front of the row ([`engine`]). After each token that may decide it, entries are printed while
 //! it is decided whether they fit, and texts that follow each other at once. A known size decides by itself. While the first entry's size is unknown and
@@ -28,7 +28,6 @@
 mod engine;
 mod frames;
 pub mod laws;
-mod line;
 mod page;
 mod press;
 mod printer;

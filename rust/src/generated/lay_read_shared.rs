@@ -1,11 +1,10 @@
 //! Made by scripts/rust.sh from crates/lay_read_shared/src/lib.rt, which is proved: change that.
 //!
 //! What the readers of heads, of blocks and of expressions share, so that none of them stands on another: the loop of parts
-//! that stand one behind another, the places of expressions within others, and a type that may be there.
+//! that stand one behind another, nodes in boxes, and a type that may be there.
 //!
 //! Its lemmas say what reading leaves: behind whatever is read, at any depth, stands the rest of the tokens that were ahead,
 //! and a node has a token at least. So each loop of those readers ends.
 pub mod boxes;
 pub mod loops;
-pub mod places;
 pub mod types;

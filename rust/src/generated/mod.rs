@@ -27,6 +27,7 @@ pub mod lay_out_pats;
 pub mod lay_out_tokens;
 pub mod lay_out_types;
 pub mod lay_piece;
+pub mod lay_pieces;
 pub mod lay_printer;
 pub mod lay_queue;
 pub mod lay_read_blocks;

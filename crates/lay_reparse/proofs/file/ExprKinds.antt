@@ -1,7 +1,9 @@
 -- Expressions pass, kind by kind, of what is told of them, given that the expressions within them pass.
 use Rattle.std.proofs.Common.{◌≡◌, ℕ, List, [], ◌∷◌, ◌++◌, Bool, true, false, cond, not, ◌&&◌, refl, Option, Some, None, is_some}
 use Rattle.std.specs.List.{list_all}
+use Rattle.std.specs.Str.{chars, is_utf8}
 use Rattle.std.proofs.lemmas.Bool.{and_parts}
+use Rattle.lay_piece.specs.Number.{is_bare_int}
 use Rattle.lay_piece.specs.declared.kind.Delim.TheVariants.{Paren, Bracket}
 use Rattle.lay_piece.specs.declared.kind.Kind.{Kind}
 use Rattle.lay_piece.specs.declared.kind.Kind.TheVariants as kind
@@ -41,6 +43,7 @@ use Rattle.lay_reparse.proofs.file.Types.{path_passes_at}
 use Rattle.lay_reparse.proofs.file.PatternParts.{wild, leaf_from, call_passes_at}
 use Rattle.lay_reparse.proofs.file.PatternKinds.{braces_pieces}
 use Rattle.lay_reparse.proofs.file.ExprParts.{ends_base, ends_expr, ends_by, ends_any, Behind, always, behind_wider, deep, shut_deep, from_clear, opens_by, begins_operand, Begins, begins, begins_at, begins_based}
+use Rattle.lay_reparse.proofs.file.BareNumbers.{bytes_bare}
 use Rattle.lay_reparse.proofs.file.ExprPlaces.{ExprPasses, stands_at, free_expr, frees_pass}
 
 -- what begins where an operand may
@@ -49,17 +52,22 @@ starting v level b h = begins b (and_parts (begins_operand b) _ h).0
 
 -- ---- literals, paths and calls
 
--- where a number ends, with a suffix or without one
-int_ends : (bare : Bool)
-    → under (record { needs = cond bare (need.IntBare ∷ []) (need.Number ∷ []); spot = At Other }) (ends_by false (not bare))
+-- where a number ends, with a suffix or without one: its bytes have none where its characters have none
+int_ends : (bare read : Bool) → (bare ≡ true → read ≡ true)
+    → under (record { needs = cond bare (need.IntBare ∷ []) (need.Number ∷ []); spot = At Other }) (ends_by false (not read))
     ≡ true
-int_ends true = refl
-int_ends false = refl
+int_ends true read h = rw (h refl) refl
+int_ends false true h = refl
+int_ends false false h = refl
 
 float_ends : (bare : Bool)
     → under (record { needs = need.Number ∷ need.FloatWord ∷ []; spot = At Other }) (ends_by false (not bare)) ≡ true
 float_ends true = refl
 float_ends false = refl
+
+utf8_int : (t : List ℕ) → is_text_of kind.Int t ≡ true → is_utf8 t ≡ true
+unfolding is_text_of
+utf8_int t w = (and_parts (is_utf8 t) _ w).0
 
 -- a tuple index may stand behind a literal but a number without suffix
 literal_ends : (k : Kind) (t : List ℕ) → is_literal k t ≡ true → is_text_of k t ≡ true
@@ -73,7 +81,8 @@ literal_ends kind.ByteStr t h w = leaf_passes kind.ByteStr t refl w (ends refl)
 literal_ends kind.RawByteStr t h w = leaf_passes kind.RawByteStr t refl w (ends refl)
 literal_ends kind.CStr t h w = leaf_passes kind.CStr t refl w (ends refl)
 literal_ends kind.RawCStr t h w = leaf_passes kind.RawCStr t refl w (ends refl)
-literal_ends kind.Int t h w = leaf_passes kind.Int t refl w (ends (int_ends (is_bare_number kind.Int t)))
+literal_ends kind.Int t h w = leaf_passes kind.Int t refl w 
+    (ends (int_ends (is_bare_int (chars t)) (is_bare_number kind.Int t) (bytes_bare t (utf8_int t w))))
 literal_ends kind.Float t h w = leaf_passes kind.Float t refl w (ends (float_ends (is_bare_number kind.Float t)))
 literal_ends _ t h w = cc
 

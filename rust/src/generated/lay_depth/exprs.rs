@@ -19,8 +19,8 @@ use crate::generated::lay_depth_nodes::{
     types_depth,
 };
 use crate::generated::lay_node::Boxed;
-/// The depth of an expression. The body of a closure stands one level deeper.
-pub(crate) fn expr_depth(expr: &Expr) -> u32 {
+/// The depth of an expression, counted up to the greatest number of 32 bits. The body of a closure stands one level deeper.
+pub fn expr_depth(expr: &Expr) -> u32 {
     match expr {
         Expr::Lit { .. } | Expr::Underscore | Expr::Call { .. }
         | Expr::Continue { .. } => 1,

@@ -8,6 +8,8 @@ pub const MARGIN: u64 = 89;
 pub const LEAST_SPACE: u64 = 60;
 /// The greatest count of blanks that wait to be written.
 pub const GREATEST_BLANKS: u64 = 1_000_000;
+/// The greatest width that a printer keeps, 2^62: no line has so many columns, so that no comparison sees more.
+pub const GREATEST_WIDTH: u64 = 0x4000_0000_0000_0000;
 /// A mark's length, in bytes.
 #[inline(always)]
 pub(crate) fn mark_len(mark: Mark) -> u64 {

@@ -83,6 +83,6 @@ fn room(least: Option<usize>, ahead: usize) -> usize {
     }
 }
 /// The characters that take so many bytes, and what follows them.
-fn cut(s: &str, len: usize) -> (&str, &str) {
+pub fn cut(s: &str, len: usize) -> (&str, &str) {
     s.split_at(len)
 }

@@ -12,8 +12,8 @@ use crate::generated::lay_lex::window::{Stop, Window};
 use crate::generated::lay_token::{Kind, List, NoMemory, Text, Token};
 use crate::shims::Global;
 /// What stands before a place.
-#[derive(Clone, Copy, PartialEq, Eq,)]
-enum Before {
+#[derive(Clone, Copy, Debug, PartialEq, Eq,)]
+pub enum Before {
     /// Anything but a point, or nothing.
     Other,
     /// A point.
@@ -23,14 +23,14 @@ enum Before {
 }
 impl Before {
     /// What stands behind punctuation, which is a point or isn't; `touches` says that no gap stands before it.
-    fn behind(self, point: bool, touches: bool) -> Before {
+    pub fn behind(self, point: bool, touches: bool) -> Before {
         if !point { Before::Other } else if touches && self != Before::Other {
             Before::Points
         } else { Before::Point }
     }
 }
 /// Whether the bytes are a point.
-fn is_point(bytes: &[u8]) -> bool {
+pub fn is_point(bytes: &[u8]) -> bool {
     matches!(bytes, b".")
 }
 /// Whether the bytes are a comma or a semicolon.
@@ -48,7 +48,7 @@ fn token_of(
     Ok(Token { kind, text, joint: false, at, len: piece.len() })
 }
 /// The text of a token of this piece.
-fn text_of_piece(kind: Kind, piece: &str) -> &[u8] {
+pub fn text_of_piece(kind: Kind, piece: &str) -> &[u8] {
     match kind {
         Kind::RawIdent => behind_first(behind_first(piece)).as_bytes(),
         Kind::Doc { block, .. } => doc_text(block, piece),

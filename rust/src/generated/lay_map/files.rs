@@ -1,24 +1,42 @@
 //! Made by scripts/rust.sh from crates/lay_map/src/files.rt, which is proved: change that.
 //!
 //! The units of the tokens that spell a file.
+use crate::generated::lay_map::ahead::Ahead;
 use crate::generated::lay_map::marker::Marker;
-use crate::generated::lay_map::unit::Unit;
+use crate::generated::lay_map::unit::{Span, Unit, units_of_spans};
 use crate::generated::lay_code::File;
 use crate::generated::lay_nest::Nested;
 use crate::generated::lay_out_code::put_file;
+use crate::generated::lay_pieces::Cursor;
 use crate::generated::lay_text::{List, NoMemory};
 use crate::shims::Global;
 /// Where the units of the tokens stand that spell the file, in their order: each token that says something of it, and the tokens of one
 /// documentation together. A mark that the grammar lets stand or not is in none.
 ///
-/// The tokens are those that some text lexes to.
+/// The tokens are those that some text lexes to. There is no room, as where memory is wanting, for a unit that begins behind 2^32 bytes or is
+/// as long.
 pub fn units(
     alloc: Global,
     file: &File,
     nested: &Nested,
 ) -> Result<List<Unit>, NoMemory> {
     let cursor = nested.cursor();
-    let mut marker = Marker::new(alloc, cursor.as_slice(), file.shebang.is_some());
+    let spans = found(alloc, file, Ahead::Tokens(cursor.as_slice()))?;
+    units_of_spans(alloc, spans.as_slice())
+}
+/// The same of a text, from a place on: where the units of the tokens stand that it lexes to. No list of these tokens is made, and each place
+/// is kept in 8 bytes.
+pub fn units_of_text(
+    alloc: Global,
+    file: &File,
+    text: &str,
+    start: usize,
+) -> Result<List<Span>, NoMemory> {
+    found(alloc, file, Ahead::Text(Cursor::new(text, start)))
+}
+/// Where the units of these tokens stand.
+fn found(alloc: Global, file: &File, tokens: Ahead<'_>) -> Result<List<Span>, NoMemory> {
+    let mut marker = Marker::new(alloc, tokens, file.shebang.is_some());
     put_file(&mut marker, file)?;
     marker.into_units()
 }

@@ -1,17 +1,17 @@
 //! Made by scripts/rust.sh from crates/lay_map/src/marker.rt, which is proved: change that.
 //!
 //! What takes the tokens of a layout and finds the units of a text by them.
+use crate::generated::lay_map::ahead::Ahead;
 use crate::generated::lay_map::marking::Marking;
-use crate::generated::lay_map::unit::Unit;
+use crate::generated::lay_map::unit::Span;
 use crate::generated::lay_layout::Break;
 use crate::generated::lay_stream::Emit;
 use crate::generated::lay_text::{List, NoMemory};
-use crate::generated::lay_token::Token;
 use crate::shims::Global;
 /// Finds the units of tokens by the layout of what they spell, which it is fed.
 pub(crate) struct Marker<'a> {
     /// All the tokens.
-    tokens: &'a [Token],
+    tokens: Ahead<'a>,
     /// The first line is that of a shebang.
     shebang: bool,
     marking: Marking<'a>,
@@ -20,7 +20,7 @@ pub(crate) struct Marker<'a> {
 }
 impl<'a> Marker<'a> {
     /// Nothing was fed. The flag says that the first line is that of a shebang.
-    pub(crate) fn new(alloc: Global, tokens: &'a [Token], shebang: bool) -> Marker<'a> {
+    pub(crate) fn new(alloc: Global, tokens: Ahead<'a>, shebang: bool) -> Marker<'a> {
         Marker {
             tokens,
             shebang,
@@ -29,7 +29,7 @@ impl<'a> Marker<'a> {
         }
     }
     /// The units, where nothing more is fed.
-    pub(crate) fn into_units(self) -> Result<List<Unit>, NoMemory> {
+    pub(crate) fn into_units(self) -> Result<List<Span>, NoMemory> {
         let Marker { tokens: _, shebang: _, marking, failed: _ } = self;
         marking.into_units()
     }

@@ -1,12 +1,12 @@
 //! Made by scripts/rust.sh from crates/lay_map/src/marking.rt, which is proved: change that.
 //!
 //! What the tokens of a layout tell of the tokens of a text.
+use crate::generated::lay_map::ahead::Ahead;
 use crate::generated::lay_map::flags::Flags;
-use crate::generated::lay_map::unit::Unit;
-use crate::generated::lay_map::walk::{Sought, Walk};
+use crate::generated::lay_map::unit::Span;
+use crate::generated::lay_map::walk::{Walk, one_more};
 use crate::generated::lay_layout::Break;
 use crate::generated::lay_text::{List, NoMemory};
-use crate::generated::lay_token::Token;
 use crate::shims::Global;
 /// Where a layout is in documentation.
 #[derive(Clone, Copy, Debug, PartialEq, Eq,)]
@@ -43,9 +43,9 @@ pub(crate) struct Marking<'a> {
 }
 impl<'a> Marking<'a> {
     /// Nothing was fed. The flag says that the first line is that of a shebang, which has no tokens.
-    pub(crate) fn new(alloc: Global, tokens: &'a [Token], shebang: bool) -> Marking<'a> {
+    pub(crate) fn new(alloc: Global, ahead: Ahead<'a>, shebang: bool) -> Marking<'a> {
         Marking {
-            walk: Walk::new(alloc, tokens),
+            walk: Walk::new(alloc, ahead),
             row: 0,
             comma: false,
             within: if shebang { Within::Line } else { Within::Code },
@@ -92,7 +92,7 @@ impl<'a> Marking<'a> {
         Ok(())
     }
     /// The units that were found, where nothing more is fed.
-    pub(crate) fn into_units(self) -> Result<List<Unit>, NoMemory> {
+    pub(crate) fn into_units(self) -> Result<List<Span>, NoMemory> {
         let mut marking = self;
         marking.settle_comma()?;
         marking.settle(true)?;
@@ -108,7 +108,11 @@ impl<'a> Marking<'a> {
         Ok(())
     }
     /// Takes the opening braces that wait, before a word that isn't `;`, or that is.
+    #[inline(always)]
     fn settle(&mut self, loose: bool) -> Result<(), NoMemory> {
+        if self.row == 0 {
+            return Ok(());
+        }
         let row = self.row;
         self.row = 0;
         self.walk.place(row, loose)
@@ -116,10 +120,7 @@ impl<'a> Marking<'a> {
     /// Takes the token of a word that begins with this byte: how many bytes it has.
     fn word(&mut self, byte: u8) -> Result<usize, NoMemory> {
         self.settle(byte != b';')?;
-        self.walk.seek(Sought::First(byte))?;
-        let length = self.walk.first_length();
-        self.walk.take(0)?;
-        Ok(length)
+        self.walk.word(byte)
     }
     /// A text that isn't within documentation.
     fn read(&mut self, text: &[u8]) -> Result<(), NoMemory> {
@@ -144,9 +145,7 @@ impl<'a> Marking<'a> {
     /// The beginning of documentation.
     fn document(&mut self, opening: Opening) -> Result<(), NoMemory> {
         self.settle(true)?;
-        self.walk.seek(Sought::Docs)?;
-        let more = self.walk.more_doc(opening.inner);
-        self.walk.take(more)?;
+        self.walk.docs(opening.inner)?;
         self.within = if opening.block { Within::Block } else { Within::Line };
         Ok(())
     }
@@ -172,13 +171,8 @@ impl<'a> Marking<'a> {
     }
     /// One more opening brace waits.
     fn raise(&mut self) -> Result<(), NoMemory> {
-        match self.row.checked_add(1) {
-            Some(row) => {
-                self.row = row;
-                Ok(())
-            }
-            None => Err(NoMemory),
-        }
+        self.row = one_more(self.row)?;
+        Ok(())
     }
 }
 /// What is behind so many bytes.

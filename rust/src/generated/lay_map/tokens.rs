@@ -1,9 +1,12 @@
 //! Made by scripts/rust.sh from crates/lay_map/src/tokens.rt, which is proved: change that.
 //!
 //! What is told of single tokens.
+use crate::generated::lay_map::ahead::Ahead;
 use crate::generated::lay_map::unit::Unit;
 use crate::generated::lay_map::walk::Sought;
-use crate::generated::lay_token::{Delim, Kind, Token};
+use crate::generated::lay_pieces::Lexeme;
+use crate::generated::lay_text::NoMemory;
+use crate::generated::lay_token::{Delim, Kind};
 /// Whether a token of this kind is an opening brace.
 pub(crate) fn opens(kind: Kind) -> bool {
     matches!(kind, Kind::Opener(Delim::Brace))
@@ -13,18 +16,18 @@ pub(crate) fn closes(kind: Kind) -> bool {
     matches!(kind, Kind::Closer(Delim::Brace))
 }
 /// Whether the token is a `;`.
-pub(crate) fn is_semicolon(token: &Token) -> bool {
-    match token.kind {
-        Kind::Punct => b";".as_slice() == token.text.as_bytes(),
+pub(crate) fn is_semicolon(lexeme: &Lexeme<'_>) -> bool {
+    match lexeme.kind {
+        Kind::Punct => b";".as_slice() == lexeme.text,
         _ => false,
     }
 }
 /// Whether the token says what is looked for, as far as its first byte tells.
-pub(crate) fn says(sought: Sought, token: &Token) -> bool {
-    let text = token.text.as_bytes();
+#[inline(always)]
+pub(crate) fn says(sought: Sought, lexeme: &Lexeme<'_>) -> bool {
     match sought {
-        Sought::First(byte) => begins(text, byte),
-        Sought::Docs => is_doc(token.kind) || begins(text, b'#'),
+        Sought::First(byte) => begins(lexeme.text, byte),
+        Sought::Docs => is_doc(lexeme.kind) || begins(lexeme.text, b'#'),
     }
 }
 /// Whether a token of this kind is documentation.
@@ -43,18 +46,17 @@ fn begins(text: &[u8], byte: u8) -> bool {
 pub(crate) fn more_doc(inner: bool, kind: Kind) -> usize {
     if is_doc(kind) { 0 } else if inner { 6 } else { 5 }
 }
-/// The token that stands so many places behind the first one, or else the last one.
+/// Goes past so many tokens, as far as they are: the last of them, or else the first one.
+#[inline(always)]
 pub(crate) fn last_of<
     'a,
->(first: &'a Token, behind: &'a [Token], more: usize) -> &'a Token {
+>(first: Lexeme<'a>, ahead: &mut Ahead<'a>, more: usize) -> Lexeme<'a> {
     let mut last = first;
-    let mut rest = behind;
     let mut left = more;
     while left > 0 {
-        match rest.split_first() {
-            Some((token, behind)) => {
-                last = token;
-                rest = behind;
+        match ahead.next() {
+            Some(lexeme) => {
+                last = lexeme;
                 left -= 1;
             }
             None => return last,
@@ -63,6 +65,7 @@ pub(crate) fn last_of<
     last
 }
 /// The unit from a token to another.
-pub(crate) fn unit_from(first: &Token, last: &Token) -> Unit {
+#[inline(always)]
+pub(crate) fn unit_from(first: &Lexeme<'_>, last: &Lexeme<'_>) -> Unit {
     Unit { at: first.at, len: last.at.saturating_add(last.len).saturating_sub(first.at) }
 }

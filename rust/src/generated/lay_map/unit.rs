@@ -9,6 +9,27 @@ pub struct Unit {
     pub at: usize,
     pub len: usize,
 }
+/// Where a unit stands, in 8 bytes, so that all units of a large text have room beside its tree. Contracts see the unit.
+#[derive(Debug,)]
+pub struct Span {
+    at: u32,
+    len: u32,
+}
+impl Span {
+    /// The unit, kept. `Err` where it begins behind 2^32 bytes or has as many: there is no room for it.
+    #[inline(always)]
+    pub(crate) fn new(unit: Unit) -> Result<Span, NoMemory> {
+        match (u32::try_from(unit.at), u32::try_from(unit.len)) {
+            (Ok(at), Ok(len)) => Ok(Span { at, len }),
+            _ => Err(NoMemory),
+        }
+    }
+    /// The unit.
+    #[inline(always)]
+    pub fn unit(&self) -> Unit {
+        Unit { at: self.at as usize, len: self.len as usize }
+    }
+}
 /// Where what one unit says stands in the source, and where in the output.
 #[derive(Clone, Copy, Debug, PartialEq, Eq,)]
 pub struct Pair {
@@ -32,6 +53,21 @@ pub fn pairs(
                 others = behind;
             }
             None => return Ok(list),
+        }
+    }
+    Ok(list)
+}
+/// The units that are kept so.
+pub(crate) fn units_of_spans(
+    alloc: Global,
+    spans: &[Span],
+) -> Result<List<Unit>, NoMemory> {
+    let mut list = List::new(alloc);
+    let mut rest = spans;
+    while let Some((span, behind)) = rest.split_first() {
+        match list.push(span.unit()) {
+            Ok(()) => rest = behind,
+            Err(_) => return Err(NoMemory),
         }
     }
     Ok(list)

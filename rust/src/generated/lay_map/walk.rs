@@ -1,6 +1,7 @@
 //! Made by scripts/rust.sh from crates/lay_map/src/walk.rt, which is proved: change that.
 //!
 //! A walk over tokens, which finds the first one that begins as a word does.
+use crate::generated::lay_map::ahead::Ahead;
 use crate::generated::lay_map::flags::Flags;
 use crate::generated::lay_map::tokens::{
     closes,
@@ -11,9 +12,10 @@ use crate::generated::lay_map::tokens::{
     says,
     unit_from,
 };
-use crate::generated::lay_map::unit::Unit;
+use crate::generated::lay_map::unit::{Span, Unit};
+use crate::generated::lay_pieces::Lexeme;
 use crate::generated::lay_text::{List, NoMemory};
-use crate::generated::lay_token::{Kind, Token};
+use crate::generated::lay_token::Kind;
 use crate::shims::Global;
 /// What is looked for.
 #[derive(Clone, Copy, Debug,)]
@@ -25,75 +27,74 @@ pub(crate) enum Sought {
 }
 /// A place in the tokens, and what was found before it.
 pub(crate) struct Walk<'a> {
-    ahead: &'a [Token],
+    ahead: Ahead<'a>,
     /// Of each brace that is open, whether it is in a unit.
     braces: Flags,
-    units: List<Unit>,
+    units: List<Span>,
 }
 impl<'a> Walk<'a> {
     /// A walk before the first token.
-    pub(crate) fn new(alloc: Global, tokens: &'a [Token]) -> Walk<'a> {
-        Walk { ahead: tokens, braces: Flags::new(alloc), units: List::new(alloc) }
+    pub(crate) fn new(alloc: Global, ahead: Ahead<'a>) -> Walk<'a> {
+        Walk { ahead, braces: Flags::new(alloc), units: List::new(alloc) }
     }
-    /// Passes the tokens before the one that is looked for; they are in no unit.
-    pub(crate) fn seek(&mut self, sought: Sought) -> Result<(), NoMemory> {
-        self.ahead = seek(&mut self.braces, self.ahead, sought)?;
-        Ok(())
+    /// Takes the first token whose text begins with this byte as a unit: how many bytes its text has. The tokens before it are in no
+    /// unit.
+    pub(crate) fn word(&mut self, byte: u8) -> Result<usize, NoMemory> {
+        let found = find(&mut self.braces, &mut self.ahead, Sought::First(byte))?;
+        match found {
+            Some(lexeme) => {
+                take(&mut self.braces, &mut self.units, &mut self.ahead, lexeme, 0)?;
+                Ok(lexeme.text.len())
+            }
+            None => Ok(0),
+        }
     }
-    /// Takes the next token, and so many more behind it, as a unit.
-    pub(crate) fn take(&mut self, more: usize) -> Result<(), NoMemory> {
-        self.ahead = take(&mut self.braces, &mut self.units, self.ahead, more)?;
-        Ok(())
+    /// Takes the first documentation as a unit. The tokens before it are in no unit.
+    pub(crate) fn docs(&mut self, inner: bool) -> Result<(), NoMemory> {
+        let found = find(&mut self.braces, &mut self.ahead, Sought::Docs)?;
+        match found {
+            Some(lexeme) => {
+                let more = more_doc(inner, lexeme.kind);
+                take(&mut self.braces, &mut self.units, &mut self.ahead, lexeme, more)
+            }
+            None => Ok(()),
+        }
     }
     /// Takes so many opening braces, each as a unit: of those that stand in a row the last ones. The flag says that `;` may stand
     /// between them.
+    #[inline(never)]
     pub(crate) fn place(&mut self, row: usize, loose: bool) -> Result<(), NoMemory> {
-        self.ahead = place(&mut self.braces, &mut self.units, self.ahead, row, loose)?;
-        Ok(())
-    }
-    /// How many bytes the text of the next token has.
-    pub(crate) fn first_length(&self) -> usize {
-        match self.ahead {
-            [token, ..] => token.text.as_bytes().len(),
-            [] => 0,
-        }
-    }
-    /// How many tokens behind the next one belong to the same documentation.
-    pub(crate) fn more_doc(&self, inner: bool) -> usize {
-        match self.ahead {
-            [token, ..] => more_doc(inner, token.kind),
-            [] => 0,
-        }
+        place(&mut self.braces, &mut self.units, &mut self.ahead, row, loose)
     }
     /// The units that were found.
-    pub(crate) fn into_units(self) -> List<Unit> {
+    pub(crate) fn into_units(self) -> List<Span> {
         let Walk { ahead: _, braces: _, units } = self;
         units
     }
 }
-/// The tokens from the one on that is looked for.
-fn seek<
+/// Goes past the token that is looked for and tells it; or past all, where there is none.
+#[inline(always)]
+fn find<
     'a,
 >(
     braces: &mut Flags,
-    ahead: &'a [Token],
+    ahead: &mut Ahead<'a>,
     sought: Sought,
-) -> Result<&'a [Token], NoMemory> {
-    let mut rest = ahead;
-    while let Some((token, behind)) = rest.split_first() {
-        if is_sought(braces, sought, token) {
-            return Ok(rest);
+) -> Result<Option<Lexeme<'a>>, NoMemory> {
+    while let Some(lexeme) = ahead.next() {
+        if is_sought(braces, sought, &lexeme) {
+            return Ok(Some(lexeme));
         }
-        pass(braces, token.kind, false)?;
-        rest = behind;
+        pass(braces, lexeme.kind, false)?;
     }
-    Ok(rest)
+    Ok(None)
 }
 /// Whether the token is the one that is looked for.
-fn is_sought(braces: &Flags, sought: Sought, token: &Token) -> bool {
-    if opens(token.kind) { false } else if closes(token.kind) {
+#[inline(always)]
+fn is_sought(braces: &Flags, sought: Sought, lexeme: &Lexeme<'_>) -> bool {
+    if opens(lexeme.kind) { false } else if closes(lexeme.kind) {
         is_closing(sought) && braces.top()
-    } else { says(sought, token) }
+    } else { says(sought, lexeme) }
 }
 /// Whether a closing brace is looked for.
 fn is_closing(sought: Sought) -> bool {
@@ -103,6 +104,7 @@ fn is_closing(sought: Sought) -> bool {
     }
 }
 /// Goes past a token of this kind, which is in a unit or isn't.
+#[inline(always)]
 fn pass(braces: &mut Flags, kind: Kind, is_kept: bool) -> Result<(), NoMemory> {
     if opens(kind) {
         return braces.push(is_kept);
@@ -112,79 +114,78 @@ fn pass(braces: &mut Flags, kind: Kind, is_kept: bool) -> Result<(), NoMemory> {
     }
     Ok(())
 }
-/// Takes the next token, and so many more behind it, as a unit: what is ahead then.
+/// Takes a token, and so many more of those ahead, as a unit.
+#[inline(always)]
 fn take<
     'a,
 >(
     braces: &mut Flags,
-    units: &mut List<Unit>,
-    ahead: &'a [Token],
+    units: &mut List<Span>,
+    ahead: &mut Ahead<'a>,
+    lexeme: Lexeme<'a>,
     more: usize,
-) -> Result<&'a [Token], NoMemory> {
-    match ahead.split_first() {
-        Some((token, behind)) => {
-            add(units, unit_from(token, last_of(token, behind, more)))?;
-            pass(braces, token.kind, true)?;
-            Ok(&behind[more.min(behind.len())..])
-        }
-        None => Ok(ahead),
-    }
+) -> Result<(), NoMemory> {
+    let last = last_of(lexeme, ahead, more);
+    add(units, unit_from(&lexeme, &last))?;
+    pass(braces, lexeme.kind, true)
 }
 /// Adds a unit at the end.
-fn add(units: &mut List<Unit>, unit: Unit) -> Result<(), NoMemory> {
-    match units.push(unit) {
+fn add(units: &mut List<Span>, unit: Unit) -> Result<(), NoMemory> {
+    match units.push(Span::new(unit)?) {
         Ok(()) => Ok(()),
         Err(_) => Err(NoMemory),
     }
 }
-/// Takes so many opening braces, each as a unit: what is ahead then.
-fn place<
-    'a,
->(
+/// Takes so many opening braces, each as a unit.
+fn place(
     braces: &mut Flags,
-    units: &mut List<Unit>,
-    ahead: &'a [Token],
+    units: &mut List<Span>,
+    ahead: &mut Ahead<'_>,
     row: usize,
     loose: bool,
-) -> Result<&'a [Token], NoMemory> {
-    let mut rest = ahead;
+) -> Result<(), NoMemory> {
     let mut left = row;
     let mut count = 0;
     while left > 0 {
-        match rest.split_first() {
-            Some((token, behind)) => {
-                count = counted(count, rest, loose);
-                let is_kept = opens(token.kind) && count <= left;
+        count = counted(count, *ahead, loose)?;
+        match ahead.next() {
+            Some(lexeme) => {
+                let is_kept = opens(lexeme.kind) && count <= left;
                 if is_kept {
-                    add(units, unit_from(token, token))?;
+                    add(units, unit_from(&lexeme, &lexeme))?;
                     left -= 1;
                 }
-                if opens(token.kind) {
+                if opens(lexeme.kind) {
                     count -= 1;
                 }
-                pass(braces, token.kind, is_kept)?;
-                rest = behind;
+                pass(braces, lexeme.kind, is_kept)?;
             }
-            None => return Ok(rest),
+            None => return Ok(()),
         }
     }
-    Ok(rest)
+    Ok(())
 }
 /// How many opening braces stand in a row ahead. They were counted before, or else the count is 0; so no row is counted twice.
-fn counted(count: usize, ahead: &[Token], loose: bool) -> usize {
-    if count == 0 { count_openers(ahead, loose) } else { count }
+fn counted(count: usize, ahead: Ahead<'_>, loose: bool) -> Result<usize, NoMemory> {
+    if count == 0 { count_openers(ahead, loose) } else { Ok(count) }
 }
 /// How many opening braces stand in a row, with any number of `;` between, or with none.
-fn count_openers(tokens: &[Token], loose: bool) -> usize {
+fn count_openers(ahead: Ahead<'_>, loose: bool) -> Result<usize, NoMemory> {
     let mut count = 0;
-    let mut rest = tokens;
-    while let Some((token, behind)) = rest.split_first() {
-        if opens(token.kind) {
-            count += 1;
-        } else if !(loose && is_semicolon(token)) {
-            return count;
+    let mut rest = ahead;
+    while let Some(lexeme) = rest.next() {
+        if opens(lexeme.kind) {
+            count = one_more(count)?;
+        } else if !(loose && is_semicolon(&lexeme)) {
+            return Ok(count);
         }
-        rest = behind;
     }
-    count
+    Ok(count)
+}
+/// One more. There is no room to count beyond the greatest number.
+pub(crate) fn one_more(count: usize) -> Result<usize, NoMemory> {
+    match count.checked_add(1) {
+        Some(more) => Ok(more),
+        None => Err(NoMemory),
+    }
 }

@@ -4,7 +4,7 @@
 use crate::shims::Vec;
 use crate::shims::Buffer;
 use crate::generated::lay_io::{Failed, Sink};
-use crate::generated::lay_map::Unit;
+use crate::generated::lay_map::{Span, Unit};
 use crate::generated::lay_printer::PrintError;
 use crate::generated::lay_token::NoMemory;
 use crate::shims::Global;
@@ -13,8 +13,8 @@ pub fn write_lines<
     K: Sink,
 >(
     alloc: Global,
-    source: &[Unit],
-    output: &[Unit],
+    source: &[Span],
+    output: &[Span],
     out: &mut K,
 ) -> Result<(), PrintError> {
     let mut line = Vec::new(alloc);
@@ -23,7 +23,7 @@ pub fn write_lines<
     while let Some((unit, more)) = units.split_first() {
         match others.split_first() {
             Some((other, behind)) => {
-                match write_line(&mut line, *unit, *other, out) {
+                match write_line(&mut line, unit.unit(), other.unit(), out) {
                     Ok(()) => {}
                     Err(error) => return Err(error),
                 }
@@ -65,7 +65,7 @@ fn add_unit(line: &mut Vec<u8>, unit: Unit, behind: u8) -> Result<(), NoMemory> 
     add_number(line, unit.len, behind)
 }
 /// Adds a number in decimal digits, and a byte behind it.
-fn add_number(line: &mut Vec<u8>, number: usize, behind: u8) -> Result<(), NoMemory> {
+fn add_number(line: &mut Vec<u8>, number: u32, behind: u8) -> Result<(), NoMemory> {
     line.extend_from_slice(Buffer::new().format(number).as_bytes())?;
     line.push(behind)?;
     Ok(())

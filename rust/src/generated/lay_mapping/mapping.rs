@@ -5,9 +5,8 @@ use crate::generated::lay_mapping::lines::write_lines;
 use crate::generated::lay_code::File;
 use crate::generated::lay_files::text_of;
 use crate::generated::lay_io::Sink;
-use crate::generated::lay_lex::{lex, normalise};
-use crate::generated::lay_map::{Unit, units};
-use crate::generated::lay_nest::nest;
+use crate::generated::lay_lex::normalise;
+use crate::generated::lay_map::{Span, units_of_text};
 use crate::generated::lay_printer::PrintError;
 use crate::generated::lay_token::{List, NoMemory};
 use crate::shims::Global;
@@ -20,27 +19,21 @@ pub fn write_map<
         Ok(units) => units,
         Err(NoMemory) => return Err(PrintError::NoMemory),
     };
-    let output = match units_of_text(alloc, file) {
+    let output = match units_of_output(alloc, file) {
         Ok(units) => units,
         Err(NoMemory) => return Err(PrintError::NoMemory),
     };
     write_lines(alloc, source.as_slice(), output.as_slice(), out)
 }
 /// The units of a file's text, which reads to it.
-fn units_of_text(alloc: Global, file: &File) -> Result<List<Unit>, NoMemory> {
+fn units_of_output(alloc: Global, file: &File) -> Result<List<Span>, NoMemory> {
     let text = text_of(alloc, file)?;
     units_in(alloc, text.as_bytes(), file)
 }
 /// The units of bytes that read to a file. No step of reading them is refused, so an error of one is want of memory.
-fn units_in(alloc: Global, bytes: &[u8], file: &File) -> Result<List<Unit>, NoMemory> {
+fn units_in(alloc: Global, bytes: &[u8], file: &File) -> Result<List<Span>, NoMemory> {
     let Ok(source) = normalise(alloc, bytes) else {
         return Err(NoMemory);
     };
-    let Ok(tokens) = lex(alloc, &source) else {
-        return Err(NoMemory);
-    };
-    let Ok(nested) = nest(alloc, tokens) else {
-        return Err(NoMemory);
-    };
-    units(alloc, file, &nested)
+    units_of_text(alloc, file, source.as_str(), source.start)
 }

@@ -14,6 +14,10 @@ impl<T> Boxed<T> {
     pub fn get(&self) -> &T {
         &self.inner
     }
+    /// The value, lent to be changed.
+    pub fn get_mut(&mut self) -> &mut T {
+        &mut self.inner
+    }
     /// The value; the box is freed.
     pub fn into_inner(self) -> T {
         let Boxed { inner } = self;

@@ -54,7 +54,7 @@ fn starting_edge(expr: &Expr) -> Edge<'_> {
     }
 }
 /// Whether the first of the steps is one that goes on with an expression everywhere.
-fn begins_dotted(steps: &[Step]) -> bool {
+pub fn begins_dotted(steps: &[Step]) -> bool {
     match steps {
         [step, ..] => is_dotted(step),
         [] => false,

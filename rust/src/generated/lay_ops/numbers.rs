@@ -42,16 +42,13 @@ fn is_bare_number(kind: Kind, text: &[u8]) -> bool {
 fn reads(text: &[u8], start: Reading) -> bool {
     let mut reading = start;
     let mut rest = text;
-    while let Some((character, behind)) = split_char(rest) {
-        reading = match u8::try_from(character) {
-            Ok(byte) => leads_to(reading, byte),
-            Err(_) => Reading::Refused,
-        };
+    while let Some((byte, behind)) = rest.split_first() {
+        reading = leads_to(reading, *byte);
         rest = behind;
     }
     !matches!(reading, Reading::Refused)
 }
-/// How far a number is read with one more character, of those that are one byte in ASCII or Latin-1.
+/// How far a number is read with one more byte. Nothing but ASCII is read.
 fn leads_to(reading: Reading, byte: u8) -> Reading {
     match reading {
         Reading::Start => if byte == b'0' { Reading::Zero } else { digits(byte) },
@@ -76,47 +73,19 @@ fn leads_to(reading: Reading, byte: u8) -> Reading {
         Reading::Refused => Reading::Refused,
     }
 }
-/// Digits, if the character is one.
+/// Digits, if the byte is one.
 fn digits(byte: u8) -> Reading {
     if in_digits(byte) { Reading::Digits } else { Reading::Refused }
 }
-/// An exponent, if the character is its letter.
+/// An exponent, if the byte is its letter.
 fn exponent(byte: u8) -> Reading {
     if byte == b'e' || byte == b'E' { Reading::Exponent } else { Reading::Refused }
 }
-/// Whether the character is a digit or an underscore.
+/// Whether the byte is a digit or an underscore.
 fn in_digits(byte: u8) -> bool {
     b'0' <= byte && byte <= b'9' || byte == b'_'
 }
-/// Whether the character is a hexadecimal digit or an underscore.
+/// Whether the byte is a hexadecimal digit or an underscore.
 fn in_hex(byte: u8) -> bool {
     in_digits(byte) || b'A' <= byte && byte <= b'F' || b'a' <= byte && byte <= b'f'
-}
-/// The first character of a text and what stands behind it, if there is one. A text needn't be UTF-8.
-fn split_char(text: &[u8]) -> Option<(u64, &[u8])> {
-    match text {
-        [lead, behind @ ..] => split_behind(*lead, behind),
-        [] => None,
-    }
-}
-/// The same of a text that begins with this byte.
-fn split_behind(lead: u8, behind: &[u8]) -> Option<(u64, &[u8])> {
-    let bits = u64::from(lead);
-    if lead < 128 { Some((bits, behind)) } else if lead < 224 {
-        gather(1, bits.saturating_sub(192), behind)
-    } else if lead < 240 { gather(2, bits - 224, behind) } else {
-        gather(3, bits - 240, behind)
-    }
-}
-/// A character of these bits and those of so many bytes more, and what stands behind it.
-fn gather(count: u8, bits: u64, text: &[u8]) -> Option<(u64, &[u8])> {
-    if count == 0 {
-        return Some((bits, text));
-    }
-    match text {
-        [byte, behind @ ..] => {
-            gather(count - 1, bits * 64 + u64::from(*byte).saturating_sub(128), behind)
-        }
-        [] => None,
-    }
 }

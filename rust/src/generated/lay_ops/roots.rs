@@ -18,8 +18,8 @@ pub fn level(expr: &Expr) -> u8 {
         _ => 14,
     }
 }
-/// The level of the operators of a chain.
-fn first_level(rest: &[(Op, Boxed<Expr>)]) -> u8 {
+/// The level of the operators of a chain, of which these are the operands behind the first.
+pub fn first_level(rest: &[(Op, Boxed<Expr>)]) -> u8 {
     match rest {
         [(op, _), ..] => op_level(*op),
         [] => 0,

@@ -1,12 +1,12 @@
 //! Made by scripts/rust.sh from crates/lay_printer/src/engine.rt, which is proved: change that.
 //!
 //! Where scanning and printing meet: the entry at the front of the row is printed once it is decided.
-use crate::generated::lay_printer::line::exceeds;
 use crate::generated::lay_printer::page::Page;
 use crate::generated::lay_io::{Failed, Sink};
 use crate::generated::lay_layout::Break;
 use crate::generated::lay_queue::{Queue, least_width};
 use crate::generated::lay_ring::LentTok;
+use crate::generated::lay_stream::exceeds;
 use crate::generated::lay_text::NoMemory;
 /// Why a call of a printer failed.
 #[derive(Clone, Copy, Debug, PartialEq, Eq,)]

@@ -2,10 +2,10 @@
 //!
 //! The printing side: tokens are printed where the layout stands.
 use crate::generated::lay_printer::frames::Frames;
-use crate::generated::lay_printer::line::{Line, exceeds};
 use crate::generated::lay_io::{Failed, Sink};
 use crate::generated::lay_layout::{Break, asks_at_break, entered, width_of};
 use crate::generated::lay_ring::LentTok;
+use crate::generated::lay_stream::{Line, exceeds};
 /// Where the layout stands: the line that is being written, and the frames of the groups that are open there.
 pub struct Page {
     pub line: Line,

@@ -3,12 +3,12 @@
 //! What a printer keeps beside its sink.
 use crate::generated::lay_printer::engine::{Engine, PrintError};
 use crate::generated::lay_printer::frames::Frames;
-use crate::generated::lay_printer::line::Line;
 use crate::generated::lay_printer::page::Page;
 use crate::generated::lay_io::{Failed, Sink};
-use crate::generated::lay_layout::{Break, MARGIN};
+use crate::generated::lay_layout::{Break, GREATEST_WIDTH, MARGIN};
 use crate::generated::lay_queue::Queue;
 use crate::generated::lay_ring::LentTok;
+use crate::generated::lay_stream::Line;
 use crate::generated::lay_text::{NoMemory, Text};
 use crate::shims::Global;
 /// What a printer keeps beside its sink: it owns the memory. Contracts see the tokens that wait with their
@@ -170,7 +170,7 @@ impl Core {
     pub fn space(&self) -> i64 {
         let line = &self.engine.page.line;
         let room = line.room.min(MARGIN);
-        let used = line.used.min(room + 0x4000_0000_0000_0000);
+        let used = line.used.min(room + GREATEST_WIDTH);
         difference(room, used)
     }
     /// How many tokens may come before memory is taken.

@@ -1,9 +1,10 @@
 //! Made by scripts/rust.sh from crates/lay_queue/src/close.rt, which is proved: change that.
 //!
 //! Sizes that are written back at a break.
+use crate::generated::lay_layout::GREATEST_WIDTH;
 use crate::generated::lay_ring::{Marks, Row};
 /// The greatest size that is kept.
-pub const CAP: u64 = 0x4000_0000_0000_0000;
+pub const CAP: u64 = GREATEST_WIDTH;
 /// A note of an entry whose size isn't known.
 #[derive(Clone, Copy,)]
 pub struct Note {

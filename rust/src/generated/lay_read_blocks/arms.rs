@@ -16,13 +16,13 @@ use crate::generated::lay_code::{
     Stmt,
 };
 use crate::generated::lay_ends::undressed;
+use crate::generated::lay_ops::places::{FREE, STATEMENT, plain};
 use crate::generated::lay_ops::{is_free, is_lone_body};
 use crate::generated::lay_read_parts::joins::{both, refused};
 use crate::generated::lay_read_parts::loops::Part;
 use crate::generated::lay_read_pats::pat_ahead;
 use crate::generated::lay_read_shared::boxes::boxed_found;
 use crate::generated::lay_read_shared::loops::{Going, read_parts};
-use crate::generated::lay_read_shared::places::{FREE, STATEMENT, plain};
 use crate::generated::lay_read_tokens::attributes::attrs_ahead;
 use crate::generated::lay_read_tokens::found::greater;
 use crate::generated::lay_read_tokens::front::{

@@ -13,12 +13,12 @@ use crate::generated::lay_code::{
     Place,
     Site,
 };
+use crate::generated::lay_ops::places::plain;
 use crate::generated::lay_read_parts::joins::{both, prepended, refused};
 use crate::generated::lay_read_parts::loops::Part;
 use crate::generated::lay_read_pats::pat_ahead;
 use crate::generated::lay_read_shared::boxes::boxed_found;
 use crate::generated::lay_read_shared::loops::{Going, read_parts};
-use crate::generated::lay_read_shared::places::plain;
 use crate::generated::lay_read_tokens::found::greater;
 use crate::generated::lay_read_tokens::front::{pass_two, takes_keyword, takes_op};
 use crate::generated::lay_read_tokens::{Ahead, Found, ReadNone};

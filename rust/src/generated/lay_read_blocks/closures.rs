@@ -14,12 +14,12 @@ use crate::generated::lay_code::{
     TypePlace,
 };
 use crate::generated::lay_ends::shed;
+use crate::generated::lay_ops::places::plain;
 use crate::generated::lay_ops::sheds;
 use crate::generated::lay_read_parts::joins::{both, refused};
 use crate::generated::lay_read_parts::loops::{Closer, Part, read_elements};
 use crate::generated::lay_read_pats::pat_ahead;
 use crate::generated::lay_read_shared::boxes::boxed_found;
-use crate::generated::lay_read_shared::places::plain;
 use crate::generated::lay_read_shared::types::type_if;
 use crate::generated::lay_read_tokens::attributes::attrs_ahead;
 use crate::generated::lay_read_tokens::found::greater;

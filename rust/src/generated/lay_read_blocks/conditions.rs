@@ -19,6 +19,7 @@ use crate::generated::lay_code::{
     Site,
 };
 use crate::generated::lay_ops::ahead::strength;
+use crate::generated::lay_ops::places::{link_place, plain};
 use crate::generated::lay_ops::stands;
 use crate::generated::lay_read_exprs::ExprRules;
 use crate::generated::lay_read_parts::joins::{both, refused};
@@ -26,7 +27,6 @@ use crate::generated::lay_read_parts::loops::Part;
 use crate::generated::lay_read_pats::pat_ahead;
 use crate::generated::lay_read_shared::boxes::boxed_found;
 use crate::generated::lay_read_shared::loops::{Going, read_parts};
-use crate::generated::lay_read_shared::places::{link_place, plain};
 use crate::generated::lay_read_tokens::found::greater;
 use crate::generated::lay_read_tokens::front::{pass_two, takes_keyword, takes_op};
 use crate::generated::lay_read_tokens::stop::{keep, room_for};

@@ -2,7 +2,7 @@
 //!
 //! The rules of blocks of a level, and how what is one level deeper is read.
 use crate::generated::lay_code::{Block, Boxed, Expr, Item, Place, Site};
-use crate::generated::lay_read_shared::places::FREE;
+use crate::generated::lay_ops::places::FREE;
 use crate::generated::lay_read_tokens::front::takes_op;
 use crate::generated::lay_read_tokens::{Ahead, Found, ReadNone};
 use crate::shims::Global;

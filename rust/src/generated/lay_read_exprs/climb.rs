@@ -4,9 +4,9 @@
 use crate::generated::lay_read_exprs::rules::ExprRules;
 use crate::generated::lay_code::{Boxed, Expr, Place, Start};
 use crate::generated::lay_ops::ahead::{is_angle, is_dot_or_try, strength};
+use crate::generated::lay_ops::places::before_op;
 use crate::generated::lay_ops::{is_block_like, stands};
 use crate::generated::lay_read_parts::joins::refused;
-use crate::generated::lay_read_shared::places::before_op;
 use crate::generated::lay_read_tokens::{Ahead, Found, ReadNone};
 use crate::shims::Global;
 /// Whether an expression begins a statement or the body of an arm.

@@ -3,10 +3,10 @@
 //! Expressions in delimiters.
 use crate::generated::lay_read_exprs::rules::ExprRules;
 use crate::generated::lay_code::{Boxed, Expr, Place};
+use crate::generated::lay_ops::places::FREE;
 use crate::generated::lay_read_parts::joins::{both, prepended, refused};
 use crate::generated::lay_read_parts::loops::{Closer, Part, read_elements};
 use crate::generated::lay_read_shared::boxes::{boxed_found, unboxed};
-use crate::generated::lay_read_shared::places::FREE;
 use crate::generated::lay_read_tokens::found::greater;
 use crate::generated::lay_read_tokens::front::{takes_closer, takes_mark};
 use crate::generated::lay_read_tokens::tokens::read_tokens;

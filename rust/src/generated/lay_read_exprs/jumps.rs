@@ -4,10 +4,10 @@
 use crate::generated::lay_read_exprs::rules::ExprRules;
 use crate::generated::lay_code::{Boxed, Expr, Place};
 use crate::generated::lay_ops::ahead::begins_operand;
+use crate::generated::lay_ops::places::plain;
 use crate::generated::lay_read_parts::joins::both;
 use crate::generated::lay_read_parts::parts::read_lifetime_if;
 use crate::generated::lay_read_shared::boxes::boxed_found;
-use crate::generated::lay_read_shared::places::plain;
 use crate::generated::lay_read_tokens::{Ahead, Found, ReadNone};
 use crate::shims::Global;
 /// What stands behind `continue`.

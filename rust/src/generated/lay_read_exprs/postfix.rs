@@ -5,13 +5,13 @@ use crate::generated::lay_read_exprs::numbers::{begins_tuple_index, is_at_tuple_
 use crate::generated::lay_read_exprs::rules::ExprRules;
 use crate::generated::lay_code::{Arg, Args, Boxed, Expr, Name, PathStyle, Place, Step};
 use crate::generated::lay_ops::is_number;
+use crate::generated::lay_ops::places::FREE;
 use crate::generated::lay_read_parts::joins::{both, refused};
 use crate::generated::lay_read_parts::leads::opens_args_late;
 use crate::generated::lay_read_parts::loops::Part;
 use crate::generated::lay_read_parts::parts::read_literal;
 use crate::generated::lay_read_shared::boxes::boxed_found;
 use crate::generated::lay_read_shared::loops::{Going, read_parts};
-use crate::generated::lay_read_shared::places::FREE;
 use crate::generated::lay_read_tokens::found::greater;
 use crate::generated::lay_read_tokens::front::{
     is_at_opened,

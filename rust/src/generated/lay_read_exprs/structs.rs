@@ -3,11 +3,11 @@
 //! Struct literals.
 use crate::generated::lay_read_exprs::rules::ExprRules;
 use crate::generated::lay_code::{Attr, Boxed, Expr, FieldExpr, Name, Path, Place};
+use crate::generated::lay_ops::places::FREE;
 use crate::generated::lay_read_parts::joins::{both, refused};
 use crate::generated::lay_read_parts::loops::{Opening, Part, read_open_elements};
 use crate::generated::lay_read_pats::structs::read_index_if;
 use crate::generated::lay_read_shared::boxes::boxed_found;
-use crate::generated::lay_read_shared::places::FREE;
 use crate::generated::lay_read_tokens::attributes::attrs_ahead;
 use crate::generated::lay_read_tokens::found::greater;
 use crate::generated::lay_read_tokens::front::{

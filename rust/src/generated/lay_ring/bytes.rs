@@ -2,14 +2,15 @@
 //!
 //! Bytes that wait, in room of one of two lengths.
 use crate::shims::Vec;
+use crate::generated::lay_layout::MARGIN;
 use crate::generated::lay_text::NoMemory;
 use crate::shims::Global;
 /// How many bytes there is room for at first.
 const FIRST: usize = 128;
 /// How many there is room for in the full room.
 const FULL: usize = 1024;
-/// How many bytes a text has at the most.
-const LONGEST: usize = 89;
+/// How many bytes a text has at the most: as many as a line has columns.
+const LONGEST: usize = MARGIN as usize;
 /// Bytes that are added at the end and taken from the front. Contracts see them as a list, and whether the room is the
 /// full one.
 pub struct Bytes {

@@ -29,6 +29,10 @@ impl<T> List<T> {
     pub fn as_slice(&self) -> &[T] {
         self.items.as_slice()
     }
+    /// All the items, lent to be changed.
+    pub fn as_mut_slice(&mut self) -> &mut [T] {
+        self.items.as_mut_slice()
+    }
     /// The list of a vector's items.
     pub fn from_vec(items: Vec<T>) -> List<T> {
         List { items }

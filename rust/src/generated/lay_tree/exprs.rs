@@ -264,6 +264,64 @@ pub fn same_expr(expr: &Expr, other: &Expr) -> bool {
         }
     }
 }
+/// Whether two lists of expressions are equal.
+fn same_exprs(exprs: &[Expr], others: &[Expr]) -> bool {
+    if exprs.len() != others.len() {
+        return false;
+    }
+    for (expr, other) in exprs.iter().zip(others) {
+        if !same_expr(expr, other) {
+            return false;
+        }
+    }
+    true
+}
+/// Whether two expressions that may be left out are equal.
+fn same_operand(operand: &Option<Boxed<Expr>>, other: &Option<Boxed<Expr>>) -> bool {
+    match operand {
+        None => other.is_none(),
+        Some(operand) => matches!(
+            other, Some(given) if same_expr(operand.get(), given.get())
+        ),
+    }
+}
+/// Whether the operators and operands of two chains are equal.
+fn same_operands(operands: &[(Op, Boxed<Expr>)], others: &[(Op, Boxed<Expr>)]) -> bool {
+    if operands.len() != others.len() {
+        return false;
+    }
+    for ((op, operand), (other_op, other_operand)) in operands.iter().zip(others) {
+        if !same_op(op, other_op) || !same_expr(operand.get(), other_operand.get()) {
+            return false;
+        }
+    }
+    true
+}
+/// Whether the bases of two struct literals are equal, behind a `..` where there is one.
+fn same_base(
+    base: &Option<Option<Boxed<Expr>>>,
+    other: &Option<Option<Boxed<Expr>>>,
+) -> bool {
+    match base {
+        None => other.is_none(),
+        Some(None) => matches!(other, Some(None)),
+        Some(Some(base)) => {
+            matches!(other, Some(Some(given)) if same_expr(base.get(), given.get()))
+        }
+    }
+}
+/// Whether the targets of two assignments are equal.
+fn same_targets(targets: &[(Boxed<Expr>, Op)], others: &[(Boxed<Expr>, Op)]) -> bool {
+    if targets.len() != others.len() {
+        return false;
+    }
+    for ((target, op), (other_target, other_op)) in targets.iter().zip(others) {
+        if !same_expr(target.get(), other_target.get()) || !same_op(op, other_op) {
+            return false;
+        }
+    }
+    true
+}
 /// Whether two fields of struct literals are equal.
 fn same_field(field: &FieldExpr, other: &FieldExpr) -> bool {
     match field {
@@ -302,6 +360,18 @@ fn same_field(field: &FieldExpr, other: &FieldExpr) -> bool {
             }
         }
     }
+}
+/// Whether the fields of two struct literals are equal.
+fn same_fields(fields: &[FieldExpr], others: &[FieldExpr]) -> bool {
+    if fields.len() != others.len() {
+        return false;
+    }
+    for (field, other) in fields.iter().zip(others) {
+        if !same_field(field, other) {
+            return false;
+        }
+    }
+    true
 }
 /// Whether two steps are equal.
 fn same_step(step: &Step, other: &Step) -> bool {
@@ -343,10 +413,29 @@ fn same_step(step: &Step, other: &Step) -> bool {
         Step::Await => matches!(other, Step::Await),
     }
 }
+/// Whether the steps behind two expressions are equal.
+fn same_steps(steps: &[Step], others: &[Step]) -> bool {
+    if steps.len() != others.len() {
+        return false;
+    }
+    for (step, other) in steps.iter().zip(others) {
+        if !same_step(step, other) {
+            return false;
+        }
+    }
+    true
+}
 /// Whether two blocks are equal.
 pub fn same_block(block: &Block, other: &Block) -> bool {
     block.attrs.same(&other.attrs)
         && same_stmts(block.stmts.as_slice(), other.stmts.as_slice())
+}
+/// Whether two blocks that may be left out are equal.
+fn same_body(body: &Option<Block>, other: &Option<Block>) -> bool {
+    match body {
+        None => other.is_none(),
+        Some(body) => matches!(other, Some(given) if same_block(body, given)),
+    }
 }
 /// Whether two statements are equal.
 pub fn same_stmt(stmt: &Stmt, other: &Stmt) -> bool {
@@ -387,10 +476,34 @@ pub fn same_stmt(stmt: &Stmt, other: &Stmt) -> bool {
         }
     }
 }
+/// Whether two lists of statements are equal.
+fn same_stmts(stmts: &[Stmt], others: &[Stmt]) -> bool {
+    if stmts.len() != others.len() {
+        return false;
+    }
+    for (stmt, other) in stmts.iter().zip(others) {
+        if !same_stmt(stmt, other) {
+            return false;
+        }
+    }
+    true
+}
 /// Whether two branches are equal.
 fn same_branch(branch: &Branch, other: &Branch) -> bool {
     same_condition(&branch.condition, &other.condition)
         && same_block(&branch.body, &other.body)
+}
+/// Whether the branches of two expressions are equal.
+fn same_branches(branches: &[Branch], others: &[Branch]) -> bool {
+    if branches.len() != others.len() {
+        return false;
+    }
+    for (branch, other) in branches.iter().zip(others) {
+        if !same_branch(branch, other) {
+            return false;
+        }
+    }
+    true
 }
 /// Whether two conditions are equal.
 fn same_condition(condition: &Condition, other: &Condition) -> bool {
@@ -414,16 +527,52 @@ fn same_link(link: &Link, other: &Link) -> bool {
         }
     }
 }
+/// Whether the links of two conditions are equal.
+fn same_links(links: &[Link], others: &[Link]) -> bool {
+    if links.len() != others.len() {
+        return false;
+    }
+    for (link, other) in links.iter().zip(others) {
+        if !same_link(link, other) {
+            return false;
+        }
+    }
+    true
+}
 /// Whether two arms are equal.
 pub fn same_arm(arm: &Arm, other: &Arm) -> bool {
     arm.attrs.same(&other.attrs) && arm.pat.same(&other.pat)
         && same_operand(&arm.guard, &other.guard)
         && same_expr(arm.body.get(), other.body.get())
 }
+/// Whether the arms of two expressions are equal.
+fn same_arms(arms: &[Arm], others: &[Arm]) -> bool {
+    if arms.len() != others.len() {
+        return false;
+    }
+    for (arm, other) in arms.iter().zip(others) {
+        if !same_arm(arm, other) {
+            return false;
+        }
+    }
+    true
+}
 /// Whether two items are equal.
 pub fn same_item(item: &Item, other: &Item) -> bool {
     item.attrs.same(&other.attrs) && item.vis.same(&other.vis)
         && same_kind(item.kind.get(), other.kind.get())
+}
+/// Whether two lists of items are equal.
+pub fn same_items(items: &[Item], others: &[Item]) -> bool {
+    if items.len() != others.len() {
+        return false;
+    }
+    for (item, other) in items.iter().zip(others) {
+        if !same_item(item, other) {
+            return false;
+        }
+    }
+    true
 }
 /// Whether two items without their attributes and visibilities are equal.
 fn same_kind(kind: &ItemKind, other: &ItemKind) -> bool {
@@ -538,155 +687,6 @@ fn same_kind(kind: &ItemKind, other: &ItemKind) -> bool {
         }
         ItemKind::Call { call } => {
             matches!(other, ItemKind::Call { call: given } if call.same(given))
-        }
-    }
-}
-/// Whether two lists of expressions are equal.
-fn same_exprs(exprs: &[Expr], others: &[Expr]) -> bool {
-    if exprs.len() != others.len() {
-        return false;
-    }
-    for (expr, other) in exprs.iter().zip(others) {
-        if !same_expr(expr, other) {
-            return false;
-        }
-    }
-    true
-}
-/// Whether the fields of two struct literals are equal.
-fn same_fields(fields: &[FieldExpr], others: &[FieldExpr]) -> bool {
-    if fields.len() != others.len() {
-        return false;
-    }
-    for (field, other) in fields.iter().zip(others) {
-        if !same_field(field, other) {
-            return false;
-        }
-    }
-    true
-}
-/// Whether the steps behind two expressions are equal.
-fn same_steps(steps: &[Step], others: &[Step]) -> bool {
-    if steps.len() != others.len() {
-        return false;
-    }
-    for (step, other) in steps.iter().zip(others) {
-        if !same_step(step, other) {
-            return false;
-        }
-    }
-    true
-}
-/// Whether the branches of two expressions are equal.
-fn same_branches(branches: &[Branch], others: &[Branch]) -> bool {
-    if branches.len() != others.len() {
-        return false;
-    }
-    for (branch, other) in branches.iter().zip(others) {
-        if !same_branch(branch, other) {
-            return false;
-        }
-    }
-    true
-}
-/// Whether the links of two conditions are equal.
-fn same_links(links: &[Link], others: &[Link]) -> bool {
-    if links.len() != others.len() {
-        return false;
-    }
-    for (link, other) in links.iter().zip(others) {
-        if !same_link(link, other) {
-            return false;
-        }
-    }
-    true
-}
-/// Whether the arms of two expressions are equal.
-fn same_arms(arms: &[Arm], others: &[Arm]) -> bool {
-    if arms.len() != others.len() {
-        return false;
-    }
-    for (arm, other) in arms.iter().zip(others) {
-        if !same_arm(arm, other) {
-            return false;
-        }
-    }
-    true
-}
-/// Whether two lists of statements are equal.
-fn same_stmts(stmts: &[Stmt], others: &[Stmt]) -> bool {
-    if stmts.len() != others.len() {
-        return false;
-    }
-    for (stmt, other) in stmts.iter().zip(others) {
-        if !same_stmt(stmt, other) {
-            return false;
-        }
-    }
-    true
-}
-/// Whether two lists of items are equal.
-pub fn same_items(items: &[Item], others: &[Item]) -> bool {
-    if items.len() != others.len() {
-        return false;
-    }
-    for (item, other) in items.iter().zip(others) {
-        if !same_item(item, other) {
-            return false;
-        }
-    }
-    true
-}
-/// Whether the operators and operands of two chains are equal.
-fn same_operands(operands: &[(Op, Boxed<Expr>)], others: &[(Op, Boxed<Expr>)]) -> bool {
-    if operands.len() != others.len() {
-        return false;
-    }
-    for ((op, operand), (other_op, other_operand)) in operands.iter().zip(others) {
-        if !same_op(op, other_op) || !same_expr(operand.get(), other_operand.get()) {
-            return false;
-        }
-    }
-    true
-}
-/// Whether the targets of two assignments are equal.
-fn same_targets(targets: &[(Boxed<Expr>, Op)], others: &[(Boxed<Expr>, Op)]) -> bool {
-    if targets.len() != others.len() {
-        return false;
-    }
-    for ((target, op), (other_target, other_op)) in targets.iter().zip(others) {
-        if !same_expr(target.get(), other_target.get()) || !same_op(op, other_op) {
-            return false;
-        }
-    }
-    true
-}
-/// Whether two expressions that may be left out are equal.
-fn same_operand(operand: &Option<Boxed<Expr>>, other: &Option<Boxed<Expr>>) -> bool {
-    match operand {
-        None => other.is_none(),
-        Some(operand) => matches!(
-            other, Some(given) if same_expr(operand.get(), given.get())
-        ),
-    }
-}
-/// Whether two blocks that may be left out are equal.
-fn same_body(body: &Option<Block>, other: &Option<Block>) -> bool {
-    match body {
-        None => other.is_none(),
-        Some(body) => matches!(other, Some(given) if same_block(body, given)),
-    }
-}
-/// Whether the bases of two struct literals are equal, behind a `..` where there is one.
-fn same_base(
-    base: &Option<Option<Boxed<Expr>>>,
-    other: &Option<Option<Boxed<Expr>>>,
-) -> bool {
-    match base {
-        None => other.is_none(),
-        Some(None) => matches!(other, Some(None)),
-        Some(Some(base)) => {
-            matches!(other, Some(Some(given)) if same_expr(base.get(), given.get()))
         }
     }
 }

@@ -1,11 +1,18 @@
-use Rattle.std.proofs.Common.{refl, ap₂, ◌∙◌}
-use Rattle.lay_map.proofs.FileLemmas.{answered, at_start, fed_places}
+use Rattle.std.proofs.Common.{List, sym, ◌∙◌, subst, IfOk}
+use Rattle.lay_token.specs.declared.token.Token.{Token}
+use Rattle.lay_code.specs.Reading.{SpellsFile, top}
+use Rattle.lay_read_tokens.specs.Answers.{AreLexed}
+use Rattle.lay_map.specs.Places.{ArePlaces}
 use Rattle.lay_map.proofs.files.units.Goals as goal
+
+pub found-requires-clause-lexed : goal.found-requires-clause-lexed
+found-requires-clause-lexed c = subst AreLexed (sym (c.as_slice.ensures ∙ c.cursor-cursor.ensures.tokens)) c.requires.lexed
+
+pub found-requires-clause-spells : goal.found-requires-clause-spells
+found-requires-clause-spells c =
+    subst (SpellsFile top c.args.file.now) (sym (c.as_slice.ensures ∙ c.cursor-cursor.ensures.tokens)) c.requires.spells
 
 pub returns : goal.returns
 returns c =
-    let file = c.args.file.now in
-    let tokens = c.args.nested.now in
-    answered file tokens c.into_units.result _ c.into_units.ensures
-    (fed_places file tokens _ _ c.requires.lexed c.requires.spells
-    (c.new-marker.ensures ∙ ap₂ at_start (c.as_slice.ensures ∙ c.cursor-cursor.ensures.tokens) c.is_some.ensures) (c.in_ok-put_file.ensures.puts _ refl))
+    subst (λ (tokens : List Token). IfOk c.found.result (λ list. ArePlaces c.args.file.now tokens list))
+    (c.as_slice.ensures ∙ c.cursor-cursor.ensures.tokens) c.found.ensures

@@ -1,36 +1,26 @@
-use Rattle.std.proofs.Common.{List, [], sym, ◌∙◌, subst, append-nil}
+use Rattle.std.proofs.Common.{List, ℕ, sym, subst}
+use Rattle.std.specs.Str.{IsCharBoundary}
 use Rattle.std.proofs.lemmas.Result.{IfOk-weaker}
-use Rattle.std.proofs.lemmas.Str.{IsUtf8-drop}
 use Rattle.lay_token.specs.Lexes.{Lexes}
-use Rattle.lay_token.specs.declared.token.Token.{Token}
 use Rattle.lay_lex.specs.Source.{seen}
-use Rattle.lay_mapping.proofs.MapLemmas.{places_read, spelled}
+use Rattle.lay_mapping.proofs.MapLemmas.{CanBeRead, lexes_read, read_from}
 use Rattle.lay_mapping.proofs.mapping.units_in.Goals as goal
 
-pub units-requires-clause-lexed : goal.units-requires-clause-lexed
-units-requires-clause-lexed c =
-    let text = c.in-Ok.source.text in
-    let start = c.in-Ok.source.start in
-    record {
-      bytes = text;
-      start = start;
-      before = [];
-      after = [];
-      utf8 = IsUtf8-drop text start c.in-Ok.ensures.ready.0 c.in-Ok.ensures.ready.1;
-      lexes =
-          subst (λ (ts : List Token). Lexes text start ts)
-          (sym c.in-Ok-nest.ensures.answer.0 ∙ sym (append-nil c.in-Ok-nest.nested)) c.in-Ok-lex.ensures.answer;
-    }
+pub units_of_text-requires-clause-border : goal.units_of_text-requires-clause-border
+units_of_text-requires-clause-border c =
+    subst (λ (text : List ℕ). IsCharBoundary text c.in-Ok.source.start) (sym c.as_str.ensures) c.in-Ok.ensures.ready.1
 
-pub units-requires-clause-spells : goal.units-requires-clause-spells
-units-requires-clause-spells c =
+pub units_of_text-requires-clause-read : goal.units_of_text-requires-clause-read
+units_of_text-requires-clause-read c =
     let from = seen c.in-Ok.source in
-    let lexes = subst (λ (ts : List Token). Lexes from.text from.start ts) (sym c.in-Ok-nest.ensures.answer.0) c.in-Ok-lex.ensures.answer in
-    spelled c.args.bytes.now c.args.file.now from c.in-Ok-nest.nested c.in-Ok.ensures.answer lexes c.requires
+    subst (λ (text : List ℕ). CanBeRead c.args.file.now text from.start) (sym c.as_str.ensures)
+    (read_from c.args.bytes.now c.args.file.now from c.in-Ok.ensures.answer c.requires)
 
 pub returns : goal.returns
 returns c =
     let from = seen c.in-Ok.source in
-    let lexes = subst (λ (ts : List Token). Lexes from.text from.start ts) (sym c.in-Ok-nest.ensures.answer.0) c.in-Ok-lex.ensures.answer in
-    IfOk-weaker c.units.result _ _
-    (λ places are. places_read c.args.bytes.now c.args.file.now from c.in-Ok-nest.nested places c.in-Ok.ensures.answer lexes are) c.units.ensures
+    IfOk-weaker c.units_of_text.result _ _
+    (λ places are r.
+    let read = lexes_read c.args.bytes.now c.args.file.now from c.in-Ok.ensures.answer r in
+    are r.tokens (subst (λ (text : List ℕ). Lexes text from.start r.tokens) (sym c.as_str.ensures) read) r.spells.1)
+    c.units_of_text.ensures

@@ -6,20 +6,20 @@ use Rattle.lay_mapping.proofs.mapping.write_map.Goals as goal
 pub returns-in-Err-clause-part : goal.returns-in-Err-clause-part
 returns-in-Err-clause-part g c = unwritten c.args.bytes.now c.args.file.now c.requires (g.K.Sink.written c.args.out.now)
 
-pub units_of_text-requires : goal.units_of_text-requires
-units_of_text-requires g c = again c.args.bytes.now c.args.file.now c.requires
+pub units_of_output-requires : goal.units_of_output-requires
+units_of_output-requires g c = again c.args.bytes.now c.args.file.now c.requires
 
-pub returns-in-Err-units_of_text-clause-part : goal.returns-in-Err-units_of_text-clause-part
-returns-in-Err-units_of_text-clause-part g c = unwritten c.args.bytes.now c.args.file.now c.requires (g.K.Sink.written c.args.out.now)
+pub returns-in-Err-units_of_output-clause-part : goal.returns-in-Err-units_of_output-clause-part
+returns-in-Err-units_of_output-clause-part g c = unwritten c.args.bytes.now c.args.file.now c.requires (g.K.Sink.written c.args.out.now)
 
 pub returns-clause-whole : goal.returns-clause-whole
 returns-clause-whole g c =
     on_ok_weaker c.write_lines.result
-    (written c.args.bytes.now c.args.file.now c.requires c.in-Ok.units c.in-Ok-units_of_text.units _ _ c.in-Ok.ensures c.in-Ok-units_of_text.ensures)
+    (written c.args.bytes.now c.args.file.now c.requires c.in-Ok.units c.in-Ok-units_of_output.units _ _ c.in-Ok.ensures c.in-Ok-units_of_output.ensures)
     (rw c.as_slice.ensures at rw c.as_slice-2.ensures at c.write_lines.ensures.whole)
 
 pub returns-clause-part : goal.returns-clause-part
 returns-clause-part g c =
     on_err_weaker c.write_lines.result
-    (part_written c.args.bytes.now c.args.file.now c.requires c.in-Ok.units c.in-Ok-units_of_text.units _ _ c.in-Ok.ensures c.in-Ok-units_of_text.ensures)
+    (part_written c.args.bytes.now c.args.file.now c.requires c.in-Ok.units c.in-Ok-units_of_output.units _ _ c.in-Ok.ensures c.in-Ok-units_of_output.ensures)
     (rw c.as_slice.ensures at rw c.as_slice-2.ensures at c.write_lines.ensures.part)

@@ -1,4 +1,4 @@
-//! Made by scripts/rust.sh from crates/lay_printer/src/line.rt, which is proved: change that.
+//! Made by scripts/rust.sh from crates/lay_stream/src/line.rt, which is proved: change that.
 //!
 //! The line that is being written, and what is put on it.
 use crate::generated::lay_io::{Failed, Sink};
@@ -6,6 +6,7 @@ use crate::generated::lay_layout::{
     Break,
     Frame,
     GREATEST_BLANKS,
+    GREATEST_WIDTH,
     LEAST_SPACE,
     MARGIN,
     Mark,
@@ -19,7 +20,7 @@ pub struct Line {
     pub used: u64,
 }
 /// The greatest count of what was used of a line: the space is exact down to -2^62.
-const USED: u64 = 0x4000_0000_0000_0000 + MARGIN;
+const USED: u64 = GREATEST_WIDTH + MARGIN;
 /// Whether the sum of a width and a length is greater than the space.
 #[inline(always)]
 pub fn exceeds(line: &Line, width: u64, length: u64) -> bool {
@@ -86,7 +87,7 @@ impl Line {
         self.start_line(sink, shifted(indent, brk.offset))?;
         self.put_mark(sink, brk.after)
     }
-    /// Blanks that wait, of which there are never more than 1,000,000.
+    /// Blanks that wait, up to the greatest count.
     #[inline(always)]
     fn add_blanks(&mut self, blank: u16) {
         self.pending = self.pending.saturating_add(blank as u64).min(GREATEST_BLANKS);

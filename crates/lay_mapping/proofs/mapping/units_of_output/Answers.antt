@@ -1,6 +1,6 @@
 use Rattle.std.proofs.Common.{ℕ, List, IfOk, ◌∙◌, subst}
 use Rattle.lay_mapping.proofs.MapLemmas.{AreUnits}
-use Rattle.lay_mapping.proofs.mapping.units_of_text.Goals as goal
+use Rattle.lay_mapping.proofs.mapping.units_of_output.Goals as goal
 
 pub returns : goal.returns
 returns c =

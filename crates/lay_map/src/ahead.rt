@@ -1,0 +1,51 @@
+//! The tokens ahead, of a list or of a text.
+ghost use Rattle.lay_pieces.specs.Ahead.{Tells};
+
+use lay_pieces::{Cursor, Lexeme};
+use lay_token::Token;
+
+/// Tokens that are given one by one. It is copied to look ahead.
+#[derive(Clone, Copy, Debug)]
+pub(crate) enum Ahead<'a> {
+    /// Those of a list.
+    Tokens(&'a [Token]),
+    /// Those that a text lexes to, from a place on.
+    Text(Cursor<'a>),
+}
+
+impl<'a> Ahead<'a> {
+    ghost use Rattle.lay_pieces.specs.Ahead.{IsNext};
+    ghost use Rattle.lay_map.specs.Ahead.{tokens_of};
+
+    /// Goes past the next token and tells it; or nothing, where there is none.
+    #[inline(always)]
+    pub(crate) fn next(&mut self) -> Option<Lexeme<'a>>
+        ensures { IsNext (tokens_of self.old) result (tokens_of self.new) }
+    {
+        match *self {
+            Ahead::Tokens(tokens) => {
+                let (token, behind) = tokens.split_first()?;
+                *self = Ahead::Tokens(behind);
+                Some(lent(token))
+            }
+            Ahead::Text(cursor) => {
+                let mut cursor = cursor;
+                let lexeme = cursor.next()?;
+                *self = Ahead::Text(cursor);
+                Some(lexeme)
+            }
+        }
+    }
+}
+
+/// A token, lent.
+fn lent(token: &Token) -> Lexeme<'_>
+    ensures { Tells result token.now }
+{
+    Lexeme {
+        kind: token.kind,
+        text: token.text.as_bytes(),
+        at: token.at,
+        len: token.len,
+    }
+}

@@ -1,0 +1,41 @@
+//! Made by scripts/rust.sh from crates/lay_map/src/ahead.rt, which is proved: change that.
+//!
+//! The tokens ahead, of a list or of a text.
+use crate::generated::lay_pieces::{Cursor, Lexeme};
+use crate::generated::lay_token::Token;
+/// Tokens that are given one by one. It is copied to look ahead.
+#[derive(Clone, Copy, Debug,)]
+pub(crate) enum Ahead<'a> {
+    /// Those of a list.
+    Tokens(&'a [Token]),
+    /// Those that a text lexes to, from a place on.
+    Text(Cursor<'a>),
+}
+impl<'a> Ahead<'a> {
+    /// Goes past the next token and tells it; or nothing, where there is none.
+    #[inline(always)]
+    pub(crate) fn next(&mut self) -> Option<Lexeme<'a>> {
+        match *self {
+            Ahead::Tokens(tokens) => {
+                let (token, behind) = tokens.split_first()?;
+                *self = Ahead::Tokens(behind);
+                Some(lent(token))
+            }
+            Ahead::Text(cursor) => {
+                let mut cursor = cursor;
+                let lexeme = cursor.next()?;
+                *self = Ahead::Text(cursor);
+                Some(lexeme)
+            }
+        }
+    }
+}
+/// A token, lent.
+fn lent(token: &Token) -> Lexeme<'_> {
+    Lexeme {
+        kind: token.kind,
+        text: token.text.as_bytes(),
+        at: token.at,
+        len: token.len,
+    }
+}
