@@ -8,6 +8,11 @@ use Rattle.lay_node.specs.declared.token.Lifetime.{Lifetime}
 use Rattle.lay_node.specs.declared.token.Literal.{Literal}
 use Rattle.lay_node.specs.declared.token.Name.{Name}
 use Rattle.lay_node.specs.declared.types.Path.{Path}
+use Rattle.lay_node.specs.declared.functions.FnHead.{FnHead}
+use Rattle.lay_node.specs.declared.generics.Wheres.{Wheres}
+use Rattle.lay_node.specs.declared.heads.ImplHead.{ImplHead}
+use Rattle.lay_node.specs.declared.heads.TraitHead.{TraitHead}
+use Rattle.lay_node.specs.declared.heads.ValueHead.{ValueHead}
 use Rattle.lay_code.specs.nodes.Code.{about_expr, about_step}
 use Rattle.std.proofs.lemmas.Bool.{le-leb}
 use Rattle.lay_code.specs.nodes.Blocks.{may_precede_else}
@@ -44,6 +49,7 @@ use Rattle.lay_depth_nodes.specs.Depths.{counted}
 use Rattle.lay_paren.specs.Made.{Made, all, kept, may_be, one}
 use Rattle.lay_paren.specs.Nodes.{arm_parts, block_parts, expr_parts, field_parts, kind_parts, link_parts, step_parts, stmt_parts, made_arm, made_block, made_branch, made_condition, made_field, made_item, made_kind, made_link, made_step, made_stmt}
 use Rattle.lay_paren.specs.Parts.{Linked, Placed, angle_next, arm_made, field_made, kind_made, link_made, step_made, stmt_made, base_place, base_slot, break_slot, condition_links, else_slot, expr_made, free_made, level_by, links_made, may_at, operand_at, operands_made, targets_made}
+use Rattle.lay_code.proofs.nodes.ItemLaws as laws
 use Rattle.lay_paren.proofs.MadeFolds as made
 
 -- ---- lists of parts
@@ -439,6 +445,39 @@ name_stays x name is = is ∙ sym (ap step_least is ∙ step_becomes (step.Field
 
 pub index_stays : (x : Step) (index : List ℕ) → x ≡ step.TupleIndex index → x ≡ step_least x
 index_stays x index is = is ∙ sym (ap step_least is ∙ step_becomes (step.TupleIndex index) ∙ ap step_in (views.outs-TupleIndex index))
+
+-- items of no kind that has parts
+pub record Partless (x : ItemKind) : Type 0 where
+  pub not_module : (name : Name) (attrs : List Attr) (items : List Item) → x ≡ kind.Module name attrs items → ⊥
+  pub not_function : (head : FnHead) (wheres : Wheres) (body : Option Block) → x ≡ kind.Function head wheres body → ⊥
+  pub not_value : (head : ValueHead) (value : Option Expr) → x ≡ kind.Value head value → ⊥
+  pub not_trait : (head : TraitHead) (wheres : Wheres) (attrs : List Attr) (items : List Item) → x ≡ kind.Trait head wheres attrs items → ⊥
+  pub not_impl : (head : ImplHead) (wheres : Wheres) (attrs : List Attr) (items : List Item) → x ≡ kind.Impl head wheres attrs items → ⊥
+  pub not_foreign : (is_unsafe : Bool) (abi : Option Literal) (attrs : List Attr) (items : List Item)
+      → x ≡ kind.Foreign is_unsafe abi attrs items → ⊥
+
+kind_same : (x : ItemKind) {layer : KindNode} → views.out-ItemKind x ≡ layer → kind_in layer ≡ x → x ≡ kind_least x
+kind_same x out same = sym (kind_becomes x ∙ ap kind_in out ∙ same)
+
+kind_stays_by : (x : ItemKind) → laws.KindView x → Partless x → x ≡ kind_least x
+kind_stays_by _ (laws.IsExternCrate x) none = kind_same (kind.ExternCrate x) (views.outs-ExternCrate x) refl
+kind_stays_by _ (laws.IsImport tree) none = kind_same (kind.Import tree) (views.outs-Import tree) refl
+kind_stays_by _ (laws.IsFileModule name) none = kind_same (kind.FileModule name) (views.outs-FileModule name) refl
+kind_stays_by _ (laws.IsModule name attrs items) none = absurd (none.not_module name attrs items refl)
+kind_stays_by _ (laws.IsFunction head wheres body) none = absurd (none.not_function head wheres body refl)
+kind_stays_by _ (laws.IsAlias x) none = kind_same (kind.Alias x) (views.outs-Alias x) refl
+kind_stays_by _ (laws.IsStruct x) none = kind_same (kind.Struct x) (views.outs-ItemKind::Struct x) refl
+kind_stays_by _ (laws.IsUnion x) none = kind_same (kind.Union x) (views.outs-Union x) refl
+kind_stays_by _ (laws.IsEnum x) none = kind_same (kind.Enum x) (views.outs-Enum x) refl
+kind_stays_by _ (laws.IsValue head value) none = absurd (none.not_value head value refl)
+kind_stays_by _ (laws.IsTrait head wheres attrs items) none = absurd (none.not_trait head wheres attrs items refl)
+kind_stays_by _ (laws.IsImpl head wheres attrs items) none = absurd (none.not_impl head wheres attrs items refl)
+kind_stays_by _ (laws.IsForeign is_unsafe abi attrs items) none = absurd (none.not_foreign is_unsafe abi attrs items refl)
+kind_stays_by _ (laws.IsRules name rules) none = kind_same (kind.MacroRules name rules) (views.outs-MacroRules name rules) refl
+kind_stays_by _ (laws.IsCall call) none = kind_same (kind.Call call) (views.outs-ItemKind::Call call) refl
+
+pub kind_stays : (x : ItemKind) → Partless x → x ≡ kind_least x
+kind_stays x none = kind_stays_by x (laws.kind_view x) none
 
 -- ---- the whole
 

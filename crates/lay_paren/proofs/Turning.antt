@@ -1,5 +1,5 @@
 -- Loops that put one item after the other: those before are put, and those behind are as they were.
-use Rattle.std.proofs.Common.{◌≡◌, ℕ, zero, suc, ◌+◌, ◌<◌, ◌≤◌, ◌⊎◌, inl, inr, Bool, true, false, Some, None, List, [], ◌∷◌, ◌++◌, map, length, take, drop, slice_set, slice_index_or, refl, sym, ap, ◌∙◌, arith}
+use Rattle.std.proofs.Common.{◌≡◌, ℕ, zero, suc, ◌+◌, ◌<◌, ◌≤◌, ◌⊎◌, inl, inr, Bool, true, false, Some, None, List, [], ◌∷◌, ◌++◌, map, length, take, drop, slice_set, slice_index_or, refl, sym, ap, ap₂, ◌∙◌, arith}
 use Rattle.std.proofs.lemmas.Bool.{cases_lt, eq-eqb, le-ltb, lt-ltb, ne_eqb}
 use Rattle.std.specs.Prelude.{eqb, ltb}
 use Rattle.lay_node.specs.nodes.Types.{is_there}
@@ -78,6 +78,9 @@ past f (suc i) (x ∷ xs) h = ap (λ ys. f zero x ∷ ys) (past (λ j. f (suc j)
 abbrev pub operand_put : Place → ℕ → List (Op × Expr) → ℕ → Op × Expr → Op × Expr
 operand_put p level xs i x = (x.0, least_in x.1 (operand_at p level (drop (suc i) xs)) Any)
 
+abbrev pub operand_with : Op → Expr → Op × Expr
+operand_with op x = (op, x)
+
 pub operands_put : (p : Place) (level : ℕ) (xs : List (Op × Expr)) → turned (operand_put p level xs) (length xs) xs ≡ operands_least p level xs
 operands_put p level [] = refl
 operands_put p level (x ∷ more) =
@@ -117,6 +120,12 @@ pub before_end : (p : Place) (level : ℕ) (xs : List (Op × Expr)) (i : ℕ) �
     → operand_before p level None ≡ operand_at p level (drop (suc i) xs)
 before_end p level xs i last = at_end p level xs (suc i) (omega (arith, last))
 
+-- an operand of the list that got what it lacks, in its place
+pub operand_told : (p : Place) (level : ℕ) (xs : List (Op × Expr)) (i : ℕ) (x : Op × Expr) (old new : Expr) (at : Place) → old ≡ x.1
+    → at ≡ operand_at p level (drop (suc i) xs) → new ≡ least_in old at Any → operand_with x.0 new ≡ operand_put p level xs i x
+operand_told p level xs i x old new at old_is at_is is =
+    ap (operand_with x.0) (is ∙ ap₂ (λ (e : Expr) (q : Place). least_in e q Any) old_is at_is)
+
 -- ---- targets
 
 -- The flag holds of the first alone.
@@ -126,6 +135,20 @@ first_at first (suc i) = false
 
 abbrev pub target_put : Place → Bool → ℕ → Expr × Op → Expr × Op
 target_put p first i x = (least_in x.0 (before_op 1 p.no_struct (first_at first i) false) Any, x.1)
+
+abbrev pub target_with : Expr → Op → Expr × Op
+target_with x op = (x, op)
+
+-- behind any target the flag doesn't hold
+pub later_at : (first : Bool) (i : ℕ) → false ≡ first_at first (i + 1)
+later_at first i = sym (ap (first_at first) (next i))
+
+-- a target of the list that got what it lacks, in its place
+pub target_told : (p : Place) (first : Bool) (i : ℕ) (x : Expr × Op) (old new : Expr) (at : Place) (now : Bool) → old ≡ x.0
+    → at ≡ before_op 1 p.no_struct now false → now ≡ first_at first i → new ≡ least_in old at Any → target_with new x.1 ≡ target_put p first i x
+target_told p first i x old new at now old_is at_is now_is is =
+    ap (λ (e : Expr). target_with e x.1)
+    (is ∙ ap₂ (λ (e : Expr) (q : Place). least_in e q Any) old_is (at_is ∙ ap (λ (b : Bool). before_op 1 p.no_struct b false) now_is))
 
 later_put : (p : Place) (xs : List (Expr × Op)) → turned (λ i x. target_put p false (suc i) x) (length xs) xs ≡ targets_least p false xs
 later_put p [] = refl
@@ -167,6 +190,11 @@ pub one_alone : (xs : List Link) → eqb (length xs) 1 ≡ is_single xs
 one_alone [] = ne_eqb (length {A = Link} []) 1 (λ h. omega (arith, h))
 one_alone (x ∷ []) = eq-eqb (length (x ∷ [])) 1 (omega arith)
 one_alone (x ∷ y ∷ more) = ne_eqb (length (x ∷ y ∷ more)) 1 (λ h. omega (arith, h))
+
+-- a link of the list that got what it lacks, with what the list says of it
+pub link_told : (xs : List Link) (i : ℕ) (x new : Link) → new ≡ link_least (eqb (length xs) 1) (ltb (i + 1) (length xs)) x
+    → new ≡ link_put (is_single xs) xs i x
+link_told xs i x new is = is ∙ ap₂ (λ (alone more : Bool). link_least alone more x) (one_alone xs) (more_behind xs i)
 
 pub links_put : (alone : Bool) (xs : List Link) → turned (link_put alone xs) (length xs) xs ≡ links_from alone xs
 links_put alone [] = refl

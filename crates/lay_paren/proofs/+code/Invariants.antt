@@ -1,5 +1,7 @@
-use Rattle.std.proofs.Common.{◌≡◌, ◌++◌, map, take, drop}
+use Rattle.std.proofs.Common.{◌≡◌, ◌≤◌, ℕ, ◌++◌, map, take, drop, length, slice_index_or}
 use Rattle.lay_code.specs.nodes.Places.{begins}
+use Rattle.lay_code.specs.declared.exprs.Expr.{Expr}
+use Rattle.lay_code.specs.declared.operators.Op.{Op}
 use Rattle.lay_paren.specs.InPlace.{arm_least, branch_least, exprs_least, field_least, is_single, item_least, step_least, stmt_least}
 use Rattle.lay_paren.proofs.Turning.{first_at, link_put, operand_put, target_put, turned}
 use Rattle.lay_paren.proofs.+code.Given as goal
@@ -42,7 +44,10 @@ invariant-items::place_each_item-loop-item l =
 -- ---- each by its place
 
 abbrev pub invariant-exprs::place_each_operand-loop-index : goal.invariant-exprs::place_each_operand-loop-index
-invariant-exprs::place_each_operand-loop-index l = l.operands ≡ turned (operand_put l.fn.place l.fn.level l.fn.operands) l.index l.fn.operands
+invariant-exprs::place_each_operand-loop-index l =
+    (length l.operands ≡ length l.fn.operands
+    × ((k : ℕ) (d : Op × Expr) → l.index ≤ k → slice_index_or l.operands k d ≡ slice_index_or l.fn.operands k d))
+    × (l.operands ≡ turned (operand_put l.fn.place l.fn.level l.fn.operands) l.index l.fn.operands)
 
 abbrev pub invariant-exprs::place_each_target-loop-target : goal.invariant-exprs::place_each_target-loop-target
 invariant-exprs::place_each_target-loop-target l =
