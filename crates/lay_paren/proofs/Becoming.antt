@@ -1,6 +1,5 @@
 -- What each node becomes, by its kind, and an expression by what fits.
-use Rattle.std.proofs.Common.{◌≡◌, ℕ, suc, ◌+◌, ◌<◌, ◌≤◌, Bool, true, false, not, ◌&&◌, if◌then◌else◌, List, [], ◌∷◌, map, Option, Some, None, is_some, option_map, refl, sym, ap, ap₂, subst, ◌∙◌, arith}
-use Rattle.lay_node.specs.nodes.Types.{is_there}
+use Rattle.std.proofs.Common.{◌≡◌, ℕ, ◌<◌, ◌≤◌, Bool, true, false, ◌&&◌, if◌then◌else◌, List, [], ◌∷◌, map, Option, Some, None, is_some, option_map, refl, sym, ap, ap₂, subst, ◌∙◌, arith}
 use Rattle.lay_node.specs.declared.patterns.Pat.{Pat}
 use Rattle.lay_node.specs.declared.attr.Attr.{Attr}
 use Rattle.lay_node.specs.declared.tokens.MacroCall.{MacroCall}
@@ -17,7 +16,7 @@ use Rattle.lay_code.specs.nodes.Code.{about_expr, about_step}
 use Rattle.std.proofs.lemmas.Bool.{le-leb}
 use Rattle.lay_code.specs.nodes.Blocks.{may_precede_else}
 use Rattle.lay_code.specs.nodes.Exprs.{ExprFacts, may}
-use Rattle.lay_code.specs.nodes.Layers.{ArmNode, BlockNode, BranchNode, ConditionNode, ExprNode, FieldNode, ItemNode, KindNode, LinkNode, StepNode, StmtNode}
+use Rattle.lay_code.specs.nodes.Layers.{ExprNode, FieldNode, KindNode, LinkNode, StepNode, StmtNode}
 use Rattle.lay_code.specs.nodes.Places.{FREE, before_op, begins, link_place, plain, statement}
 use Rattle.lay_code.specs.nodes.PlacesTable.{as_node}
 use Rattle.lay_code.specs.declared.blocks.Arm.{Arm}
@@ -41,14 +40,14 @@ use Rattle.lay_code.specs.declared.item.Item.{Item}
 use Rattle.lay_code.specs.declared.item.ItemKind.{ItemKind}
 use Rattle.lay_code.specs.declared.item.ItemKind.TheVariants as kind
 use Rattle.lay_code.specs.declared.operators.Op.{Op}
-use Rattle.lay_loose.specs.Slots.{Any, BeforeElse, BeforeIndex, Optional, Prefixed, Slot, fits}
+use Rattle.lay_loose.specs.Slots.{Any, BeforeElse, Optional, Prefixed, Slot, fits}
 use Rattle.lay_paren.specs.InPlace.{arm_least, base_least, block_least, block_or_none_least, branch_least, condition_least, exprs_least, field_least, first_place, free_least, item_least, kind_least, least_in, link_least, links_from, links_least, operand_least, operands_least, parts_least, step_least, stmt_least, targets_least, value_slot}
-use Rattle.lay_paren.specs.Least.{chosen, least, least_made, made_of, wrapped}
+use Rattle.lay_paren.specs.Least.{chosen, least, made_of, wrapped}
 use Rattle.lay_form.specs.Depth.{least_depth}
 use Rattle.lay_depth_nodes.specs.Depths.{counted}
-use Rattle.lay_paren.specs.Made.{Made, all, kept, may_be, one}
-use Rattle.lay_paren.specs.Nodes.{arm_parts, block_parts, expr_parts, field_parts, kind_parts, link_parts, step_parts, stmt_parts, made_arm, made_block, made_branch, made_condition, made_field, made_item, made_kind, made_link, made_step, made_stmt}
-use Rattle.lay_paren.specs.Parts.{Linked, Placed, angle_next, arm_made, field_made, kind_made, link_made, step_made, stmt_made, base_place, base_slot, break_slot, condition_links, else_slot, expr_made, free_made, level_by, links_made, may_at, operand_at, operands_made, targets_made}
+use Rattle.lay_paren.specs.Made.{Made, all}
+use Rattle.lay_paren.specs.Nodes.{arm_parts, expr_parts, field_parts, kind_parts, link_parts, step_parts, stmt_parts, made_arm, made_block, made_branch, made_condition, made_field, made_item, made_kind, made_link, made_step, made_stmt}
+use Rattle.lay_paren.specs.Parts.{Linked, Placed, arm_made, field_made, kind_made, link_made, step_made, stmt_made, base_place, base_slot, break_slot, condition_links, expr_made, free_made, level_by, links_made, may_at, operand_at, operands_made, targets_made}
 use Rattle.lay_code.proofs.nodes.ItemLaws as laws
 use Rattle.lay_paren.proofs.MadeFolds as made
 

@@ -6,18 +6,15 @@ use Rattle.lay_code.specs.declared.blocks.Block.{Block}
 use Rattle.lay_code.specs.declared.blocks.Branch.{Branch}
 use Rattle.lay_code.specs.declared.blocks.Stmt.{Stmt}
 use Rattle.lay_code.specs.declared.blocks.Stmt.TheFolds as fold
-use Rattle.lay_code.specs.declared.blocks.Stmt.TheOpen.{Arm-F, Block-F, Branch-F, Condition-F, Expr-F, FieldExpr-F, Item-F, ItemKind-F, Link-F, Step-F, Stmt-F}
 use Rattle.lay_code.specs.declared.blocks.Stmt.TheViews as views
 use Rattle.lay_code.specs.declared.conditions.Condition.{Condition}
-use Rattle.lay_code.specs.declared.conditions.Link.{Link}
-use Rattle.lay_code.specs.declared.exprs.Expr.{Expr}
 use Rattle.lay_code.specs.declared.exprs.FieldExpr.{FieldExpr}
 use Rattle.lay_code.specs.declared.exprs.Step.{Step}
 use Rattle.lay_code.specs.declared.item.Item.{Item}
 use Rattle.lay_code.specs.declared.item.ItemKind.{ItemKind}
 use Rattle.lay_paren.specs.Least.{least_made, made_of}
 use Rattle.lay_paren.specs.Made.{Made}
-use Rattle.lay_paren.specs.Parts.{Linked, Parts, Placed, arm_made, block_made, branch_made, condition_made, field_made, item_made, kind_made, link_made, step_made, stmt_made}
+use Rattle.lay_paren.specs.Parts.{Linked, Placed, arm_made, block_made, branch_made, condition_made, field_made, item_made, kind_made, link_made, step_made, stmt_made}
 use Rattle.lay_paren.specs.Nodes.{arm_parts, block_parts, branch_parts, condition_parts, expr_parts, field_parts, item_parts, kind_parts, link_parts, made_arm, made_block, made_branch, made_condition, made_field, made_item, made_kind, made_link, made_step, made_stmt, step_parts, stmt_parts}
 
 pub stmt_parts_is : (y : StmtNode) → made_stmt (views.roll-Stmt y) ≡ stmt_made (stmt_parts y)

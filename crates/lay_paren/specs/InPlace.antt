@@ -1,5 +1,5 @@
 -- What the parts of a node become where each gets its parentheses, part by part.
-use Rattle.std.specs.Prelude.{ℕ, suc, Bool, true, false, List, [], ◌∷◌, map, Option, Some, None, option_map}
+use Rattle.std.specs.Prelude.{ℕ, suc, Bool, true, false, List, [], ◌∷◌, map, Option, Some, None}
 use Rattle.lay_node.specs.nodes.Types.{is_there}
 use Rattle.lay_code.specs.Operators.{is_angle_op}
 use Rattle.lay_code.specs.nodes.Places.{FREE, before_op, begins}
@@ -20,7 +20,7 @@ use Rattle.lay_code.specs.declared.item.ItemKind.{ItemKind}
 use Rattle.lay_code.specs.declared.operators.Op.{Op}
 use Rattle.lay_loose.specs.Slots as of
 use Rattle.lay_loose.specs.Slots.{Any}
-use Rattle.lay_paren.specs.Least.{least, made_of}
+use Rattle.lay_paren.specs.Least.{made_of}
 use Rattle.lay_paren.specs.Nodes.{expr_parts, made_arm, made_block, made_branch, made_condition, made_field, made_item, made_kind, made_link, made_step, made_stmt}
 use Rattle.lay_paren.specs.Parts.{angle_next, expr_made, level_by, operand_at}
 use Rattle.lay_paren.specs.declared.slots.Slot.{Slot}

@@ -1,5 +1,4 @@
 use Rattle.std.proofs.Common.{◌∙◌, map, ap}
-use Rattle.lay_code.specs.Operands.{ByBlockWord, ByBrace}
 use Rattle.lay_code.specs.nodes.Code.{about_step}
 use Rattle.lay_code.specs.nodes.Exprs.{first_step, is_tuple_index}
 use Rattle.lay_paren.specs.InPlace.{first_place}
