@@ -177,11 +177,13 @@ more_behind xs i = by (cases_lt (i + 1) (length xs))
     there [] n h = absurd (omega (arith, h))
     there (x ∷ xs) zero h = refl
     there (x ∷ xs) (suc n) h = there xs n (omega (arith, h))
+
     not_there : (xs : List Link) (n : ℕ) → length xs ≤ n → is_there (drop n xs) ≡ false
     not_there [] zero h = refl
     not_there [] (suc n) h = refl
     not_there (x ∷ xs) zero h = absurd (omega (arith, h))
     not_there (x ∷ xs) (suc n) h = not_there xs n (omega (arith, h))
+
     by : (i + 1 < length xs) ⊎ (length xs ≤ i + 1) → ltb (i + 1) (length xs) ≡ is_there (drop (suc i) xs)
     by (inl h) = lt-ltb (i + 1) (length xs) h ∙ sym (there xs (suc i) (omega (arith, h)))
     by (inr h) = le-ltb (i + 1) (length xs) h ∙ sym (not_there xs (suc i) (omega (arith, h)))

@@ -25,10 +25,7 @@ pub(crate) fn place_block(alloc: Global, block: &mut Block) -> Result<(), NoMemo
 
 /// The same of a block that may be left out.
 #[cycle(code)]
-pub(crate) fn place_block_or_none(
-    alloc: Global,
-    block: &mut Option<Block>,
-) -> Result<(), NoMemory>
+pub(crate) fn place_block_or_none(alloc: Global, block: &mut Option<Block>) -> Result<(), NoMemory>
     ensures { OnOk result (block.new ≡ block_or_none_least block.old) }
 {
     match block {

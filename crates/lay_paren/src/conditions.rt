@@ -61,5 +61,9 @@ fn place_link(alloc: Global, link: &mut Link, alone: bool, more: bool) -> Result
 fn whole_place(alone: bool, more: bool) -> Place
     ensures { result ≡ (if alone then places.plain 0 true else places.link_place more) }
 {
-    if alone { plain(0, true) } else { link_place(more) }
+    if alone {
+        plain(0, true)
+    } else {
+        link_place(more)
+    }
 }

@@ -227,7 +227,11 @@ fn place_each_operand(
 {
     let count = operands.len();
     for index in 0..count {
-        let next = if index + 1 < count { Some(operands[index + 1].0) } else { None };
+        let next = if index + 1 < count {
+            Some(operands[index + 1].0)
+        } else {
+            None
+        };
         let at = operand_place(next, level, place);
         let operand = &mut operands[index];
         place_expr(alloc, operand.1.get_mut(), at, Slot::Any)?;

@@ -13,10 +13,8 @@ mod exprs;
 mod items;
 mod laws;
 mod leads;
-
 mod places;
 mod slots;
 
 pub use calls::{ParenError, parenthesize};
 pub use laws::parenthesize_law;
-
