@@ -38,7 +38,7 @@ use Rattle.lay_paren.proofs.ExprNeeded.{some_sure}
 use Rattle.lay_paren.proofs.ExprStands.{lowest, part_stands}
 use Rattle.lay_paren.proofs.Kept.{ArmGood, BranchGood, ConditionGood, Kept, KeptExpr, KeptLink, LinkGood, arm_layer, branch_layer, condition_layer, link_layer}
 use Rattle.lay_paren.proofs.LooseFolds.{arm_shielded, branch_shielded, condition_shielded, link_shielded, loose_link}
-use Rattle.lay_paren.proofs.MadeFolds.{arm_parts, branch_parts, condition_parts, link_parts, made_block, made_condition, made_link}
+use Rattle.lay_paren.specs.Nodes.{arm_parts, branch_parts, condition_parts, link_parts, made_block, made_condition, made_link}
 use Rattle.lay_paren.proofs.Within.{maybe_written}
 
 -- ---- links

@@ -20,7 +20,7 @@ use Rattle.lay_paren.specs.LeftOut.{own}
 use Rattle.lay_paren.specs.Least.{made_of}
 use Rattle.lay_paren.specs.Made.{Made}
 use Rattle.lay_paren.specs.Parts.{Placed}
-use Rattle.lay_paren.proofs.MadeFolds.{made_arm, made_block, made_branch, made_condition, made_field, made_item, made_kind, made_link, made_step, made_stmt}
+use Rattle.lay_paren.specs.Nodes.{made_arm, made_block, made_branch, made_condition, made_field, made_item, made_kind, made_link, made_step, made_stmt}
 use Rattle.lay_paren.proofs.OwnFolds.{own_arm, own_block, own_branch, own_condition, own_field, own_item, own_kind, own_link, own_step, own_stmt}
 
 -- The node has no pair of its own: then what is made of it has those that it got.

@@ -32,6 +32,7 @@ use Rattle.lay_paren.specs.Parts.{Linked, condition_links, field_made, free_made
 use Rattle.lay_paren.proofs.Counted.{AllCounted, ArmCounted, BlockCounted, BranchCounted, ConditionCounted, Counted, CountedBlock, CountedCondition, CountedExpr, CountedItem, CountedKind, CountedLink, CountedStmt, FieldCounted, ItemCounted, KindCounted, LinkCounted, StepCounted, StmtCounted, field_layer, kind_layer, link_layer, step_layer, stmt_layer}
 use Rattle.lay_paren.proofs.CountedExprs.{some_counted}
 use Rattle.lay_paren.proofs.CountedParts.{both_bare, free_counted, list_counted, one_bare, trees}
+use Rattle.lay_paren.specs.Nodes as nodes
 use Rattle.lay_paren.proofs.MadeFolds as made
 use Rattle.lay_paren.proofs.OwnFolds as owns
 
@@ -42,7 +43,7 @@ folded of a b m n e f counted h = ap (λ k. of k.result) f ∙ counted (subst (�
 -- ---- fields and steps
 
 abbrev FieldLayer : AllCounted FieldExpr-F → Type 0
-FieldLayer y = Counted owns.own_field (field_made (owns.field_own (field_layer y))) (field_made (made.field_parts (field_layer y)))
+FieldLayer y = Counted owns.own_field (field_made (owns.field_own (field_layer y))) (field_made (nodes.field_parts (field_layer y)))
 
 field_at : (layer : FieldNode) (x : FieldExpr) → views.roll-FieldExpr layer ≡ x → owns.own_field x ≡ field_made (owns.field_own layer)
 field_at layer x rolls = ap owns.own_field (sym rolls) ∙ owns.field_own_is layer
@@ -62,7 +63,7 @@ pub field_counted : (y : AllCounted FieldExpr-F) → FieldCounted (views.roll-Fi
 field_counted y = folded owns.own_field _ _ _ _ (owns.field_own_is (field_layer y)) (made.field_parts_is (field_layer y)) (field_same y)
 
 abbrev StepLayer : AllCounted Step-F → Type 0
-StepLayer y = Counted owns.own_step (step_made (owns.step_own (step_layer y))) (step_made (made.step_parts (step_layer y)))
+StepLayer y = Counted owns.own_step (step_made (owns.step_own (step_layer y))) (step_made (nodes.step_parts (step_layer y)))
 
 step_at : (layer : StepNode) (x : Step) → views.roll-Step layer ≡ x → owns.own_step x ≡ step_made (owns.step_own layer)
 step_at layer x rolls = ap owns.own_step (sym rolls) ∙ owns.step_own_is layer
@@ -91,20 +92,20 @@ step_counted y = folded owns.own_step _ _ _ _ (owns.step_own_is (step_layer y)) 
 -- ---- statements and blocks
 
 abbrev StmtLayer : AllCounted Stmt-F → Type 0
-StmtLayer y = Counted owns.own_stmt (stmt_made (owns.stmt_own (stmt_layer y))) (stmt_made (made.stmt_parts (stmt_layer y)))
+StmtLayer y = Counted owns.own_stmt (stmt_made (owns.stmt_own (stmt_layer y))) (stmt_made (nodes.stmt_parts (stmt_layer y)))
 
 stmt_at : (layer : StmtNode) (x : Stmt) → views.roll-Stmt layer ≡ x → owns.own_stmt x ≡ stmt_made (owns.stmt_own layer)
 stmt_at layer x rolls = ap owns.own_stmt (sym rolls) ∙ owns.stmt_own_is layer
 
 block_some : (b : CountedBlock) → (one Some (owns.own_block b.0)).cuts ≡ []
-    → one Some (owns.own_block (made.made_block b.0).result) ≡ one Some (made.made_block b.0)
+    → one Some (owns.own_block (nodes.made_block b.0).result) ≡ one Some (nodes.made_block b.0)
 block_some b h = ap (one Some) (b.1 (one_bare Some (owns.own_block b.0) h))
 
 stmt_same : (y : AllCounted Stmt-F) → StmtLayer y
 stmt_same (Stmt-F.Stmt::Let attrs pat ty None None) h =
     stmt_at (Stmt-F.Stmt::Let attrs pat ty None None) (stmt.Let attrs pat ty None None) (views.rolls-Stmt::Let attrs pat ty None None)
 stmt_same (Stmt-F.Stmt::Let attrs pat ty None (Some b)) h =
-    let block = (made.made_block b.0).result in
+    let block = (nodes.made_block b.0).result in
     let f = λ (x : Option Expr) (c : Option Block). stmt.Let attrs pat ty x c in
     let c = both_bare f (kept None) (one Some (owns.own_block b.0)) h in
     stmt_at (Stmt-F.Stmt::Let attrs pat ty None (Some block)) (stmt.Let attrs pat ty None (Some block)) (views.rolls-Stmt::Let attrs pat ty None (Some block))
@@ -117,14 +118,14 @@ stmt_same (Stmt-F.Stmt::Let attrs pat ty (Some x) None) h =
     ∙ ap (λ (m : Made (Option Expr)). both f m (kept None)) (some_counted x FREE Any c.0 FREE Any)
 stmt_same (Stmt-F.Stmt::Let attrs pat ty (Some x) (Some b)) h =
     let z = (made_of x.0 FREE BeforeElse).result in
-    let block = (made.made_block b.0).result in
+    let block = (nodes.made_block b.0).result in
     let f = λ (x : Option Expr) (c : Option Block). stmt.Let attrs pat ty x c in
     let c = both_bare f (one Some (own x.0 FREE BeforeElse)) (one Some (owns.own_block b.0)) h in
     stmt_at (Stmt-F.Stmt::Let attrs pat ty (Some z) (Some block)) (stmt.Let attrs pat ty (Some z) (Some block))
     (views.rolls-Stmt::Let attrs pat ty (Some z) (Some block))
     ∙ ap₂ (both f) (some_counted x FREE BeforeElse c.0 FREE BeforeElse) (block_some b c.1)
 stmt_same (Stmt-F.Item i) h =
-    let z = (made.made_item i.0).result in
+    let z = (nodes.made_item i.0).result in
     stmt_at (Stmt-F.Item z) (stmt.Item z) (views.rolls-Item z) ∙ ap (one stmt.Item) (i.1 (one_bare stmt.Item (owns.own_item i.0) h))
 stmt_same (Stmt-F.Stmt::Expr attrs x ended) h =
     let z = (made_of x.0 statement Any).result in
@@ -144,12 +145,12 @@ of_stmts attrs stmts = record { attrs = attrs; stmts = stmts }
 pub block_counted : (attrs : List Attr) (ys : List CountedStmt) → BlockCounted (views.roll-Block (block_node attrs (map (λ (y : CountedStmt). y.0) ys)))
 block_counted attrs ys =
     let xs = map (λ (y : CountedStmt). y.0) ys in
-    let stmts = all (map made.made_stmt xs) in
+    let stmts = all (map nodes.made_stmt xs) in
     folded owns.own_block _ (one (of_stmts attrs) (all (map owns.own_stmt xs))) _ (one (of_stmts attrs) stmts)
     (owns.block_own_is (block_node attrs xs)) (made.block_parts_is (block_node attrs xs))
     (λ h. owns.block_own_is (block_node attrs stmts.result)
     ∙ ap (one (of_stmts attrs))
-    (list_counted StmtCounted owns.own_stmt made.made_stmt (λ x is. is) ys (one_bare (of_stmts attrs) (all (map owns.own_stmt xs)) h)))
+    (list_counted StmtCounted owns.own_stmt nodes.made_stmt (λ x is. is) ys (one_bare (of_stmts attrs) (all (map owns.own_stmt xs)) h)))
 
 -- ---- links and conditions
 
@@ -158,7 +159,7 @@ link_at layer x alone more rolls =
     ap (λ (z : Link). owns.own_link z alone more) (sym rolls) ∙ ap (λ (f : Linked). f alone more) (owns.link_own_is layer)
 
 link_same : (y : AllCounted Link-F) (alone more : Bool)
-    → Counted (λ (z : Link). owns.own_link z alone more) (link_made (owns.link_own (link_layer y)) alone more) (link_made (made.link_parts (link_layer y)) alone more)
+    → Counted (λ (z : Link). owns.own_link z alone more) (link_made (owns.link_own (link_layer y)) alone more) (link_made (nodes.link_parts (link_layer y)) alone more)
 link_same (Link-F.Link::Expr x) alone more h =
     let place = if alone then plain 0 true else link_place more in
     let z = (made_of x.0 place Any).result in
@@ -182,14 +183,14 @@ abbrev own_links : List Link → Made (List Link)
 own_links xs = all (links_made (map owns.own_link xs))
 
 abbrev made_links : List Link → Made (List Link)
-made_links xs = all (links_made (map made.made_link xs))
+made_links xs = all (links_made (map nodes.made_link xs))
 
 -- There are as many links as before.
-there_made : (ys : List CountedLink) → is_there (map owns.own_link (made_links (link_trees ys)).result) ≡ is_there (map made.made_link (link_trees ys))
+there_made : (ys : List CountedLink) → is_there (map owns.own_link (made_links (link_trees ys)).result) ≡ is_there (map nodes.made_link (link_trees ys))
 there_made [] = refl
 there_made (y ∷ ys) = refl
 
-there_own : (ys : List CountedLink) → is_there (map owns.own_link (link_trees ys)) ≡ is_there (map made.made_link (link_trees ys))
+there_own : (ys : List CountedLink) → is_there (map owns.own_link (link_trees ys)) ≡ is_there (map nodes.made_link (link_trees ys))
 there_own [] = refl
 there_own (y ∷ ys) = refl
 
@@ -203,8 +204,8 @@ links_counted (y ∷ z ∷ more) h =
     ap₂ (both (λ w ws. w ∷ ws)) (y.1 false true c.0) (links_counted (z ∷ more) c.1)
 
 conditions_counted : (ys : List CountedLink) → (all (condition_links (map owns.own_link (link_trees ys)))).cuts ≡ []
-    → all (condition_links (map owns.own_link (all (condition_links (map made.made_link (link_trees ys)))).result))
-    ≡ all (condition_links (map made.made_link (link_trees ys)))
+    → all (condition_links (map owns.own_link (all (condition_links (map nodes.made_link (link_trees ys)))).result))
+    ≡ all (condition_links (map nodes.made_link (link_trees ys)))
 conditions_counted [] h = refl
 conditions_counted (y ∷ []) h =
     let c = both_bare (λ z zs. z ∷ zs) (owns.own_link y.0 true false) (kept []) h in
@@ -220,7 +221,7 @@ of_links links = record { links = links }
 pub condition_counted : (ys : List CountedLink) → ConditionCounted (views.roll-Condition (condition_node (link_trees ys)))
 condition_counted ys =
     let mine = all (condition_links (map owns.own_link (link_trees ys))) in
-    let links = all (condition_links (map made.made_link (link_trees ys))) in
+    let links = all (condition_links (map nodes.made_link (link_trees ys))) in
     folded owns.own_condition _ (one of_links mine) _ (one of_links links)
     (owns.condition_own_is (condition_node (link_trees ys))) (made.condition_parts_is (condition_node (link_trees ys)))
     (λ h. owns.condition_own_is (condition_node links.result) ∙ ap (one of_links) (conditions_counted ys (one_bare of_links mine h)))
@@ -235,8 +236,8 @@ of_branch c b = record { condition = c; body = b }
 
 pub branch_counted : (c : CountedCondition) (b : CountedBlock) → BranchCounted (views.roll-Branch (branch_node c.0 b.0))
 branch_counted c b =
-    let m = made.made_condition c.0 in
-    let n = made.made_block b.0 in
+    let m = nodes.made_condition c.0 in
+    let n = nodes.made_block b.0 in
     folded owns.own_branch _ (both of_branch (owns.own_condition c.0) (owns.own_block b.0)) _ (both of_branch m n)
     (owns.branch_own_is (branch_node c.0 b.0)) (made.branch_parts_is (branch_node c.0 b.0))
     (λ h.
@@ -279,17 +280,17 @@ abbrev own_items : List CountedItem → Made (List Item)
 own_items ys = all (map owns.own_item (item_trees ys))
 
 abbrev made_items : List CountedItem → Made (List Item)
-made_items ys = all (map made.made_item (item_trees ys))
+made_items ys = all (map nodes.made_item (item_trees ys))
 
 items_counted : (f : List Item → ItemKind) (ys : List CountedItem) → (one f (own_items ys)).cuts ≡ []
     → one f (all (map owns.own_item (made_items ys).result)) ≡ one f (made_items ys)
 items_counted f ys h =
-    ap (one f) (list_counted ItemCounted owns.own_item made.made_item (λ x is. is) ys (one_bare f (own_items ys) h))
+    ap (one f) (list_counted ItemCounted owns.own_item nodes.made_item (λ x is. is) ys (one_bare f (own_items ys) h))
 
 kind_at : (layer : KindNode) (x : ItemKind) → views.roll-ItemKind layer ≡ x → owns.own_kind x ≡ kind_made (owns.kind_own layer)
 kind_at layer x rolls = ap owns.own_kind (sym rolls) ∙ owns.kind_own_is layer
 
-kind_same : (y : AllCounted ItemKind-F) → Counted owns.own_kind (kind_made (owns.kind_own (kind_layer y))) (kind_made (made.kind_parts (kind_layer y)))
+kind_same : (y : AllCounted ItemKind-F) → Counted owns.own_kind (kind_made (owns.kind_own (kind_layer y))) (kind_made (nodes.kind_parts (kind_layer y)))
 kind_same (ItemKind-F.ExternCrate x) h = kind_at (ItemKind-F.ExternCrate x) (kind.ExternCrate x) (views.rolls-ExternCrate x)
 kind_same (ItemKind-F.Import tree) h = kind_at (ItemKind-F.Import tree) (kind.Import tree) (views.rolls-Import tree)
 kind_same (ItemKind-F.FileModule name) h = kind_at (ItemKind-F.FileModule name) (kind.FileModule name) (views.rolls-FileModule name)
@@ -318,7 +319,7 @@ kind_same (ItemKind-F.Foreign is_unsafe abi attrs items) h =
 kind_same (ItemKind-F.Function head wheres None) h =
     kind_at (ItemKind-F.Function head wheres None) (kind.Function head wheres None) (views.rolls-Function head wheres None)
 kind_same (ItemKind-F.Function head wheres (Some b)) h =
-    let z = (made.made_block b.0).result in
+    let z = (nodes.made_block b.0).result in
     kind_at (ItemKind-F.Function head wheres (Some z)) (kind.Function head wheres (Some z)) (views.rolls-Function head wheres (Some z))
     ∙ ap (one (λ c. kind.Function head wheres c)) (block_some b (one_bare (λ c. kind.Function head wheres c) (one Some (owns.own_block b.0)) h))
 kind_same (ItemKind-F.Value head None) h = kind_at (ItemKind-F.Value head None) (kind.Value head None) (views.rolls-Value head None)
@@ -338,7 +339,7 @@ of_kind attrs vis k = record { attrs = attrs; vis = vis; kind = k }
 
 pub item_counted : (attrs : List Attr) (vis : Vis) (k : CountedKind) → ItemCounted (views.roll-Item (item_node attrs vis k.0))
 item_counted attrs vis k =
-    let m = made.made_kind k.0 in
+    let m = nodes.made_kind k.0 in
     folded owns.own_item _ (one (of_kind attrs vis) (owns.own_kind k.0)) _ (one (of_kind attrs vis) m)
     (owns.item_own_is (item_node attrs vis k.0)) (made.item_parts_is (item_node attrs vis k.0))
     (λ h. owns.item_own_is (item_node attrs vis m.result) ∙ ap (one (of_kind attrs vis)) (k.1 (one_bare (of_kind attrs vis) (owns.own_kind k.0) h)))

@@ -24,7 +24,7 @@ use Rattle.lay_paren.specs.Made.{Made, all, both, kept, one}
 use Rattle.lay_paren.specs.Parts.{Placed, base_place, base_slot, break_slot, expr_made, free_made, operands_made, postfix_made, targets_made}
 use Rattle.lay_paren.proofs.Counted.{AllCounted, ArmCounted, BranchCounted, CountedArm, CountedBranch, CountedExpr, CountedField, CountedStep, FieldCounted, PlacedCounted, StepCounted, expr_layer}
 use Rattle.lay_paren.proofs.CountedParts.{both_bare, free_counted, list_counted, made_operands, made_targets, one_bare, operands_counted, operands_of, own_operands, own_targets, targets_counted, targets_of, trees}
-use Rattle.lay_paren.proofs.MadeFolds.{expr_parts, made_arm, made_block, made_branch, made_condition, made_field, made_step}
+use Rattle.lay_paren.specs.Nodes.{expr_parts, made_arm, made_block, made_branch, made_condition, made_field, made_step}
 use Rattle.lay_paren.proofs.OwnFolds.{expr_own, expr_own_is, own_arm, own_block, own_branch, own_condition, own_field, own_step}
 
 -- ---- lists of parts

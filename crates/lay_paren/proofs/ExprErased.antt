@@ -25,7 +25,7 @@ use Rattle.lay_paren.specs.Parts.{base_place, base_slot, break_slot, expr_made, 
 use Rattle.lay_paren.proofs.ErasedFolds.{arm_erased, branch_erased, expr_without, expr_without_is, field_erased, step_erased}
 use Rattle.lay_paren.proofs.ExprStands.{made_arms, made_branches, made_fields, made_operands, made_steps, made_targets, operands_of, step_trees, told_steps, trees}
 use Rattle.lay_paren.proofs.Kept.{Erases, Kept, KeptArm, KeptBranch, KeptExpr, KeptField, KeptStep, expr_layer}
-use Rattle.lay_paren.proofs.MadeFolds.{expr_parts, made_block, made_condition}
+use Rattle.lay_paren.specs.Nodes.{expr_parts, made_block, made_condition}
 use Rattle.lay_paren.proofs.Steps.{free_erased}
 
 -- ---- lists of parts

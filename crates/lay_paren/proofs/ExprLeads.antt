@@ -16,8 +16,8 @@ use Rattle.lay_paren.specs.Least.{least_made, made_of}
 use Rattle.lay_paren.specs.Parts.{base_place, base_slot, break_slot, operands_made, targets_made}
 use Rattle.lay_paren.proofs.ExprStands.{made_operands, made_steps, made_targets, told_steps}
 use Rattle.lay_paren.proofs.Kept.{Kept, expr_layer}
-use Rattle.lay_paren.proofs.Leads.{AsksRoot, Leads, PartsLead, Test, lead_at, least_lead}
-use Rattle.lay_paren.proofs.MadeFolds.{expr_parts}
+use Rattle.lay_paren.proofs.LeadLemmas.{AsksRoot, Leads, PartsLead, Test, lead_at, least_lead}
+use Rattle.lay_paren.specs.Nodes.{expr_parts}
 use Rattle.lay_paren.proofs.Roots.{weaker_end, weaker_op}
 
 -- what begins two expressions is one thing

@@ -30,8 +30,8 @@ use Rattle.lay_paren.proofs.Choice.{all_weaker, any, Sure, both_all, both_none, 
 use Rattle.lay_paren.proofs.ExprLeads.{parts_lead}
 use Rattle.lay_paren.proofs.ExprStands.{made_arms, made_branches, made_fields, made_operands, made_steps, made_targets, operands_of, step_trees, told_steps, trees}
 use Rattle.lay_paren.proofs.Kept.{ArmIs, BranchIs, FieldIs, Kept, KeptArm, KeptBlock, KeptBranch, KeptExpr, KeptField, KeptStep, Needed, StepIs, expr_layer}
-use Rattle.lay_paren.proofs.Leads.{Apt, misfit}
-use Rattle.lay_paren.proofs.MadeFolds.{expr_parts, made_arm, made_block, made_branch, made_condition, made_field, made_step}
+use Rattle.lay_paren.proofs.LeadLemmas.{Apt, misfit}
+use Rattle.lay_paren.specs.Nodes.{expr_parts, made_arm, made_block, made_branch, made_condition, made_field, made_step}
 use Rattle.lay_paren.proofs.Within as within
 use Rattle.lay_paren.proofs.Roots.{placed_may}
 use Rattle.lay_code.specs.nodes.Layers.{ExprNode}

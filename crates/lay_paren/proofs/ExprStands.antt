@@ -32,7 +32,7 @@ use Rattle.lay_paren.specs.Parts.{base_place, base_slot, expr_made, free_made, o
 use Rattle.lay_paren.proofs.Choice.{chosen_written, in_place, in_slot, refuted, written}
 use Rattle.lay_paren.proofs.Kept.{ArmIs, BranchIs, FieldIs, Kept, KeptArm, KeptBranch, KeptExpr, KeptField, KeptStep, Stands, expr_layer}
 use Rattle.lay_paren.proofs.LooseFolds.{expr_shielded, expr_shielded_is, loose_arm, loose_branch, loose_field, loose_step}
-use Rattle.lay_paren.proofs.MadeFolds.{expr_parts, made_arm, made_block, made_branch, made_condition, made_field, made_step}
+use Rattle.lay_paren.specs.Nodes.{expr_parts, made_arm, made_block, made_branch, made_condition, made_field, made_step}
 use Rattle.lay_paren.proofs.Standing as row
 
 -- the level of a place where nothing is asked

@@ -9,15 +9,16 @@ use Rattle.lay_loose.specs.Loose.{shielded_facts}
 use Rattle.lay_paren.specs.Erased.{without_parens}
 use Rattle.lay_paren.specs.Least.{least_made}
 use Rattle.lay_paren.proofs.Arms.{arm_step, branch_step, condition_step, link_step}
-use Rattle.lay_paren.proofs.Blocks.{block_step, stmt_step}
+use Rattle.lay_paren.proofs.BlockLemmas.{block_step, stmt_step}
 use Rattle.lay_paren.proofs.ErasedFolds as erased
 use Rattle.lay_paren.proofs.ExprErased.{layer_erases}
 use Rattle.lay_paren.proofs.ExprLeads.{layer_leads}
 use Rattle.lay_paren.proofs.ExprNeeded.{layer_needed}
 use Rattle.lay_paren.proofs.ExprStands.{layer_stands}
-use Rattle.lay_paren.proofs.Items.{item_step, kind_step}
+use Rattle.lay_paren.proofs.ItemLemmas.{item_step, kind_step}
 use Rattle.lay_paren.proofs.Kept.{ArmGood, ArmIs, BlockGood, BlockIs, BranchGood, BranchIs, ConditionGood, ConditionIs, ExprGood, ExprIs, FieldGood, FieldIs, ItemGood, ItemIs, Kept, KindGood, KindIs, LinkGood, LinkIs, StepGood, StepIs, StmtGood, StmtIs, arm_layer, block_layer, branch_layer, condition_layer, expr_layer, field_layer, item_layer, kind_layer, link_layer, step_layer, stmt_layer}
 use Rattle.lay_paren.proofs.LooseFolds as loose
+use Rattle.lay_paren.specs.Nodes as nodes
 use Rattle.lay_paren.proofs.MadeFolds as made
 use Rattle.lay_paren.proofs.Steps.{field_step, step_step}
 use Rattle.lay_paren.proofs.Whole.{layer_whole}
@@ -31,7 +32,7 @@ expr_step : (y : Kept Expr-F) → ExprIs (views.roll-Expr (expr_layer y))
 expr_step y =
     let layer = expr_layer y in
     folded (λ l m e. ExprGood l m e (views.roll-Expr layer)) _ (shielded_facts (loose.expr_shielded layer)) _
-    (least_made (made.expr_parts layer)) _ (without_parens (erased.expr_without layer))
+    (least_made (nodes.expr_parts layer)) _ (without_parens (erased.expr_without layer))
     (loose.expr_shielded_is layer) (made.expr_parts_is layer) (erased.expr_without_is layer)
     (record { stands = layer_stands y; whole = layer_whole y; leads = layer_leads y; needed = layer_needed y; erases = layer_erases y })
 

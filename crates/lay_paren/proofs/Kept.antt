@@ -31,9 +31,9 @@ use Rattle.lay_paren.specs.Made.{Made}
 use Rattle.lay_paren.specs.Parts.{Linked, Placed}
 use Rattle.lay_paren.proofs.Choice.{Sure, written}
 use Rattle.lay_paren.proofs.ErasedFolds.{arm_erased, block_erased, branch_erased, condition_erased, field_erased, item_erased, kind_erased, link_erased, step_erased, stmt_erased}
-use Rattle.lay_paren.proofs.Leads.{Apt, Leads}
+use Rattle.lay_paren.proofs.LeadLemmas.{Apt, Leads}
 use Rattle.lay_paren.proofs.LooseFolds.{loose_arm, loose_block, loose_branch, loose_condition, loose_field, loose_item, loose_kind, loose_link, loose_step, loose_stmt}
-use Rattle.lay_paren.proofs.MadeFolds.{made_arm, made_block, made_branch, made_condition, made_field, made_item, made_kind, made_link, made_step, made_stmt}
+use Rattle.lay_paren.specs.Nodes.{made_arm, made_block, made_branch, made_condition, made_field, made_item, made_kind, made_link, made_step, made_stmt}
 
 -- ---- an expression
 

@@ -3,7 +3,7 @@ pub mod MadeFolds
 pub mod ErasedFolds
 pub mod Choice
 pub mod Roots
-pub mod Leads
+pub mod LeadLemmas
 pub mod Kept
 pub mod Standing
 pub mod Within
@@ -11,9 +11,9 @@ pub mod ExprStands
 pub mod ExprLeads
 pub mod ExprNeeded
 pub mod Steps
-pub mod Blocks
+pub mod BlockLemmas
 pub mod Arms
-pub mod Items
+pub mod ItemLemmas
 pub mod ExprErased
 pub mod Whole
 pub mod Family
@@ -28,3 +28,7 @@ pub mod CountedParts
 pub mod CountedExprs
 pub mod CountedBlocks
 pub mod CountedFamily
+pub mod Levels
+pub mod Becoming
+pub mod Beginning
+pub mod Turning

@@ -25,7 +25,7 @@ use Rattle.lay_paren.proofs.ExprNeeded.{free, free_sure}
 use Rattle.lay_paren.proofs.ExprStands.{free_stand, lowest, part_stands, trees}
 use Rattle.lay_paren.proofs.Kept.{FieldGood, Kept, KeptExpr, StepGood, field_layer, step_layer}
 use Rattle.lay_paren.proofs.LooseFolds.{field_shielded, step_shielded}
-use Rattle.lay_paren.proofs.MadeFolds.{field_parts, step_parts}
+use Rattle.lay_paren.specs.Nodes.{field_parts, step_parts}
 use Rattle.lay_paren.specs.Made.{kept, one}
 
 -- ---- expressions without parentheses, in a list

@@ -20,7 +20,7 @@ use Rattle.lay_paren.specs.Parts.{base_place, base_slot, break_slot, expr_made, 
 use Rattle.lay_paren.proofs.ExprStands.{made_arms, made_branches, made_fields, made_operands, made_steps, made_targets, told_steps, trees}
 use Rattle.lay_paren.proofs.Kept.{Kept, Whole, expr_layer}
 use Rattle.lay_paren.proofs.LooseFolds.{expr_shielded}
-use Rattle.lay_paren.proofs.MadeFolds.{expr_parts, made_block, made_condition}
+use Rattle.lay_paren.specs.Nodes.{expr_parts, made_block, made_condition}
 
 -- as a whole the expression is what this tells
 record Alike (x : Expr) (told : ExprFacts) : Type 0 where

@@ -6,6 +6,15 @@
 //! be left out.
 #![tactic(auto)]
 
+mod blocks;
+mod calls;
+mod conditions;
+mod exprs;
+mod items;
 mod laws;
+mod leads;
+mod places;
+mod slots;
 
+pub use calls::{ParenError, parenthesize};
 pub use laws::parenthesize_law;

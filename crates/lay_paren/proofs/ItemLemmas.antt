@@ -36,7 +36,7 @@ use Rattle.lay_paren.proofs.ExprNeeded.{else_block, some_sure}
 use Rattle.lay_paren.proofs.ExprStands.{lowest, nodes_stand, part_stands}
 use Rattle.lay_paren.proofs.Kept.{ItemGood, ItemIs, Kept, KeptItem, KindGood, item_layer, kind_layer}
 use Rattle.lay_paren.proofs.LooseFolds.{item_shielded, kind_shielded, loose_item}
-use Rattle.lay_paren.proofs.MadeFolds.{item_parts, kind_parts, made_block, made_item, made_kind}
+use Rattle.lay_paren.specs.Nodes.{item_parts, kind_parts, made_block, made_item, made_kind}
 use Rattle.lay_paren.proofs.Within.{maybe_written}
 
 -- ---- items in a list

@@ -33,7 +33,7 @@ use Rattle.lay_paren.proofs.ExprNeeded.{else_block, some_sure}
 use Rattle.lay_paren.proofs.ExprStands.{lowest, part_fits, part_stands}
 use Rattle.lay_paren.proofs.Kept.{BlockGood, Kept, KeptBlock, KeptStmt, StmtGood, StmtIs, block_layer, stmt_layer}
 use Rattle.lay_paren.proofs.LooseFolds.{block_shielded, loose_block, loose_stmt, stmt_shielded}
-use Rattle.lay_paren.proofs.MadeFolds.{block_parts, made_block, made_item, made_stmt, stmt_parts}
+use Rattle.lay_paren.specs.Nodes.{block_parts, made_block, made_item, made_stmt, stmt_parts}
 use Rattle.lay_paren.proofs.Within.{maybe_written}
 
 -- ---- statements

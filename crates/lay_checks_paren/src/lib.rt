@@ -1,0 +1,9 @@
+//! The tests of least parentheses. They stand here for the reason that lay_checks gives.
+//!
+//! `trees` puts trees together that have no pair where one is lacking, and `rows` holds what is made of them, printed.
+#![tactic(auto)]
+
+#[cfg(test)]
+mod rows;
+#[cfg(test)]
+mod trees;

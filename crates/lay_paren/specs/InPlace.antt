@@ -1,0 +1,133 @@
+-- What the parts of a node become where each gets its parentheses, part by part.
+use Rattle.std.specs.Prelude.{ℕ, suc, Bool, true, false, List, [], ◌∷◌, map, Option, Some, None}
+use Rattle.lay_node.specs.nodes.Types.{is_there}
+use Rattle.lay_code.specs.Operators.{is_angle_op}
+use Rattle.lay_code.specs.nodes.Places.{FREE, before_op, begins}
+use Rattle.lay_code.specs.nodes.PlacesTable.{as_node}
+use Rattle.lay_code.specs.declared.blocks.Arm.{Arm}
+use Rattle.lay_code.specs.declared.blocks.Block.{Block}
+use Rattle.lay_code.specs.declared.blocks.Branch.{Branch}
+use Rattle.lay_code.specs.declared.blocks.Stmt.{Stmt}
+use Rattle.lay_code.specs.declared.blocks.Stmt.TheViews as views
+use Rattle.lay_code.specs.declared.conditions.Condition.{Condition}
+use Rattle.lay_code.specs.declared.conditions.Link.{Link}
+use Rattle.lay_code.specs.declared.exprs.Expr.{Expr}
+use Rattle.lay_code.specs.declared.exprs.FieldExpr.{FieldExpr}
+use Rattle.lay_code.specs.declared.exprs.Place.{Place}
+use Rattle.lay_code.specs.declared.exprs.Step.{Step}
+use Rattle.lay_code.specs.declared.item.Item.{Item}
+use Rattle.lay_code.specs.declared.item.ItemKind.{ItemKind}
+use Rattle.lay_code.specs.declared.operators.Op.{Op}
+use Rattle.lay_loose.specs.Slots as of
+use Rattle.lay_loose.specs.Slots.{Any}
+use Rattle.lay_paren.specs.Least.{made_of}
+use Rattle.lay_paren.specs.Nodes.{expr_parts, made_arm, made_block, made_branch, made_condition, made_field, made_item, made_kind, made_link, made_step, made_stmt}
+use Rattle.lay_paren.specs.Parts.{angle_next, expr_made, level_by, operand_at}
+use Rattle.lay_paren.specs.declared.slots.Slot.{Slot}
+use Rattle.lay_paren.specs.declared.slots.Slot.TheVariants as slot
+
+-- the slots that code asks after beforehand: all but the one before an `else`
+abbrev pub slot_of : Slot → of.Slot
+slot_of slot.Any = Any
+slot_of slot.Prefixed = of.Prefixed
+slot_of slot.Optional = of.Optional
+slot_of slot.Unlabelled = of.Unlabelled
+slot_of slot.BeforeIndex = of.BeforeIndex
+
+-- the slot of the value of a statement, before an `else` or without one
+abbrev pub value_slot : Bool → of.Slot
+value_slot true = of.BeforeElse
+value_slot false = Any
+
+-- ---- expressions
+
+-- the expression with the parentheses that it lacks in this place and this slot
+unfoldable pub least_in : Expr → Place → of.Slot → Expr
+least_in x place slot = (made_of x place slot).result
+
+-- the expression where its parts alone get theirs, since it stands in this place
+unfoldable pub parts_least : Place → Expr → Expr
+parts_least place x = (expr_made place (expr_parts (views.out-Expr x))).result
+
+-- within delimiters
+abbrev pub free_least : Expr → Expr
+free_least x = least_in x FREE Any
+
+abbrev pub exprs_least : List Expr → List Expr
+exprs_least xs = map free_least xs
+
+abbrev pub operand_least : Place → of.Slot → Option Expr → Option Expr
+operand_least place slot None = None
+operand_least place slot (Some x) = Some (least_in x place slot)
+
+abbrev pub base_least : Option (Option Expr) → Option (Option Expr)
+base_least None = None
+base_least (Some x) = Some (operand_least FREE Any x)
+
+-- the place of the first operand, before the others
+abbrev pub first_place : Place → List (Op × Expr) → Place
+first_place p rest = before_op (suc (level_by rest)) p.no_struct (begins p.start) (angle_next rest)
+
+-- the place of an operand behind an operator of this level, before a further operator or without one
+abbrev pub operand_before : Place → ℕ → Option Op → Place
+operand_before p level None = as_node p (suc level)
+operand_before p level (Some o) = before_op (suc level) p.no_struct false (is_angle_op o)
+
+-- the operands behind operators of this level
+abbrev pub operands_least : Place → ℕ → List (Op × Expr) → List (Op × Expr)
+operands_least place level [] = []
+operands_least place level (x ∷ more) = (x.0, least_in x.1 (operand_at place level more) Any) ∷ operands_least place level more
+
+-- The flag says that the first of the targets begins a part of what begins a statement.
+abbrev pub targets_least : Place → Bool → List (Expr × Op) → List (Expr × Op)
+targets_least place first [] = []
+targets_least place first (x ∷ more) = (least_in x.0 (before_op 1 place.no_struct first false) Any, x.1) ∷ targets_least place false more
+
+-- ---- other nodes
+
+unfoldable pub field_least : FieldExpr → FieldExpr
+field_least x = (made_field x).result
+
+unfoldable pub step_least : Step → Step
+step_least x = (made_step x).result
+
+unfoldable pub stmt_least : Stmt → Stmt
+stmt_least x = (made_stmt x).result
+
+unfoldable pub block_least : Block → Block
+block_least x = (made_block x).result
+
+unfoldable pub branch_least : Branch → Branch
+branch_least x = (made_branch x).result
+
+unfoldable pub arm_least : Arm → Arm
+arm_least x = (made_arm x).result
+
+unfoldable pub condition_least : Condition → Condition
+condition_least x = (made_condition x).result
+
+-- The flags say that the link is a condition by itself, and that a further link follows.
+unfoldable pub link_least : Bool → Bool → Link → Link
+link_least alone more x = (made_link x alone more).result
+
+unfoldable pub item_least : Item → Item
+item_least x = (made_item x).result
+
+unfoldable pub kind_least : ItemKind → ItemKind
+kind_least x = (made_kind x).result
+
+abbrev pub block_or_none_least : Option Block → Option Block
+block_or_none_least None = None
+block_or_none_least (Some x) = Some (block_least x)
+
+-- a link is a condition by itself where there is one alone
+abbrev pub is_single : List Link → Bool
+is_single (x ∷ []) = true
+is_single _ = false
+
+abbrev pub links_from : Bool → List Link → List Link
+links_from alone [] = []
+links_from alone (x ∷ more) = link_least alone (is_there more) x ∷ links_from alone more
+
+abbrev pub links_least : List Link → List Link
+links_least links = links_from (is_single links) links
