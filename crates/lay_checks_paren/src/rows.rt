@@ -26,7 +26,6 @@ const ROWS: &str =
     §p..b←a..→(a..)..b§..p←a..b→..(a..b)§a..p←b=c→a..(b = c)§p..←a=b→(a = b)..§a=p←b=c→a = (b = c)§p=a←b..→(b..) = a\
     §-p←p as T←a+b→-((a + b) as T)§match p{}←-p←S{}→match -(S {}) {}§match p{}←|x|p←S{}→match |x| (S {}) {}§return p←p+a←{}→return {} + a";
 
-
 /// The tree of a row: nodes behind one another, each within the one before it.
 fn tree(alloc: Global, given: &str) -> Option<Expr> {
     match given.split_once('←') {
@@ -92,8 +91,22 @@ fn places(rt: HostRuntime) -> Result<(), Fail> {
     assert!(rt; is_made_of(alloc, "a + b", plain(9, false), "a + b"));
     assert!(rt; is_made_of(alloc, "a + b", plain(10, false), "(a + b)"));
     assert!(rt; is_made_of(alloc, "return", plain(12, false), "return"));
-    assert!(rt; is_made_of(alloc, "return", before_op(12, false, false, false), "(return)"));
-    assert!(rt; is_made_of(alloc, "loop {}", before_op(9, false, true, false), "(loop {})"));
+    assert!(rt;
+        is_made_of(
+            alloc,
+            "return",
+            before_op(12, false, false, false),
+            "(return)"
+        )
+    );
+    assert!(rt;
+        is_made_of(
+            alloc,
+            "loop {}",
+            before_op(9, false, true, false),
+            "(loop {})"
+        )
+    );
     assert!(rt; is_made_of(alloc, "loop {}", STATEMENT, "loop {}"));
     Ok(())
 }

@@ -17,10 +17,20 @@ pub(crate) fn file(alloc: Global, value: &str) -> Option<File> {
 
 /// The expression that a text reads to.
 pub(crate) fn expr(alloc: Global, text: &str) -> Option<Expr> {
-    let file = file(alloc, text)?;
-    let item = file.items.into_vec().pop()?;
-    match item.kind.into_inner() {
-        ItemKind::Value { value, .. } => Some(value?.into_inner()),
+    let mut file = file(alloc, text)?;
+    match file.items.as_mut_slice() {
+        [item] => taken(item.kind.get_mut()),
+        _ => None,
+    }
+}
+
+/// Takes the value out of a constant.
+fn taken(kind: &mut ItemKind) -> Option<Expr> {
+    match kind {
+        ItemKind::Value { value, .. } => {
+            let value = mem::replace(value, None)?;
+            Some(value.into_inner())
+        },
         _ => None,
     }
 }
@@ -77,8 +87,14 @@ fn put(node: &mut Expr, part: &mut Expr) {
         | Expr::Cast { operand: there, .. }
         | Expr::Closure { body: there, .. }
         | Expr::Postfix { base: there, .. }
-        | Expr::Match { scrutinee: there, .. }
-        | Expr::For { iterated: there, .. } => swap_in(there.get_mut(), part),
+        | Expr::Match {
+            scrutinee: there,
+            ..
+        }
+        | Expr::For {
+            iterated: there,
+            ..
+        } => swap_in(there.get_mut(), part),
         Expr::Chain { first, rest } => {
             swap_in(first.get_mut(), part);
             put_operand(rest.as_mut_slice(), part);
