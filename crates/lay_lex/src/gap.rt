@@ -162,6 +162,7 @@ impl InBlock {
 }
 
 /// What follows the longest gap at the front; nothing where a gap ends the whole text.
+#[inline(always)]
 pub fn after_gap(s: &str) -> Option<&str>
     ensures { Leaves (rest_of Outside (chars s.now) (chars s.now)) result }
 {

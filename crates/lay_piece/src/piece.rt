@@ -26,6 +26,7 @@ pub struct Piece {
 /// The piece that stands at the front of a text, if one does (Rust Reference, "Tokens").
 ///
 /// `index` says that the text follows the `.` of a field, where digits may be the index of a tuple's field.
+#[inline(always)]
 pub fn piece_at(rest: &str, index: bool) -> Option<Piece>
     ensures found { IfSome result (λ p. (piece more : List ℕ) × (chars rest.now ≡ piece ++ more)
         × Had p.kind piece more index × (p.len ≡ length (encode_utf8_all piece))) }
