@@ -1,5 +1,8 @@
 //! Whether parts are enclosed.
 ghost use Rattle.std.specs.Prelude.{◌≡◌, Bool, true, false};
+ghost use Rattle.lay_enclose.specs.Enclosed.{is_bare};
+
+use lay_code::Expr;
 
 /// Whether each part of a tree is taken as if it stood in parentheses.
 pub trait Enclose {
@@ -31,4 +34,11 @@ impl Enclose for Enclosed {
     fn on() -> bool {
         true
     }
+}
+
+/// Whether the body of an arm or of a closure stands as it is: a block without a label.
+pub fn is_bare(expr: &Expr) -> bool
+    ensures { result ≡ is_bare expr.now }
+{
+    matches!(expr, Expr::Block { label: None, .. })
 }
