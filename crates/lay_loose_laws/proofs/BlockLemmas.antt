@@ -8,12 +8,10 @@ use Rattle.lay_node.specs.declared.heads.Site.TheVariants.{Module}
 use Rattle.lay_node.specs.declared.patterns.Pat.{Pat}
 use Rattle.lay_node.specs.declared.patterns.PatPlace.TheVariants.{Alternatives, Single}
 use Rattle.lay_code.specs.nodes.Blocks.{arm_facts, block_facts, branch_facts, is_lone, may_precede_else, stmt_facts, stmts_good}
-use Rattle.lay_code.specs.nodes.Code.{about_link, about_stmt}
+use Rattle.lay_code.specs.nodes.Code.{about_expr, about_link, about_stmt}
 use Rattle.lay_code.specs.nodes.CodeFacts.{ArmFacts, BlockFacts, BranchFacts, ConditionFacts, LinkFacts, StmtFacts}
-use Rattle.lay_code.specs.nodes.Conditions.{condition_facts, condition_good, has_let, link_facts, links_good}
-use Rattle.lay_code.specs.nodes.Exprs.{placed}
+use Rattle.lay_code.specs.nodes.Conditions.{condition_facts, condition_good, has_let, let_link_good, link_facts, links_good}
 use Rattle.lay_code.specs.nodes.Layers.{ArmNode, BlockNode, BranchNode, ConditionNode, LinkNode, StmtNode}
-use Rattle.lay_code.specs.nodes.Places.{link_place, plain}
 use Rattle.lay_code.specs.declared.blocks.Arm.{Arm}
 use Rattle.lay_code.specs.declared.blocks.Block.{Block}
 use Rattle.lay_code.specs.declared.blocks.Branch.{Branch}
@@ -28,10 +26,11 @@ use Rattle.lay_code.specs.declared.exprs.Expr.{Expr}
 use Rattle.lay_code.specs.declared.item.Item.{Item}
 use Rattle.lay_code.proofs.nodes.BlocksLaws.{arm_is, block_is, branch_is, condition_is, link_expr_is, link_let_is, stmt_expr_is, stmt_item_is, stmt_let_is}
 use Rattle.lay_enclose.specs.Enclosed.{arm_shell, block_shell, body_part, branch_shell, condition_shell, enclose, enclose_block, enclose_condition, enclose_item, enclose_link, enclose_stmt, link_shell, part, stmt_shell}
+use Rattle.lay_loose.specs.Loose.{loose_about}
 use Rattle.lay_paren.proofs.ErasedFolds.{arm_without, arm_without_is, block_without, block_without_is, branch_without, branch_without_is, condition_without, condition_without_is, link_erased, link_without, link_without_is, stmt_erased, stmt_without, stmt_without_is}
 use Rattle.lay_paren.proofs.LooseFolds.{arm_shielded, block_shielded, branch_shielded, condition_shielded, link_shielded, loose_link, loose_stmt, stmt_shielded}
 use Rattle.lay_loose_laws.proofs.Kept.{ArmGood, BlockGood, BranchGood, ConditionGood, Kept, KeptExpr, KeptLink, KeptStmt, LinkGood, LinkIs, StmtGood, StmtIs, arm_layer, block_layer, branch_layer, condition_layer, link_layer, stmt_layer}
-use Rattle.lay_loose_laws.proofs.PartLemmas.{asked, at_free, body_erased, body_lone, body_whole, nodes_erased, part_erased, whole}
+use Rattle.lay_loose_laws.proofs.PartLemmas.{asked, at, at_free, at_link, body_erased, body_lone, body_whole, nodes_erased, part_erased, whole}
 
 -- ---- statements
 
@@ -151,19 +150,17 @@ pub link_step : (y : Kept Link-F)
     → LinkGood (link_facts (link_shielded (link_layer y))) (link_shell true (link_layer y)) (views.roll-Link (link_without (link_layer y)))
 link_step (Link-F.Link::Expr x) =
     let z = part true x.0 in
-    like_link (link.Expr z) _ _ _ (link_expr_is z) refl
-    (asked x (λ F. placed F (plain 0 true)) (λ F. placed F (plain 0 true)) (λ a b stands block_like kind. refl))
-    (λ more. asked x (λ F. placed F (link_place more)) (λ F. placed F (link_place more)) (λ a b stands block_like kind. refl))
+    like_link (link.Expr z) _ _ _ (link_expr_is z) refl (at x 0 true) (at_link x)
     (link_out (Link-F.Link::Expr z) (link.Expr z) (views.rolls-Link::Expr z)
     ∙ ap (λ (w : Expr). views.roll-Link (Link-F.Link::Expr w)) (part_erased x))
 link_step (Link-F.Link::Let pat x) =
     let z = part true x.0 in
-    let good = λ (more : Bool).
-        ap (λ (b : Bool). pat_good Alternatives (about_pat pat) && b)
-        (asked x (λ F. placed F (link_place more)) (λ F. placed F (link_place more)) (λ a b stands block_like kind. refl)) in
-    like_link (link.Let pat z) _ _ _ (link_let_is pat z) refl (good false) good
+    like_link (link.Let pat z) _ _ _ (link_let_is pat z) refl (behind_let false) behind_let
     (link_out (Link-F.Link::Let pat z) (link.Let pat z) (views.rolls-Link::Let pat z)
     ∙ ap (λ (w : Expr). views.roll-Link (Link-F.Link::Let pat w)) (part_erased x))
+  where
+    behind_let : (more : Bool) → let_link_good pat (about_expr (part true x.0)) more ≡ let_link_good pat (loose_about x.0) more
+    behind_let more = ap (λ (b : Bool). pat_good Alternatives (about_pat pat) && b) (at_link x more)
 
 -- ---- conditions
 
@@ -204,7 +201,7 @@ condition_node links = record { links = links }
 
 pub condition_step : (y : Kept Condition-F)
     → ConditionGood (condition_facts (condition_shielded (condition_layer y))) (condition_shell true (condition_layer y))
-      (views.roll-Condition (condition_without (condition_layer y)))
+    (views.roll-Condition (condition_without (condition_layer y)))
 condition_step y = record {
   good = ap (λ (F : ConditionFacts). F.good) (condition_is (of_links (links y.links))) ∙ condition_alike y.links;
   erases =

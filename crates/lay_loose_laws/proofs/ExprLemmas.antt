@@ -13,8 +13,7 @@ use Rattle.lay_code.specs.Operators.{is_angle_op, op_level}
 use Rattle.lay_code.specs.nodes.Bodies.{is_lone_body, is_macro}
 use Rattle.lay_code.specs.nodes.Code.{about_arm, about_branch, about_expr, about_field_expr, about_step}
 use Rattle.lay_code.specs.nodes.CodeFacts.{ArmFacts, BranchFacts}
-use Rattle.lay_code.specs.nodes.Exprs.{ExprFacts, StepFacts, StepKind, arms_good, are_steps, branches_good, break_placed, end_placed, expr_facts, first_step, is_call, is_chain_level, is_closure_param, is_dotted, is_field, is_tuple_index, may_chain, operand_placed, operands_placed, placed, targets_placed, types_good}
-use Rattle.lay_code.specs.nodes.Places.{plain}
+use Rattle.lay_code.specs.nodes.Exprs.{ExprFacts, StepFacts, StepKind, arms_good, are_steps, branches_good, break_placed, end_placed, expr_facts, first_step, is_call, is_chain_level, is_closure_param, is_dotted, is_field, is_tuple_index, may_chain, operand_placed, operands_placed, targets_placed, types_good}
 use Rattle.lay_code.specs.declared.blocks.Arm.{Arm}
 use Rattle.lay_code.specs.declared.blocks.Branch.{Branch}
 use Rattle.lay_code.specs.declared.blocks.Stmt.TheOpen.{Expr-F}
@@ -28,7 +27,7 @@ use Rattle.lay_enclose.specs.Enclosed.{body_part, enclose_arm, enclose_block, en
 use Rattle.lay_loose.specs.Loose.{loose_about}
 use Rattle.lay_paren.proofs.LooseFolds.{expr_shielded, loose_arm, loose_branch, loose_field, loose_step}
 use Rattle.lay_loose_laws.proofs.Kept.{ArmIs, BranchIs, FieldIs, Kept, KeptArm, KeptBranch, KeptExpr, KeptField, KeptStep, expr_layer}
-use Rattle.lay_loose_laws.proofs.PartLemmas.{all_placed, asked, at_free, before, body_free, body_sheds, nodes_good, parts}
+use Rattle.lay_loose_laws.proofs.PartLemmas.{all_placed, asked, at, at_free, before, body_free, body_sheds, nodes_good, parts}
 
 both : (a b c d : Bool) → a ≡ b → c ≡ d → (a && c) ≡ (b && d)
 both a b c d e f = ap₂ (λ (x y : Bool). x && y) e f
@@ -52,7 +51,7 @@ operands_alike : (level : ℕ) (ys : List (Op × KeptExpr))
 operands_alike level [] = refl
 operands_alike level (y ∷ []) =
     ap (λ (b : Bool). (op_level y.0 == level) && b && true)
-    (asked y.1 (λ F. placed F (plain (suc level) false)) (λ F. placed F (plain (suc level) false)) (λ a b stands block_like kind. refl))
+    (at y.1 (suc level) false)
 operands_alike level (y ∷ z ∷ more) =
     ap₂ (λ (b c : Bool). (op_level y.0 == level) && b && c) (before y.1 (suc level) false (is_angle_op z.0)) (operands_alike level (z ∷ more))
 
@@ -220,7 +219,7 @@ expr_alike (Expr-F.Assign ys x) =
     let z = part true x.0 in
     like (expr.Assign (targets ys) z) _ _ (laws.expr_assign_is (targets ys) z)
     (λ first. both _ _ _ _ (both _ _ _ _ (targets_there ys) (targets_alike first ys))
-    (asked x (λ F. placed F (plain 1 false)) (λ F. placed F (plain 1 false)) (λ a b stands block_like kind. refl))) refl refl refl
+    (at x 1 false)) refl refl refl
 expr_alike (Expr-F.Postfix x ys) =
     let z = part true x.0 in
     like (expr.Postfix z (steps ys)) _ _ (laws.expr_postfix_is z (steps ys))
@@ -255,7 +254,7 @@ expr_alike (Expr-F.Match x attrs ys) =
     let z = part true x.0 in
     like (expr.Match z attrs (arms ys)) _ _ (laws.expr_match_is z attrs (arms ys))
     (λ first. ap₂ (λ (b c : Bool). b && are_attrs true attrs && c)
-    (asked x (λ F. placed F (plain 0 true)) (λ F. placed F (plain 0 true)) (λ a b stands block_like kind. refl)) (arms_alike ys)) refl refl refl
+    (at x 0 true) (arms_alike ys)) refl refl refl
 expr_alike (Expr-F.Loop label b) =
     let c = enclose_block true b.0 in
     like (expr.Loop label c) _ _ (laws.expr_loop_is label c) (λ first. b.1.good) refl refl refl
@@ -268,7 +267,7 @@ expr_alike (Expr-F.For label pat x b) =
     let c = enclose_block true b.0 in
     like (expr.For label pat z c) _ _ (laws.expr_for_is label pat z c)
     (λ first. ap₂ (λ (a d : Bool). pat_good Alternatives (about_pat pat) && a && d)
-    (asked x (λ F. placed F (plain 0 true)) (λ F. placed F (plain 0 true)) (λ a b stands block_like kind. refl)) b.1.good) refl refl refl
+    (at x 0 true) b.1.good) refl refl refl
 expr_alike (Expr-F.Closure is_async moves params x) =
     let z = body_part true x.0 in
     like (expr.Closure is_async moves params z) _ _ (laws.expr_closure_is is_async moves params z)

@@ -6,7 +6,7 @@ use Rattle.lay_code.specs.nodes.Bodies.{BlockBody, BodyKind, MacroBody, OtherBod
 use Rattle.lay_code.specs.nodes.Code.{about_expr}
 use Rattle.lay_code.specs.nodes.Exprs.{ExprFacts, all_free, body_kind, expr_facts, placed}
 use Rattle.lay_code.specs.nodes.Layers.{ExprNode}
-use Rattle.lay_code.specs.nodes.Places.{FREE, before_op, statement}
+use Rattle.lay_code.specs.nodes.Places.{FREE, before_op, link_place, plain, statement}
 use Rattle.lay_code.specs.declared.blocks.Stmt.TheOpen.{Expr-F}
 use Rattle.lay_code.specs.declared.blocks.Stmt.TheViews as views
 use Rattle.lay_code.specs.declared.exprs.Expr.{Expr}
@@ -70,8 +70,16 @@ asked x f g alike =
     ∙ alike (about_expr (enclosed x.0)) (within_shield x.0) (stood x) (within_shield x.0).block_like (within_shield x.0).kind
     ∙ sym (ap g (loose_told x))
 
+pub at : (x : KeptExpr) (level : ℕ) (no_struct : Bool)
+    → placed (about_expr (part true x.0)) (plain level no_struct) ≡ placed (loose_about x.0) (plain level no_struct)
+at x level no_struct =
+    asked x (λ F. placed F (plain level no_struct)) (λ F. placed F (plain level no_struct)) (λ a b stands block_like kind. refl)
+
 pub at_free : (x : KeptExpr) → placed (about_expr (part true x.0)) FREE ≡ placed (loose_about x.0) FREE
-at_free x = asked x (λ F. placed F FREE) (λ F. placed F FREE) (λ a b stands block_like kind. refl)
+at_free x = at x 0 false
+
+pub at_link : (x : KeptExpr) (more : Bool) → placed (about_expr (part true x.0)) (link_place more) ≡ placed (loose_about x.0) (link_place more)
+at_link x more = asked x (λ F. placed F (link_place more)) (λ F. placed F (link_place more)) (λ a b stands block_like kind. refl)
 
 -- Nor is anything else asked of it where it begins a statement.
 pub before : (x : KeptExpr) (level : ℕ) (first angle : Bool)
