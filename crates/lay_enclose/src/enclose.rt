@@ -1,5 +1,8 @@
 //! Whether parts are enclosed.
-ghost use Rattle.std.specs.Prelude.{◌≡◌, Bool, true, false};
+ghost use Rattle.std.specs.Prelude.{◌≡◌, ◌&&◌, not, Bool, true, false};
+ghost use Rattle.lay_enclose.specs.Enclosed.{is_bare};
+
+use lay_code::Expr;
 
 /// Whether each part of a tree is taken as if it stood in parentheses.
 pub trait Enclose {
@@ -30,5 +33,22 @@ impl Enclose for Enclosed {
 
     fn on() -> bool {
         true
+    }
+}
+
+/// Whether the body of an arm or of a closure gets parentheses: each but a block without a label does, where parts do.
+pub fn is_body_enclosed<X: Enclose>(body: &Expr) -> bool
+    ensures { result ≡ (X.on && not (is_bare body.now)) }
+{
+    X::on() && !is_bare_block(body)
+}
+
+/// Whether it is a block without a label.
+fn is_bare_block(body: &Expr) -> bool
+    ensures { result ≡ is_bare body.now }
+{
+    match body {
+        Expr::Block { label, .. } => label.is_none(),
+        _ => false,
     }
 }
