@@ -36,19 +36,16 @@ impl Enclose for Enclosed {
     }
 }
 
-/// Whether the body of an arm or of a closure gets parentheses: each but a block without a label does, where parts do.
+/// Whether the body of an arm or of a closure stands as it is: a block without a label.
+pub fn is_bare(expr: &Expr) -> bool
+    ensures { result ≡ is_bare expr.now }
+{
+    matches!(expr, Expr::Block { label: None, .. })
+}
+
+/// Whether the body of an arm or of a closure gets parentheses: where parts do, each does that doesn't stand as it is.
 pub fn is_body_enclosed<X: Enclose>(body: &Expr) -> bool
     ensures { result ≡ (X.on && not (is_bare body.now)) }
 {
-    X::on() && !is_bare_block(body)
-}
-
-/// Whether it is a block without a label.
-fn is_bare_block(body: &Expr) -> bool
-    ensures { result ≡ is_bare body.now }
-{
-    match body {
-        Expr::Block { label, .. } => label.is_none(),
-        _ => false,
-    }
+    X::on() && !is_bare(body)
 }
