@@ -1,5 +1,5 @@
 //! Whether parts are enclosed.
-ghost use Rattle.std.specs.Prelude.{◌≡◌, Bool, true, false};
+ghost use Rattle.std.specs.Prelude.{◌≡◌, ◌&&◌, not, Bool, true, false};
 ghost use Rattle.lay_enclose.specs.Enclosed.{is_bare};
 
 use lay_code::Expr;
@@ -41,4 +41,11 @@ pub fn is_bare(expr: &Expr) -> bool
     ensures { result ≡ is_bare expr.now }
 {
     matches!(expr, Expr::Block { label: None, .. })
+}
+
+/// Whether the body of an arm or of a closure gets parentheses: where parts do, each does that doesn't stand as it is.
+pub fn is_body_enclosed<X: Enclose>(body: &Expr) -> bool
+    ensures { result ≡ (X.on && not (is_bare body.now)) }
+{
+    X::on() && !is_bare(body)
 }

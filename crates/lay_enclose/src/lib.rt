@@ -7,4 +7,4 @@
 
 mod enclose;
 
-pub use enclose::{AsIs, Enclose, Enclosed, is_bare};
+pub use enclose::{AsIs, Enclose, Enclosed, is_bare, is_body_enclosed};
