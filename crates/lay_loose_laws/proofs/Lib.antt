@@ -5,4 +5,7 @@ pub mod ExprErased
 pub mod StepLemmas
 pub mod BlockLemmas
 pub mod ItemLemmas
+pub mod Closed
 pub mod Family
+pub mod ConstantLemmas
+pub mod EnclosedLemmas
