@@ -8,4 +8,10 @@ pub mod ItemLemmas
 pub mod Closed
 pub mod Family
 pub mod ConstantLemmas
+pub mod DepthKept
+pub mod DepthParts
+pub mod DepthExprs
+pub mod DepthBlocks
+pub mod DepthItems
+pub mod DepthFamily
 pub mod EnclosedLemmas
