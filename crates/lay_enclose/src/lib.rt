@@ -1,10 +1,11 @@
 //! Trees of expressions in which each part stands in parentheses.
 //!
-//! Whether a tree lacks nothing but parentheses is told by the text that it has with parentheses round each of its parts: where these
-//! are, no place and no slot refuses a part. `specs/Enclosed` says which tree that is. What goes over a tree as it is, or over what it
-//! is with them, is written once, for each [`Enclose`].
+//! Where each part of a tree stands in parentheses, no place and no slot refuses one: so the tree can be written as a constant's value exactly
+//! where it lacks nothing but parentheses. `specs/Enclosed` says what a tree becomes so: each part gets a pair, save the whole of a statement
+//! and, as the body of an arm or of a closure, a block without a label. `specs/Constant` is the constant. [`shell_law`] says how the tree is
+//! made of its parts.
 #![tactic(auto)]
 
-mod enclose;
+mod laws;
 
-pub use enclose::{AsIs, Enclose, Enclosed, is_bare, is_body_enclosed};
+pub use laws::shell_law;
