@@ -3,10 +3,7 @@ use Rattle.std.proofs.Common.{◌≡◌, ◌+◌, ◌*◌, ◌≤◌, inl, inr, 
 use Rattle.lay_node.specs.declared.attr.Attr.{Attr}
 use Rattle.lay_node.specs.declared.patterns.Pat.{Pat}
 use Rattle.lay_code.specs.declared.blocks.Stmt.TheOpen.{Arm-F, Block-F, Branch-F, Condition-F, FieldExpr-F, Link-F, Step-F, Stmt-F}
-use Rattle.lay_code.specs.declared.blocks.Stmt.TheVariants as stmt
 use Rattle.lay_code.specs.declared.blocks.Stmt.TheViews as views
-use Rattle.lay_code.specs.declared.conditions.Link.TheVariants as link
-use Rattle.lay_code.specs.declared.exprs.FieldExpr.TheVariants as field
 use Rattle.lay_code.specs.declared.exprs.Step.{Step}
 use Rattle.lay_code.specs.declared.exprs.Step.TheVariants as step
 use Rattle.lay_enclose.specs.Enclosed.{arm_shell, block_shell, branch_shell, condition_shell, enclose_block, enclose_item, enclosed, field_shell, link_shell, part, step_shell, stmt_shell}
@@ -19,17 +16,17 @@ use Rattle.lay_loose_laws.proofs.DepthParts.{body_deep, exprs_deep, links_deep, 
 
 pub field_step : (y : AllDeep FieldExpr-F) → field_depth (field_shell true (field_layer y)) ≤ 2 * field_depth (views.roll-FieldExpr (field_layer y)) + 1
 field_step (FieldExpr-F.Named attrs name x) =
-    let before = exprs.field_value_is (views.roll-FieldExpr (FieldExpr-F.Named attrs name x.0)) x.0 (inl (attrs, name, (views.rolls-Named attrs name x.0))) in
-    let now = exprs.field_value_is (field.Named attrs name (part true x.0)) (part true x.0) (inl (attrs, name, refl)) in
+    let before = exprs.field_value_is _ x.0 (inl (attrs, name, (views.rolls-Named attrs name x.0))) in
+    let now = exprs.field_value_is _ (part true x.0) (inl (attrs, name, refl)) in
     let m = part_deep x in
     omega (arith, before, now, m)
 field_step (FieldExpr-F.Numbered attrs index x) =
-    let before = exprs.field_value_is (views.roll-FieldExpr (FieldExpr-F.Numbered attrs index x.0)) x.0 (inr (attrs, index, (views.rolls-Numbered attrs index x.0))) in
-    let now = exprs.field_value_is (field.Numbered attrs index (part true x.0)) (part true x.0) (inr (attrs, index, refl)) in
+    let before = exprs.field_value_is _ x.0 (inr (attrs, index, (views.rolls-Numbered attrs index x.0))) in
+    let now = exprs.field_value_is _ (part true x.0) (inr (attrs, index, refl)) in
     let m = part_deep x in
     omega (arith, before, now, m)
 field_step (FieldExpr-F.Short attrs name) =
-    let now = exprs.short_is (field.Short attrs name) attrs name refl in
+    let now = exprs.short_is _ attrs name refl in
     omega (arith, now)
 
 -- ---- steps
@@ -44,23 +41,23 @@ step_step (Step-F.TupleIndex index) = leaf_step (step.TupleIndex index) (views.r
 step_step Step-F.Try = leaf_step step.Try (views.roll-Step Step-F.Try) views.rolls-Try
 step_step Step-F.Await = leaf_step step.Await (views.roll-Step Step-F.Await) views.rolls-Await
 step_step (Step-F.Method name None args) =
-    let before = exprs.bare_method_is (views.roll-Step (Step-F.Method name None (trees args))) name None (trees args) (views.rolls-Method name None (trees args)) refl in
-    let now = exprs.bare_method_is (step.Method name None (map (part true) (trees args))) name None (map (part true) (trees args)) refl refl in
+    let before = exprs.bare_method_is _ name None (trees args) (views.rolls-Method name None (trees args)) refl in
+    let now = exprs.bare_method_is _ name None (map (part true) (trees args)) refl refl in
     let m = exprs_deep args in
     omega (arith, before, now, m)
 step_step (Step-F.Method name (Some given) args) =
-    let before = exprs.given_method_is (views.roll-Step (Step-F.Method name (Some given) (trees args))) name (Some given) (trees args) given (views.rolls-Method name (Some given) (trees args)) refl in
-    let now = exprs.given_method_is (step.Method name (Some given) (map (part true) (trees args))) name (Some given) (map (part true) (trees args)) given refl refl in
+    let before = exprs.given_method_is _ name (Some given) (trees args) given (views.rolls-Method name (Some given) (trees args)) refl in
+    let now = exprs.given_method_is _ name (Some given) (map (part true) (trees args)) given refl refl in
     let m = exprs_deep args in
     omega (arith, before, now, m)
 step_step (Step-F.Apply args) =
-    let before = exprs.apply_is (views.roll-Step (Step-F.Apply (trees args))) (trees args) (views.rolls-Apply (trees args)) in
-    let now = exprs.apply_is (step.Apply (map (part true) (trees args))) (map (part true) (trees args)) refl in
+    let before = exprs.apply_is _ (trees args) (views.rolls-Apply (trees args)) in
+    let now = exprs.apply_is _ (map (part true) (trees args)) refl in
     let m = exprs_deep args in
     omega (arith, before, now, m)
 step_step (Step-F.Index x) =
-    let before = exprs.index_is (views.roll-Step (Step-F.Index x.0)) x.0 (views.rolls-Index x.0) in
-    let now = exprs.index_is (step.Index (part true x.0)) (part true x.0) refl in
+    let before = exprs.index_is _ x.0 (views.rolls-Index x.0) in
+    let now = exprs.index_is _ (part true x.0) refl in
     let m = part_deep x in
     omega (arith, before, now, m)
 
@@ -68,33 +65,33 @@ step_step (Step-F.Index x) =
 
 pub stmt_step : (y : AllDeep Stmt-F) → stmt_depth (stmt_shell true (stmt_layer y)) ≤ 2 * stmt_depth (views.roll-Stmt (stmt_layer y)) + 1
 stmt_step (Stmt-F.Stmt::Let attrs pat ty None None) =
-    let before = of.let_alone_is (views.roll-Stmt (Stmt-F.Stmt::Let attrs pat ty None None)) attrs pat ty None None (views.rolls-Stmt::Let attrs pat ty None None) refl in
-    let now = of.let_alone_is (stmt.Let attrs pat ty None None) attrs pat ty None None refl refl in
+    let before = of.let_alone_is _ attrs pat ty None None (views.rolls-Stmt::Let attrs pat ty None None) refl in
+    let now = of.let_alone_is _ attrs pat ty None None refl refl in
     omega (arith, before, now)
 stmt_step (Stmt-F.Stmt::Let attrs pat ty None (Some c)) =
-    let before = of.let_else_is (views.roll-Stmt (Stmt-F.Stmt::Let attrs pat ty None (Some c.0))) attrs pat ty None (Some c.0) c.0 (views.rolls-Stmt::Let attrs pat ty None (Some c.0)) refl in
-    let now = of.let_else_is (stmt.Let attrs pat ty None (Some (enclose_block true c.0))) attrs pat ty None (Some (enclose_block true c.0)) (enclose_block true c.0) refl refl in
+    let before = of.let_else_is _ attrs pat ty None (Some c.0) c.0 (views.rolls-Stmt::Let attrs pat ty None (Some c.0)) refl in
+    let now = of.let_else_is _ attrs pat ty None (Some (enclose_block true c.0)) (enclose_block true c.0) refl refl in
     let n = c.1 in
     omega (arith, before, now, n)
 stmt_step (Stmt-F.Stmt::Let attrs pat ty (Some x) None) =
-    let before = of.let_alone_is (views.roll-Stmt (Stmt-F.Stmt::Let attrs pat ty (Some x.0) None)) attrs pat ty (Some x.0) None (views.rolls-Stmt::Let attrs pat ty (Some x.0) None) refl in
-    let now = of.let_alone_is (stmt.Let attrs pat ty (Some (part true x.0)) None) attrs pat ty (Some (part true x.0)) None refl refl in
+    let before = of.let_alone_is _ attrs pat ty (Some x.0) None (views.rolls-Stmt::Let attrs pat ty (Some x.0) None) refl in
+    let now = of.let_alone_is _ attrs pat ty (Some (part true x.0)) None refl refl in
     let m = part_deep x in
     omega (arith, before, now, m)
 stmt_step (Stmt-F.Stmt::Let attrs pat ty (Some x) (Some c)) =
-    let before = of.let_else_is (views.roll-Stmt (Stmt-F.Stmt::Let attrs pat ty (Some x.0) (Some c.0))) attrs pat ty (Some x.0) (Some c.0) c.0 (views.rolls-Stmt::Let attrs pat ty (Some x.0) (Some c.0)) refl in
-    let now = of.let_else_is (stmt.Let attrs pat ty (Some (part true x.0)) (Some (enclose_block true c.0))) attrs pat ty (Some (part true x.0)) (Some (enclose_block true c.0)) (enclose_block true c.0) refl refl in
+    let before = of.let_else_is _ attrs pat ty (Some x.0) (Some c.0) c.0 (views.rolls-Stmt::Let attrs pat ty (Some x.0) (Some c.0)) refl in
+    let now = of.let_else_is _ attrs pat ty (Some (part true x.0)) (Some (enclose_block true c.0)) (enclose_block true c.0) refl refl in
     let m = part_deep x in
     let n = c.1 in
     omega (arith, before, now, m, n)
 stmt_step (Stmt-F.Item item) =
-    let before = of.item_is (views.roll-Stmt (Stmt-F.Item item.0)) item.0 (views.rolls-Item item.0) in
-    let now = of.item_is (stmt.Item (enclose_item true item.0)) (enclose_item true item.0) refl in
+    let before = of.item_is _ item.0 (views.rolls-Item item.0) in
+    let now = of.item_is _ (enclose_item true item.0) refl in
     let m = item.1 in
     omega (arith, before, now, m)
 stmt_step (Stmt-F.Stmt::Expr attrs x ended) =
-    let before = of.expr_is (views.roll-Stmt (Stmt-F.Stmt::Expr attrs x.0 ended)) attrs x.0 ended (views.rolls-Stmt::Expr attrs x.0 ended) in
-    let now = of.expr_is (stmt.Expr attrs (enclosed x.0) ended) attrs (enclosed x.0) ended refl in
+    let before = of.expr_is _ attrs x.0 ended (views.rolls-Stmt::Expr attrs x.0 ended) in
+    let now = of.expr_is _ attrs (enclosed x.0) ended refl in
     let m = x.1 in
     omega (arith, before, now, m)
 
@@ -109,17 +106,18 @@ block_step y =
 
 pub link_step : (y : AllDeep Link-F) → link_depth (link_shell true (link_layer y)) ≤ 2 * link_depth (views.roll-Link (link_layer y)) + 1
 link_step (Link-F.Link::Expr x) =
-    let before = of.expr_link_is (views.roll-Link (Link-F.Link::Expr x.0)) x.0 (views.rolls-Link::Expr x.0) in
-    let now = of.expr_link_is (link.Expr (part true x.0)) (part true x.0) refl in
+    let before = of.expr_link_is _ x.0 (views.rolls-Link::Expr x.0) in
+    let now = of.expr_link_is _ (part true x.0) refl in
     let m = part_deep x in
     omega (arith, before, now, m)
 link_step (Link-F.Link::Let pat x) =
-    let before = of.let_link_is (views.roll-Link (Link-F.Link::Let pat x.0)) pat x.0 (views.rolls-Link::Let pat x.0) in
-    let now = of.let_link_is (link.Let pat (part true x.0)) pat (part true x.0) refl in
+    let before = of.let_link_is _ pat x.0 (views.rolls-Link::Let pat x.0) in
+    let now = of.let_link_is _ pat (part true x.0) refl in
     let m = part_deep x in
     omega (arith, before, now, m)
 
-pub condition_step : (y : AllDeep Condition-F) → condition_depth (condition_shell true (condition_layer y)) ≤ 2 * condition_depth (views.roll-Condition (condition_layer y)) + 1
+pub condition_step : (y : AllDeep Condition-F)
+    → condition_depth (condition_shell true (condition_layer y)) ≤ 2 * condition_depth (views.roll-Condition (condition_layer y)) + 1
 condition_step y =
     let before = of.condition_is (views.roll-Condition (condition_layer y)) in
     let now = of.condition_is (condition_shell true (condition_layer y)) in

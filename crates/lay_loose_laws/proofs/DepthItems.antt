@@ -24,41 +24,41 @@ kind_step (ItemKind-F.Enum x) = leaf_step (kind.Enum x) (views.roll-ItemKind (It
 kind_step (ItemKind-F.MacroRules name rules) = leaf_step (kind.MacroRules name rules) (views.roll-ItemKind (ItemKind-F.MacroRules name rules)) (views.rolls-MacroRules name rules)
 kind_step (ItemKind-F.ItemKind::Call call) = leaf_step (kind.Call call) (views.roll-ItemKind (ItemKind-F.ItemKind::Call call)) (views.rolls-ItemKind::Call call)
 kind_step (ItemKind-F.Module name attrs all) =
-    let before = of.listed_is (views.roll-ItemKind (ItemKind-F.Module name attrs (items all))) (items all) (inl (name, attrs, (views.rolls-Module name attrs (items all)))) in
-    let now = of.listed_is (kind.Module name attrs (map (enclose_item true) (items all))) (map (enclose_item true) (items all)) (inl (name, attrs, refl)) in
+    let before = of.listed_is _ (items all) (inl (name, attrs, (views.rolls-Module name attrs (items all)))) in
+    let now = of.listed_is _ (map (enclose_item true) (items all)) (inl (name, attrs, refl)) in
     let m = items_deep all in
     omega (arith, before, now, m)
 kind_step (ItemKind-F.Function head wheres None) =
-    let before = of.function_is (views.roll-ItemKind (ItemKind-F.Function head wheres None)) head wheres None (views.rolls-Function head wheres None) in
-    let now = of.function_is (kind.Function head wheres None) head wheres None refl in
+    let before = of.function_is _ head wheres None (views.rolls-Function head wheres None) in
+    let now = of.function_is _ head wheres None refl in
     omega (arith, before, now)
 kind_step (ItemKind-F.Function head wheres (Some b)) =
-    let before = of.function_is (views.roll-ItemKind (ItemKind-F.Function head wheres (Some b.0))) head wheres (Some b.0) (views.rolls-Function head wheres (Some b.0)) in
-    let now = of.function_is (kind.Function head wheres (Some (enclose_block true b.0))) head wheres (Some (enclose_block true b.0)) refl in
+    let before = of.function_is _ head wheres (Some b.0) (views.rolls-Function head wheres (Some b.0)) in
+    let now = of.function_is _ head wheres (Some (enclose_block true b.0)) refl in
     let m = b.1 in
     omega (arith, before, now, m)
 kind_step (ItemKind-F.Value head None) =
-    let before = of.valued_is (views.roll-ItemKind (ItemKind-F.Value head None)) head None (views.rolls-Value head None) in
-    let now = of.valued_is (kind.Value head None) head None refl in
+    let before = of.valued_is _ head None (views.rolls-Value head None) in
+    let now = of.valued_is _ head None refl in
     omega (arith, before, now)
 kind_step (ItemKind-F.Value head (Some x)) =
-    let before = of.valued_is (views.roll-ItemKind (ItemKind-F.Value head (Some x.0))) head (Some x.0) (views.rolls-Value head (Some x.0)) in
-    let now = of.valued_is (kind.Value head (Some (part true x.0))) head (Some (part true x.0)) refl in
+    let before = of.valued_is _ head (Some x.0) (views.rolls-Value head (Some x.0)) in
+    let now = of.valued_is _ head (Some (part true x.0)) refl in
     let m = part_deep x in
     omega (arith, before, now, m)
 kind_step (ItemKind-F.Trait head wheres attrs all) =
-    let before = of.trait_is (views.roll-ItemKind (ItemKind-F.Trait head wheres attrs (items all))) head wheres attrs (items all) (views.rolls-Trait head wheres attrs (items all)) in
-    let now = of.trait_is (kind.Trait head wheres attrs (map (enclose_item true) (items all))) head wheres attrs (map (enclose_item true) (items all)) refl in
+    let before = of.trait_is _ head wheres attrs (items all) (views.rolls-Trait head wheres attrs (items all)) in
+    let now = of.trait_is _ head wheres attrs (map (enclose_item true) (items all)) refl in
     let m = items_deep all in
     omega (arith, before, now, m)
 kind_step (ItemKind-F.Impl head wheres attrs all) =
-    let before = of.impl_is (views.roll-ItemKind (ItemKind-F.Impl head wheres attrs (items all))) head wheres attrs (items all) (views.rolls-Impl head wheres attrs (items all)) in
-    let now = of.impl_is (kind.Impl head wheres attrs (map (enclose_item true) (items all))) head wheres attrs (map (enclose_item true) (items all)) refl in
+    let before = of.impl_is _ head wheres attrs (items all) (views.rolls-Impl head wheres attrs (items all)) in
+    let now = of.impl_is _ head wheres attrs (map (enclose_item true) (items all)) refl in
     let m = items_deep all in
     omega (arith, before, now, m)
 kind_step (ItemKind-F.Foreign is_unsafe abi attrs all) =
-    let before = of.listed_is (views.roll-ItemKind (ItemKind-F.Foreign is_unsafe abi attrs (items all))) (items all) (inr (is_unsafe, abi, attrs, (views.rolls-Foreign is_unsafe abi attrs (items all)))) in
-    let now = of.listed_is (kind.Foreign is_unsafe abi attrs (map (enclose_item true) (items all))) (map (enclose_item true) (items all)) (inr (is_unsafe, abi, attrs, refl)) in
+    let before = of.listed_is _ (items all) (inr (is_unsafe, abi, attrs, (views.rolls-Foreign is_unsafe abi attrs (items all)))) in
+    let now = of.listed_is _ (map (enclose_item true) (items all)) (inr (is_unsafe, abi, attrs, refl)) in
     let m = items_deep all in
     omega (arith, before, now, m)
 

@@ -130,45 +130,56 @@ abbrev pub AllDeep : (Type 0 → Type 0 → Type 0 → Type 0 → Type 0 → Typ
 AllDeep F = F DeepStmt DeepLink DeepExpr DeepField DeepStep DeepKind DeepArm DeepBlock DeepBranch DeepCondition DeepItem
 
 abbrev pub stmt_layer : AllDeep Stmt-F → StmtNode
-stmt_layer y = fold.map-Stmt DeepStmt DeepLink DeepExpr DeepField DeepStep DeepKind DeepArm DeepBlock DeepBranch DeepCondition DeepItem Stmt Link Expr FieldExpr Step ItemKind Arm Block Branch Condition Item
+stmt_layer y = fold.map-Stmt DeepStmt DeepLink DeepExpr DeepField DeepStep DeepKind DeepArm DeepBlock DeepBranch DeepCondition DeepItem
+    Stmt Link Expr FieldExpr Step ItemKind Arm Block Branch Condition Item
     (λ y. y.0) (λ y. y.0) (λ y. y.0) (λ y. y.0) (λ y. y.0) (λ y. y.0) (λ y. y.0) (λ y. y.0) (λ y. y.0) (λ y. y.0) (λ y. y.0) y
 
 abbrev pub link_layer : AllDeep Link-F → LinkNode
-link_layer y = fold.map-Link DeepStmt DeepLink DeepExpr DeepField DeepStep DeepKind DeepArm DeepBlock DeepBranch DeepCondition DeepItem Stmt Link Expr FieldExpr Step ItemKind Arm Block Branch Condition Item
+link_layer y = fold.map-Link DeepStmt DeepLink DeepExpr DeepField DeepStep DeepKind DeepArm DeepBlock DeepBranch DeepCondition DeepItem
+    Stmt Link Expr FieldExpr Step ItemKind Arm Block Branch Condition Item
     (λ y. y.0) (λ y. y.0) (λ y. y.0) (λ y. y.0) (λ y. y.0) (λ y. y.0) (λ y. y.0) (λ y. y.0) (λ y. y.0) (λ y. y.0) (λ y. y.0) y
 
 abbrev pub expr_layer : AllDeep Expr-F → ExprNode
-expr_layer y = fold.map-Expr DeepStmt DeepLink DeepExpr DeepField DeepStep DeepKind DeepArm DeepBlock DeepBranch DeepCondition DeepItem Stmt Link Expr FieldExpr Step ItemKind Arm Block Branch Condition Item
+expr_layer y = fold.map-Expr DeepStmt DeepLink DeepExpr DeepField DeepStep DeepKind DeepArm DeepBlock DeepBranch DeepCondition DeepItem
+    Stmt Link Expr FieldExpr Step ItemKind Arm Block Branch Condition Item
     (λ y. y.0) (λ y. y.0) (λ y. y.0) (λ y. y.0) (λ y. y.0) (λ y. y.0) (λ y. y.0) (λ y. y.0) (λ y. y.0) (λ y. y.0) (λ y. y.0) y
 
 abbrev pub field_layer : AllDeep FieldExpr-F → FieldNode
-field_layer y = fold.map-FieldExpr DeepStmt DeepLink DeepExpr DeepField DeepStep DeepKind DeepArm DeepBlock DeepBranch DeepCondition DeepItem Stmt Link Expr FieldExpr Step ItemKind Arm Block Branch Condition Item
+field_layer y = fold.map-FieldExpr DeepStmt DeepLink DeepExpr DeepField DeepStep DeepKind DeepArm DeepBlock DeepBranch DeepCondition DeepItem
+    Stmt Link Expr FieldExpr Step ItemKind Arm Block Branch Condition Item
     (λ y. y.0) (λ y. y.0) (λ y. y.0) (λ y. y.0) (λ y. y.0) (λ y. y.0) (λ y. y.0) (λ y. y.0) (λ y. y.0) (λ y. y.0) (λ y. y.0) y
 
 abbrev pub step_layer : AllDeep Step-F → StepNode
-step_layer y = fold.map-Step DeepStmt DeepLink DeepExpr DeepField DeepStep DeepKind DeepArm DeepBlock DeepBranch DeepCondition DeepItem Stmt Link Expr FieldExpr Step ItemKind Arm Block Branch Condition Item
+step_layer y = fold.map-Step DeepStmt DeepLink DeepExpr DeepField DeepStep DeepKind DeepArm DeepBlock DeepBranch DeepCondition DeepItem
+    Stmt Link Expr FieldExpr Step ItemKind Arm Block Branch Condition Item
     (λ y. y.0) (λ y. y.0) (λ y. y.0) (λ y. y.0) (λ y. y.0) (λ y. y.0) (λ y. y.0) (λ y. y.0) (λ y. y.0) (λ y. y.0) (λ y. y.0) y
 
 abbrev pub kind_layer : AllDeep ItemKind-F → KindNode
-kind_layer y = fold.map-ItemKind DeepStmt DeepLink DeepExpr DeepField DeepStep DeepKind DeepArm DeepBlock DeepBranch DeepCondition DeepItem Stmt Link Expr FieldExpr Step ItemKind Arm Block Branch Condition Item
+kind_layer y = fold.map-ItemKind DeepStmt DeepLink DeepExpr DeepField DeepStep DeepKind DeepArm DeepBlock DeepBranch DeepCondition DeepItem
+    Stmt Link Expr FieldExpr Step ItemKind Arm Block Branch Condition Item
     (λ y. y.0) (λ y. y.0) (λ y. y.0) (λ y. y.0) (λ y. y.0) (λ y. y.0) (λ y. y.0) (λ y. y.0) (λ y. y.0) (λ y. y.0) (λ y. y.0) y
 
 abbrev pub arm_layer : AllDeep Arm-F → ArmNode
-arm_layer y = fold.map-Arm DeepStmt DeepLink DeepExpr DeepField DeepStep DeepKind DeepArm DeepBlock DeepBranch DeepCondition DeepItem Stmt Link Expr FieldExpr Step ItemKind Arm Block Branch Condition Item
+arm_layer y = fold.map-Arm DeepStmt DeepLink DeepExpr DeepField DeepStep DeepKind DeepArm DeepBlock DeepBranch DeepCondition DeepItem
+    Stmt Link Expr FieldExpr Step ItemKind Arm Block Branch Condition Item
     (λ y. y.0) (λ y. y.0) (λ y. y.0) (λ y. y.0) (λ y. y.0) (λ y. y.0) (λ y. y.0) (λ y. y.0) (λ y. y.0) (λ y. y.0) (λ y. y.0) y
 
 abbrev pub block_layer : AllDeep Block-F → BlockNode
-block_layer y = fold.map-Block DeepStmt DeepLink DeepExpr DeepField DeepStep DeepKind DeepArm DeepBlock DeepBranch DeepCondition DeepItem Stmt Link Expr FieldExpr Step ItemKind Arm Block Branch Condition Item
+block_layer y = fold.map-Block DeepStmt DeepLink DeepExpr DeepField DeepStep DeepKind DeepArm DeepBlock DeepBranch DeepCondition DeepItem
+    Stmt Link Expr FieldExpr Step ItemKind Arm Block Branch Condition Item
     (λ y. y.0) (λ y. y.0) (λ y. y.0) (λ y. y.0) (λ y. y.0) (λ y. y.0) (λ y. y.0) (λ y. y.0) (λ y. y.0) (λ y. y.0) (λ y. y.0) y
 
 abbrev pub branch_layer : AllDeep Branch-F → BranchNode
-branch_layer y = fold.map-Branch DeepStmt DeepLink DeepExpr DeepField DeepStep DeepKind DeepArm DeepBlock DeepBranch DeepCondition DeepItem Stmt Link Expr FieldExpr Step ItemKind Arm Block Branch Condition Item
+branch_layer y = fold.map-Branch DeepStmt DeepLink DeepExpr DeepField DeepStep DeepKind DeepArm DeepBlock DeepBranch DeepCondition DeepItem
+    Stmt Link Expr FieldExpr Step ItemKind Arm Block Branch Condition Item
     (λ y. y.0) (λ y. y.0) (λ y. y.0) (λ y. y.0) (λ y. y.0) (λ y. y.0) (λ y. y.0) (λ y. y.0) (λ y. y.0) (λ y. y.0) (λ y. y.0) y
 
 abbrev pub condition_layer : AllDeep Condition-F → ConditionNode
-condition_layer y = fold.map-Condition DeepStmt DeepLink DeepExpr DeepField DeepStep DeepKind DeepArm DeepBlock DeepBranch DeepCondition DeepItem Stmt Link Expr FieldExpr Step ItemKind Arm Block Branch Condition Item
+condition_layer y = fold.map-Condition DeepStmt DeepLink DeepExpr DeepField DeepStep DeepKind DeepArm DeepBlock DeepBranch DeepCondition DeepItem
+    Stmt Link Expr FieldExpr Step ItemKind Arm Block Branch Condition Item
     (λ y. y.0) (λ y. y.0) (λ y. y.0) (λ y. y.0) (λ y. y.0) (λ y. y.0) (λ y. y.0) (λ y. y.0) (λ y. y.0) (λ y. y.0) (λ y. y.0) y
 
 abbrev pub item_layer : AllDeep Item-F → ItemNode
-item_layer y = fold.map-Item DeepStmt DeepLink DeepExpr DeepField DeepStep DeepKind DeepArm DeepBlock DeepBranch DeepCondition DeepItem Stmt Link Expr FieldExpr Step ItemKind Arm Block Branch Condition Item
+item_layer y = fold.map-Item DeepStmt DeepLink DeepExpr DeepField DeepStep DeepKind DeepArm DeepBlock DeepBranch DeepCondition DeepItem
+    Stmt Link Expr FieldExpr Step ItemKind Arm Block Branch Condition Item
     (λ y. y.0) (λ y. y.0) (λ y. y.0) (λ y. y.0) (λ y. y.0) (λ y. y.0) (λ y. y.0) (λ y. y.0) (λ y. y.0) (λ y. y.0) (λ y. y.0) y
