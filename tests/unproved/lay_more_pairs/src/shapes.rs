@@ -20,10 +20,15 @@ pub fn expr(alloc: Global, text: &str) -> Option<Expr> {
     let mut all = repeated(alloc, b"const A:B=", 1).ok()?;
     all.extend_from_slice(text.as_bytes()).ok()?;
     all.extend_from_slice(b";").ok()?;
-    let file = read_bytes(alloc, all.as_slice()).ok()?;
-    let item = file.items.into_vec().pop()?;
-    match item.kind.into_inner() {
-        ItemKind::Value { head: _, value } => Some(value?.into_inner()),
+    let mut file = read_bytes(alloc, all.as_slice()).ok()?;
+    match file.items.as_mut_slice() {
+        [item] => match item.kind.get_mut() {
+            ItemKind::Value { value, .. } => {
+                let value = mem::replace(value, None)?;
+                Some(value.into_inner())
+            },
+            _ => None,
+        },
         _ => None,
     }
 }
