@@ -1,9 +1,4 @@
 pub mod BlockLemmas
-pub mod BranchLemmas
 pub mod DocLemmas
-pub mod ExprLemmas
 pub mod FileLemmas
 pub mod ItemLemmas
-pub mod JoinLemmas
-pub mod NumberLemmas
-pub mod PostfixLemmas
