@@ -1,5 +1,5 @@
 //! Fields, methods and calls.
-ghost use Rattle.std.specs.Prelude.{◌≡◌, ◌++◌, ◌∷◌, [], ◌+◌, ◌≤◌};
+ghost use Rattle.std.specs.Prelude.{◌≡◌, ◌∷◌, [], ◌+◌, ◌≤◌};
 ghost use Rattle.lay_form.specs.Depth.{least_depth};
 ghost use Rattle.lay_code.specs.Reading.{top};
 ghost use Rattle.lay_code.specs.nodes.Code.{about_step};
@@ -11,9 +11,10 @@ ghost use Rattle.lay_build_exprs.specs.Parts.{WithNeed};
 
 use crate::operands::{callee, operand};
 use lay_build_types::{BuildError, BuiltExpr, BuiltName, both, boxed, keep, kept, nodes, one};
-use lay_code::{Boxed, Expr, Step};
+use lay_code::{Expr, Step};
 use lay_text::List;
 use std::alloc::Global;
+use std::mem;
 
 /// A field: `a.b`.
 pub fn expr_field(alloc: Global, base: BuiltExpr, field: BuiltName) -> Result<BuiltExpr, BuildError>
@@ -73,38 +74,40 @@ fn stepped(
     requires little { more ≤ top }
     ensures { Gives result (WithNeed (node.stepped base step)) }
 {
+    let need = if has_steps(&base) {
+        need.max(more + 1)
+    } else {
+        need.max(more) + 1
+    };
+    let mut base = base;
+    let added = add_step(alloc, &mut base, step);
+    let (base, _) = both(Ok(base), added)?;
+    Ok((base, need))
+}
+
+/// Whether a base has steps.
+fn has_steps(base: &Expr) -> bool
+    ensures { result ≡ node.is_postfix base.now }
+{
+    matches!(base, Expr::Postfix { .. })
+}
+
+/// Adds a step behind a base, and behind the steps that the base has.
+fn add_step(alloc: Global, base: &mut Expr, step: Step) -> Result<(), BuildError>
+    ensures { Gives result (λ done. base.new ≡ node.stepped base.old step) }
+{
     match base {
-        Expr::Postfix { base, steps } => further_step(base, steps, step, need.max(more + 1)),
-        other => first_step(alloc, other, step, need.max(more) + 1),
+        Expr::Postfix { steps, .. } => keep(steps, step),
+        _ => add_first_step(alloc, base, step),
     }
 }
 
-/// A base with its first step.
-fn first_step(alloc: Global, base: Expr, step: Step, need: u32) -> Result<(Expr, u32), BuildError>
-    ensures { Gives result (λ part. part ≡ (variant.Postfix base (step ∷ []), need)) }
+/// Adds a step behind a base that has none.
+fn add_first_step(alloc: Global, base: &mut Expr, step: Step) -> Result<(), BuildError>
+    ensures { Gives result (λ done. base.new ≡ variant.Postfix base.old (step ∷ [])) }
 {
-    let (base, steps) = both(boxed(alloc, base), one(alloc, step))?;
-    Ok((Expr::Postfix { base, steps }, need))
-}
-
-/// A base with one more step.
-fn further_step(
-    base: Boxed<Expr>,
-    steps: List<Step>,
-    step: Step,
-    need: u32,
-) -> Result<(Expr, u32), BuildError>
-    ensures { Gives result (λ part. part ≡ (variant.Postfix base (steps ++ step ∷ []), need)) }
-{
-    let (base, steps) = both(Ok(base), longer(steps, step))?;
-    Ok((Expr::Postfix { base, steps }, need))
-}
-
-/// A list with one more item at its end.
-fn longer<T: Drop>(list: List<T>, item: T) -> Result<List<T>, BuildError>
-    ensures { Gives result (λ longer. longer ≡ list ++ item ∷ []) }
-{
-    let mut list = list;
-    keep(&mut list, item)?;
-    Ok(list)
+    let bare = mem::replace(base, Expr::Underscore);
+    let (inner, steps) = both(boxed(alloc, bare), one(alloc, step))?;
+    *base = Expr::Postfix { base: inner, steps };
+    Ok(())
 }
