@@ -1,14 +1,21 @@
 -- Parts with their needs.
-use Rattle.std.proofs.Common.{IfSome, MatchBool, ◌≡◌, ◌≤◌, ℕ, Bool, true, false, List, IsUtf8, Option, Some, None, Result, Ok, Err, refl, sym, ap, subst, arith}
-use Rattle.std.specs.Str.{is_utf8}
-use Rattle.std.proofs.lemmas.Str.{IsUtf8-from_is_utf8, is_utf8-from_IsUtf8}
+use Rattle.std.proofs.Common.{IfSome, ◌≡◌, ◌≤◌, ℕ, ◌+◌, Option, Some, None, Result, Ok, Err, sym, ap, subst, arith}
+use Rattle.lay_form.specs.Depth.{least_depth}
 use Rattle.lay_form.specs.Form.{Form}
+use Rattle.lay_node.specs.declared.token.Name.{Name}
+use Rattle.lay_node.specs.declared.types.Ty.{Ty}
 use Rattle.lay_code.specs.Reading.{top}
-use Rattle.lay_build_types.specs.Answers.{Gives, IsKept, Makes, Refuses, need_if}
+use Rattle.lay_build_types.specs.Answers.{Gives, IsKept, IsPart, need_if}
+use Rattle.lay_build_types.specs.Kinds.{form_of_type}
 use Rattle.lay_build_types.specs.declared.built.BuildError.{BuildError}
-use Rattle.lay_build_types.specs.declared.built.BuildError.TheVariants.{BadText}
-use Rattle.lay_build_types.proofs.AnswerLemmas.{Is, wants}
-use Rattle.lay_build_exprs.proofs.JoinLemmas.{Both, both_lost, both_parts}
+use Rattle.lay_build_types.proofs.AnswerLemmas.{Is}
+use Rattle.lay_build_types.proofs.PathLemmas.{KeptName}
+use Rattle.lay_build_types.proofs.TypeLemmas.{KeptType}
+use Rattle.lay_build.specs.Kinds.{IsParam, form_of_param}
+use Rattle.lay_build.specs.Nodes as node
+use Rattle.lay_build.specs.declared.kinds.NamedType.{NamedType}
+use Rattle.lay_build.proofs.ItemLemmas.{param_made, param_need}
+use Rattle.lay_build_exprs.proofs.JoinLemmas.{Both}
 
 -- What is kept needs no more than files may, whether it is there or not.
 pub need_within : {N : Type 0} (form : N → Form) (Holds : N → Type 0) (built : Option N) → IfSome built (IsKept form Holds)
@@ -23,37 +30,10 @@ both_is {N} node need (Ok x) result is both =
     subst (Is node need) (sym both) (ap (λ (y : N). (y, need)) is)
 both_is {N} node need (Err why) result is both = subst (Is node need) (sym both) is
 
--- ---- documentation, which is refused where its text is bad
+-- A name with a type, which needs one more than the type.
+abbrev pub param_part : Name → Ty × ℕ → NamedType × ℕ
+param_part n ty = (node.param n ty.0, ty.1 + 1)
 
-abbrev Refused : {N : Type 0} → Result N BuildError → Type 0
-Refused result = Refuses BadText result
-
-module _ {A B N : Type 0} (P : A → Type 0) (form : N → Form) (node : N) (first : Result A BuildError) (second : B) where
-  pub bad_lost : (good : Bool) (why : BuildError) → MatchBool good (Gives first P) (Refused first) → Both first (Ok second) (Err why)
-      → MatchBool good (Makes form node (Err why)) (Refused {N} (Err why))
-  bad_lost true why is both = wants form node why (both_lost P (λ (b : B). b ≡ second) first (Ok second) why is refl both)
-  bad_lost false why is both = by first is both
-    where
-      by : (r : Result A BuildError) → Refused r → Both r (Ok second) (Err why) → Refused {N} (Err why)
-      by (Ok a) no m = absurd no
-      by (Err w) told m = let same : w ≡ why = cc in subst (λ (e : BuildError). Refused {N} (Err e)) same told
-
-  pub good_got : (good : Bool) (a : A) (b : B) → MatchBool good (Gives first P) (Refused first) → Both first (Ok second) (Ok (a, b))
-      → (good ≡ true) × (P a × (b ≡ second))
-  good_got true a b is both = (refl, both_parts P (λ (b : B). b ≡ second) first (Ok second) a b is refl both)
-  good_got false a b is both = by first is both
-    where
-      by : (r : Result A BuildError) → Refused r → Both r (Ok second) (Ok (a, b)) → (false ≡ true) × (P a × (b ≡ second))
-      by (Ok x) no m = absurd no
-      by (Err w) told m = absurd (let no : ⊥ = cc in no)
-
-module _ {A B : Type 0} (text : List ℕ) where
-  pub utf8_told : IsUtf8 text → A → MatchBool (is_utf8 text) A B
-  utf8_told utf8 x = subst (λ (b : Bool). MatchBool b A B) (sym (is_utf8-from_IsUtf8 text utf8)) x
-
-  pub utf8_not : (IsUtf8 text → ⊥) → B → MatchBool (is_utf8 text) A B
-  utf8_not never x = by (is_utf8 text) refl
-    where
-      by : (b : Bool) → is_utf8 text ≡ b → MatchBool b A B
-      by true h = absurd (never (IsUtf8-from_is_utf8 text h))
-      by false h = x
+pub param_is : (n : Name) (ty : Ty) → KeptName n → KeptType ty
+    → IsPart form_of_param IsParam (param_part n (ty, least_depth (form_of_type ty)))
+param_is n ty name of = let x = node.param n ty in record { made = param_made x name of; need = sym (param_need x) }

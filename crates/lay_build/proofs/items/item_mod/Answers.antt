@@ -1,6 +1,8 @@
 use Rattle.std.proofs.Common.{◌∙◌, ℕ, ◌+◌, List, ap, subst, arith}
+use Rattle.lay_node.specs.declared.attr.Attr.{Attr}
 use Rattle.lay_node.specs.declared.token.Name.{Name}
 use Rattle.lay_code.specs.declared.item.Item.{Item}
+use Rattle.lay_code.specs.declared.item.ItemKind.TheVariants as item
 use Rattle.lay_build_types.specs.Kinds.{IsItem, form_of_item}
 use Rattle.lay_build_types.proofs.AnswerLemmas.{Is, part_of}
 use Rattle.lay_build.specs.Nodes as node
@@ -16,7 +18,8 @@ kept-requires c =
     let parts = c.in_ok-items.ensures in
     let need = c.in_ok-items.need + 1 in
     let same =
-    ap (λ (p : Name × ℕ). node.item_mod public p.0 c.in_ok-items.items) names.parts
+    ap (λ (inner : List Attr). node.item_of public (item.Module c.into_parts-name.result.0 inner c.in_ok-items.items)) c.new.ensures
+    ∙ ap (λ (p : Name × ℕ). node.item_mod public p.0 c.in_ok-items.items) names.parts
     ∙ ap (λ (ys : List Item). node.item_mod public n ys) parts.same in
     let whole = mod_need public n is in
     part_of form_of_item IsItem (node.item_mod public n is) need c.item_of.result
