@@ -31,7 +31,7 @@ use Rattle.lay_depth.proofs.BlockLemmas as depths
 use Rattle.lay_build_types.specs.Answers.{IsKept, IsMade, need_if}
 use Rattle.lay_build_types.specs.Kinds.{IsBlock, IsName, IsStmt, form_of_block, form_of_expr, form_of_name, form_of_stmt, form_of_type}
 use Rattle.lay_build.specs.Nodes as node
-use Rattle.lay_build.proofs.ExprLemmas.{KeptExpr, stands_free, stands_whole}
+use Rattle.lay_build_exprs.proofs.ExprLemmas.{KeptExpr, stands_free, stands_whole}
 use Rattle.lay_build_types.proofs.PathLemmas.{KeptName}
 use Rattle.lay_build_types.proofs.PieceLemmas.{AllPieces, Pieces, all_behind, body_pieces, ended, front, leaf_pieces}
 use Rattle.lay_build_types.proofs.TypeLemmas.{KeptType, bounded}

@@ -47,9 +47,9 @@ use Rattle.lay_build.specs.Kinds.{IsParam, form_of_param}
 use Rattle.lay_build.specs.Nodes as node
 use Rattle.lay_build.specs.declared.kinds.NamedType.{NamedType}
 use Rattle.lay_build.proofs.BlockLemmas.{bind_good, bind_need, bind_pieces}
-use Rattle.lay_build.proofs.BranchLemmas as blocks
-use Rattle.lay_build.proofs.BranchLemmas.{KeptBlock, body_pieces_at}
-use Rattle.lay_build.proofs.ExprLemmas.{KeptExpr, stands_free}
+use Rattle.lay_build_exprs.proofs.BranchLemmas as blocks
+use Rattle.lay_build_exprs.proofs.BranchLemmas.{KeptBlock, body_pieces_at}
+use Rattle.lay_build_exprs.proofs.ExprLemmas.{KeptExpr, stands_free}
 use Rattle.lay_build_types.proofs.PathLemmas.{KeptName}
 use Rattle.lay_build_types.proofs.PieceLemmas.{AllPieces, Pieces, body_pieces, ended, fields_pieces, front, leaf_parts, leaf_pieces, list_pieces}
 use Rattle.lay_build_types.proofs.TypeLemmas.{KeptType, bounded, type_some}

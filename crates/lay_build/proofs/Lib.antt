@@ -1,9 +1,5 @@
 pub mod BlockLemmas
-pub mod BranchLemmas
 pub mod DocLemmas
-pub mod ExprLemmas
 pub mod FileLemmas
 pub mod ItemLemmas
-pub mod JoinLemmas
-pub mod NumberLemmas
-pub mod PostfixLemmas
+pub mod PartLemmas

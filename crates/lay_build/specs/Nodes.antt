@@ -1,9 +1,8 @@
 -- Which node each call makes.
-use Rattle.std.specs.Prelude.{ℕ, ◌||◌, Bool, true, false, if◌then◌else◌, List, [], ◌∷◌, ◌++◌, map, codes, decimal, Option, Some, None}
+use Rattle.std.specs.Prelude.{ℕ, Bool, true, false, List, [], ◌∷◌, ◌++◌, map, codes, Option, Some, None}
 use Rattle.lay_piece.specs.Docs.{doc_form}
 use Rattle.lay_piece.specs.declared.doc.DocForm.{DocForm}
 use Rattle.lay_piece.specs.declared.doc.DocForm.TheVariants.{Neither}
-use Rattle.lay_piece.specs.declared.kind.Kind.{Kind}
 use Rattle.lay_piece.specs.declared.kind.Kind.TheVariants as kind
 use Rattle.lay_node.specs.declared.attr.Attr.{Attr}
 use Rattle.lay_node.specs.declared.attr.Attr.TheVariants as attr
@@ -12,6 +11,7 @@ use Rattle.lay_node.specs.declared.attr.MetaPath.{MetaPath}
 use Rattle.lay_node.specs.declared.attr.MetaPath.TheVariants as meta_path
 use Rattle.lay_node.specs.declared.fields.Field.{Field}
 use Rattle.lay_node.specs.declared.fields.Fields.TheVariants as fields
+use Rattle.lay_node.specs.declared.functions.FnHead.{FnHead}
 use Rattle.lay_node.specs.declared.functions.Param.{Param}
 use Rattle.lay_node.specs.declared.functions.ParamKind.TheVariants as param_kind
 use Rattle.lay_node.specs.declared.generics.Generics.{Generics}
@@ -23,136 +23,19 @@ use Rattle.lay_node.specs.declared.token.GivenName.TheVariants as given_name
 use Rattle.lay_node.specs.declared.token.Listed.{Listed}
 use Rattle.lay_node.specs.declared.token.Listed.TheVariants as listed
 use Rattle.lay_node.specs.declared.token.Name.{Name}
-use Rattle.lay_node.specs.declared.types.Args.TheVariants as args
 use Rattle.lay_node.specs.declared.types.Ty.{Ty}
 use Rattle.lay_node.specs.declared.vis.Vis.{Vis}
 use Rattle.lay_node.specs.declared.vis.Vis.TheVariants as vis
-use Rattle.lay_code.specs.nodes.Layers.{ExprNode, StepNode}
 use Rattle.lay_code.specs.declared.blocks.Block.{Block}
 use Rattle.lay_code.specs.declared.blocks.Stmt.{Stmt}
-use Rattle.lay_code.specs.declared.blocks.Stmt.TheOpen.{Expr-F, Step-F}
 use Rattle.lay_code.specs.declared.blocks.Stmt.TheVariants as stmt
-use Rattle.lay_code.specs.declared.blocks.Stmt.TheViews.{out-Expr, out-Step}
-use Rattle.lay_code.specs.declared.conditions.Link.TheVariants as link
 use Rattle.lay_code.specs.declared.exprs.Expr.{Expr}
-use Rattle.lay_code.specs.declared.exprs.Expr.TheVariants as expr
-use Rattle.lay_code.specs.declared.exprs.FieldExpr.{FieldExpr}
-use Rattle.lay_code.specs.declared.exprs.FieldExpr.TheVariants as field
-use Rattle.lay_code.specs.declared.exprs.Step.{Step}
-use Rattle.lay_code.specs.declared.exprs.Step.TheVariants as step
 use Rattle.lay_code.specs.declared.file.File.{File}
 use Rattle.lay_code.specs.declared.item.Item.{Item}
 use Rattle.lay_code.specs.declared.item.ItemKind.{ItemKind}
 use Rattle.lay_code.specs.declared.item.ItemKind.TheVariants as item
-use Rattle.lay_code.specs.declared.operators.Op.{Op}
-use Rattle.lay_build_types.specs.Nodes.{path}
 use Rattle.lay_build_types.specs.Strings.{string_text}
-use Rattle.lay_build.specs.declared.kinds.NamedExpr.{NamedExpr}
 use Rattle.lay_build.specs.declared.kinds.NamedType.{NamedType}
-
--- ---- expressions
-
-abbrev pub literal : Kind → List ℕ → Expr
-literal kind text = expr.Lit (record { kind = kind; text = text })
-
-abbrev pub expr_int : ℕ → Expr
-expr_int value = literal kind.Int (decimal value)
-
-abbrev pub expr_str : List ℕ → Expr
-expr_str text = literal kind.Str (string_text text)
-
-abbrev pub expr_path : Name → List Name → Expr
-expr_path first rest = expr.Path (path first rest args.None)
-
-abbrev pub is_operand_node : ExprNode → Bool
-is_operand_node (Expr-F.Lit literal) = true
-is_operand_node (Expr-F.Path path) = true
-is_operand_node (Expr-F.Paren inner) = true
-is_operand_node (Expr-F.Tuple elements) = true
-is_operand_node (Expr-F.Postfix base steps) = true
-is_operand_node _ = false
-
-abbrev pub is_chain_node : ExprNode → Bool
-is_chain_node (Expr-F.Chain first rest) = true
-is_chain_node _ = false
-
--- an expression, in parentheses unless it may stand so
-abbrev pub unless : Bool → Expr → Expr
-unless stands x = if stands then x else expr.Paren x
-
-abbrev pub is_operand : Expr → Bool
-is_operand x = is_operand_node (out-Expr x)
-
-abbrev pub is_test : Expr → Bool
-is_test x = is_operand x || is_chain_node (out-Expr x)
-
-abbrev pub operand : Expr → Expr
-operand x = unless (is_operand x) x
-
--- what an `if` tests
-abbrev pub test : Expr → Expr
-test x = unless (is_test x) x
-
-abbrev pub is_postfix_node : ExprNode → Bool
-is_postfix_node (Expr-F.Postfix base steps) = true
-is_postfix_node _ = false
-
-abbrev pub is_postfix : Expr → Bool
-is_postfix x = is_postfix_node (out-Expr x)
-
--- a step behind a base, and behind those that it has
-abbrev pub stepped_node : ExprNode → Expr → Step → Expr
-stepped_node (Expr-F.Postfix base steps) x one = expr.Postfix base (steps ++ one ∷ [])
-stepped_node _ x one = expr.Postfix x (one ∷ [])
-
-abbrev pub stepped : Expr → Step → Expr
-stepped x one = stepped_node (out-Expr x) x one
-
-abbrev pub is_field_node : StepNode → Bool
-is_field_node (Step-F.Field name) = true
-is_field_node _ = false
-
--- The last step is a field.
-abbrev pub field_last : List Step → Bool
-field_last [] = false
-field_last (one ∷ []) = is_field_node (out-Step one)
-field_last (one ∷ other ∷ more) = field_last (other ∷ more)
-
-abbrev pub field_ends : ExprNode → Bool
-field_ends (Expr-F.Postfix base steps) = field_last steps
-field_ends _ = false
-
--- It ends in the name of a field, behind which a call would be a method's.
-abbrev pub ends_in_field : Expr → Bool
-ends_in_field x = field_ends (out-Expr x)
-
-abbrev pub callee : Expr → Expr
-callee x = if ends_in_field x then expr.Paren x else operand x
-
-abbrev pub expr_field : Expr → Name → Expr
-expr_field base name = stepped (operand base) (step.Field name)
-
-abbrev pub expr_method : Expr → Name → List Expr → Expr
-expr_method base method arguments = stepped (operand base) (step.Method method None arguments)
-
-abbrev pub expr_call : Expr → List Expr → Expr
-expr_call base arguments = stepped (callee base) (step.Apply arguments)
-
-abbrev pub expr_binary : Op → Expr → Expr → Expr
-expr_binary op left right = expr.Chain (operand left) ((op, operand right) ∷ [])
-
-abbrev pub field_expr : NamedExpr → FieldExpr
-field_expr x = field.Named [] x.name x.value
-
-abbrev pub expr_struct : Name → List Name → List NamedExpr → Expr
-expr_struct first rest given = expr.Struct (path first rest args.None) (map field_expr given) None
-
-abbrev pub one_branch : Expr → Block → Option Block → Expr
-one_branch x body otherwise =
-    expr.If (record { condition = record { links = link.Expr x ∷ [] }; body = body } ∷ []) otherwise
-
-abbrev pub expr_if : Expr → Block → Option Block → Expr
-expr_if x body otherwise = one_branch (test x) body otherwise
 
 -- ---- statements and blocks
 
@@ -170,8 +53,16 @@ abbrev pub tail_stmt : Option Expr → List Stmt
 tail_stmt None = []
 tail_stmt (Some x) = stmt.Expr [] x false ∷ []
 
+abbrev pub block_of : List Stmt → Block
+block_of stmts = record { attrs = []; stmts = stmts }
+
 abbrev pub block : List Stmt → Option Expr → Block
-block stmts tail = record { attrs = []; stmts = stmts ++ tail_stmt tail }
+block stmts tail = block_of (stmts ++ tail_stmt tail)
+
+-- ---- parameters, which are fields of structs too
+
+abbrev pub param : Name → Ty → NamedType
+param given of = record { name = given; ty = of }
 
 -- ---- items
 
@@ -205,17 +96,21 @@ item_struct public given parts = item_of public (item.Struct (record {
 abbrev pub item_const : Bool → Name → Ty → Expr → Item
 item_const public given of value = item_of public (item.Value (head.Const (given_name.Name given) of) (Some value))
 
-abbrev pub item_fn : Bool → Name → List NamedType → Option Ty → Block → Item
-item_fn public given params output body = item_of public (item.Function (record {
+abbrev pub fn_head : Name → List Param → Option Ty → FnHead
+fn_head given params output = record {
   is_const = false;
   is_async = false;
   safety = None;
   abi = None;
   name = given;
   generics = no_generics;
-  params = map param_of params;
+  params = params;
   output = output;
-}) no_wheres (Some body))
+}
+
+abbrev pub item_fn : Bool → Name → List NamedType → Option Ty → Block → Item
+item_fn public given params output body =
+    item_of public (item.Function (fn_head given (map param_of params) output) no_wheres (Some body))
 
 abbrev pub item_mod : Bool → Name → List Item → Item
 item_mod public given items = item_of public (item.Module given [] items)
@@ -240,8 +135,11 @@ doc_by _ text = attr.Doc false text
 abbrev pub doc : List ℕ → Attr
 doc text = doc_by (doc_form false text) text
 
+abbrev pub with_attr : Item → Attr → Item
+with_attr one more = record one { attrs = one.attrs ++ more ∷ [] }
+
 abbrev pub with_doc : Item → List ℕ → Item
-with_doc one text = record one { attrs = one.attrs ++ doc text ∷ [] }
+with_doc one text = with_attr one (doc text)
 
 -- ---- files
 

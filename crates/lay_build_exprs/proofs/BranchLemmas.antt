@@ -40,11 +40,11 @@ use Rattle.lay_depth.proofs.BlockLemmas as block_depths
 use Rattle.lay_depth.proofs.ExprLemmas as depths
 use Rattle.lay_build_types.specs.Answers.{IsKept, IsMade, need_if}
 use Rattle.lay_build_types.specs.Kinds.{IsBlock, IsExpr, form_of_block, form_of_expr}
-use Rattle.lay_build.specs.Kinds.{IsField, form_of_field}
+use Rattle.lay_build_exprs.specs.Kinds.{IsField, form_of_field}
 use Rattle.lay_build_types.specs.Nodes as names
-use Rattle.lay_build.specs.Nodes as node
-use Rattle.lay_build.specs.declared.kinds.NamedExpr.{NamedExpr}
-use Rattle.lay_build.proofs.ExprLemmas.{KeptExpr, made_by, paren_made, stands_at, stands_free, told_is}
+use Rattle.lay_build_exprs.specs.Nodes as node
+use Rattle.lay_build_exprs.specs.declared.kinds.NamedExpr.{NamedExpr}
+use Rattle.lay_build_exprs.proofs.ExprLemmas.{KeptExpr, made_by, paren_made, stands_at, stands_free, told_is}
 use Rattle.lay_build_types.proofs.PathLemmas.{KeptName, KeptNames, plain_depth, plain_path}
 use Rattle.lay_build_types.proofs.PieceLemmas.{AllPieces, Pieces, braces_pieces, ended, front, leaf_pieces, soft_pieces}
 

@@ -29,8 +29,8 @@ use Rattle.lay_depth.specs.Parts.{step_form}
 use Rattle.lay_depth.proofs.ExprLemmas as depths
 use Rattle.lay_build_types.specs.Answers.{IsMade}
 use Rattle.lay_build_types.specs.Kinds.{IsExpr, StandsFree, form_of_expr}
-use Rattle.lay_build.specs.Nodes as node
-use Rattle.lay_build.proofs.ExprLemmas.{KeptExprs, MadeOperand, Operand, exprs_free, exprs_pieces, made_by, stands_at, told_is, unless_false}
+use Rattle.lay_build_exprs.specs.Nodes as node
+use Rattle.lay_build_exprs.proofs.ExprLemmas.{KeptExprs, MadeOperand, Operand, exprs_free, exprs_pieces, made_by, stands_at, told_is, unless_false}
 use Rattle.lay_build_types.proofs.PathLemmas.{KeptName}
 use Rattle.lay_build_types.proofs.PieceLemmas.{Pieces, ended, front, leaf_pieces, list_pieces}
 

@@ -25,7 +25,7 @@ use Rattle.lay_depth_nodes.specs.Depths.{greatest}
 use Rattle.lay_depth.proofs.ExprLemmas as depths
 use Rattle.lay_build_types.specs.Answers.{IsKept, IsMade}
 use Rattle.lay_build_types.specs.Kinds.{IsExpr, StandsFree, form_of_expr}
-use Rattle.lay_build.specs.Nodes as node
+use Rattle.lay_build_exprs.specs.Nodes as node
 use Rattle.lay_build_types.proofs.PieceLemmas.{AllPieces, Pieces, ended}
 
 abbrev pub KeptExpr : Expr → Type 0

@@ -1,0 +1,5 @@
+pub mod BranchLemmas
+pub mod ExprLemmas
+pub mod JoinLemmas
+pub mod NumberLemmas
+pub mod PostfixLemmas

@@ -1,0 +1,21 @@
+//! Names with the expression behind their `:`.
+ghost use Rattle.lay_build_exprs.specs.Kinds as kinds;
+
+use lay_build_types::{Built, Node};
+use lay_code::{Expr, Name};
+
+/// A name and the expression behind its `:`, as in a struct literal.
+#[derive(Drop)]
+pub struct NamedExpr {
+    pub name: Name,
+    pub value: Expr,
+}
+
+/// A field of a struct literal that was built.
+pub type BuiltField = Built<NamedExpr>;
+
+impl Node for NamedExpr {
+    ghost form = { kinds.form_of_field };
+
+    ghost Holds = { kinds.IsField };
+}
