@@ -11,6 +11,7 @@ use Rattle.lay_node.specs.declared.attr.MetaPath.{MetaPath}
 use Rattle.lay_node.specs.declared.attr.MetaPath.TheVariants as meta_path
 use Rattle.lay_node.specs.declared.fields.Field.{Field}
 use Rattle.lay_node.specs.declared.fields.Fields.TheVariants as fields
+use Rattle.lay_node.specs.declared.functions.FnHead.{FnHead}
 use Rattle.lay_node.specs.declared.functions.Param.{Param}
 use Rattle.lay_node.specs.declared.functions.ParamKind.TheVariants as param_kind
 use Rattle.lay_node.specs.declared.generics.Generics.{Generics}
@@ -52,8 +53,16 @@ abbrev pub tail_stmt : Option Expr → List Stmt
 tail_stmt None = []
 tail_stmt (Some x) = stmt.Expr [] x false ∷ []
 
+abbrev pub block_of : List Stmt → Block
+block_of stmts = record { attrs = []; stmts = stmts }
+
 abbrev pub block : List Stmt → Option Expr → Block
-block stmts tail = record { attrs = []; stmts = stmts ++ tail_stmt tail }
+block stmts tail = block_of (stmts ++ tail_stmt tail)
+
+-- ---- parameters, which are fields of structs too
+
+abbrev pub param : Name → Ty → NamedType
+param given of = record { name = given; ty = of }
 
 -- ---- items
 
@@ -87,17 +96,21 @@ item_struct public given parts = item_of public (item.Struct (record {
 abbrev pub item_const : Bool → Name → Ty → Expr → Item
 item_const public given of value = item_of public (item.Value (head.Const (given_name.Name given) of) (Some value))
 
-abbrev pub item_fn : Bool → Name → List NamedType → Option Ty → Block → Item
-item_fn public given params output body = item_of public (item.Function (record {
+abbrev pub fn_head : Name → List Param → Option Ty → FnHead
+fn_head given params output = record {
   is_const = false;
   is_async = false;
   safety = None;
   abi = None;
   name = given;
   generics = no_generics;
-  params = map param_of params;
+  params = params;
   output = output;
-}) no_wheres (Some body))
+}
+
+abbrev pub item_fn : Bool → Name → List NamedType → Option Ty → Block → Item
+item_fn public given params output body =
+    item_of public (item.Function (fn_head given (map param_of params) output) no_wheres (Some body))
 
 abbrev pub item_mod : Bool → Name → List Item → Item
 item_mod public given items = item_of public (item.Module given [] items)
@@ -122,8 +135,11 @@ doc_by _ text = attr.Doc false text
 abbrev pub doc : List ℕ → Attr
 doc text = doc_by (doc_form false text) text
 
+abbrev pub with_attr : Item → Attr → Item
+with_attr one more = record one { attrs = one.attrs ++ more ∷ [] }
+
 abbrev pub with_doc : Item → List ℕ → Item
-with_doc one text = record one { attrs = one.attrs ++ doc text ∷ [] }
+with_doc one text = with_attr one (doc text)
 
 -- ---- files
 

@@ -1,10 +1,27 @@
-//! What files built by calls are made of: which node each call makes, and why what is made can be written.
+//! Files that are built by calls.
 //!
-//! It has no call yet. `specs/Nodes` says which node each call makes of the nodes that it is handed, and `specs/Kinds` what is
-//! asked of a parameter. The lemmas in `proofs` say of each such node that it holds, and how deep it is.
+//! `specs/Nodes` says which node each call makes of the nodes that it is handed, and `specs/Kinds` what is asked of a parameter. The
+//! calls of names, types and expressions stand in the crates below and are handed on. A file that [`file`] answers can be written.
 #![tactic(auto)]
 
+mod blocks;
+mod docs;
+mod files;
+mod items;
 pub mod kinds;
 
+pub use blocks::{block, stmt_expr, stmt_let};
+pub use docs::with_doc;
+pub use files::file;
+pub use items::{item_const, item_fn, item_mod, item_struct, param};
 pub use kinds::{BuiltParam, NamedType};
-pub use lay_build_exprs::{BuiltField, NamedExpr, stands_law};
+pub use lay_build_exprs::{
+    BuiltField, NamedExpr, expr_binary, expr_call, expr_field, expr_if, expr_int, expr_method,
+    expr_path, expr_str, expr_struct, field, stands_law,
+};
+pub use lay_build_types::{
+    BuildError, Built, BuiltBlock, BuiltExpr, BuiltItem, BuiltName, BuiltStmt, BuiltType, name,
+    string_law, type_path, type_ref, type_tuple,
+};
+pub use lay_code::{File, Op};
+pub use lay_text::{List, NoMemory};

@@ -53,8 +53,11 @@ unless stands x = if stands then x else expr.Paren x
 abbrev pub is_operand : Expr → Bool
 is_operand x = is_operand_node (out-Expr x)
 
+abbrev pub is_chain : Expr → Bool
+is_chain x = is_chain_node (out-Expr x)
+
 abbrev pub is_test : Expr → Bool
-is_test x = is_operand x || is_chain_node (out-Expr x)
+is_test x = is_operand x || is_chain x
 
 abbrev pub operand : Expr → Expr
 operand x = unless (is_operand x) x
@@ -82,10 +85,13 @@ abbrev pub is_field_node : StepNode → Bool
 is_field_node (Step-F.Field name) = true
 is_field_node _ = false
 
+abbrev pub is_field : Step → Bool
+is_field s = is_field_node (out-Step s)
+
 -- The last step is a field.
 abbrev pub field_last : List Step → Bool
 field_last [] = false
-field_last (one ∷ []) = is_field_node (out-Step one)
+field_last (one ∷ []) = is_field one
 field_last (one ∷ other ∷ more) = field_last (other ∷ more)
 
 abbrev pub field_ends : ExprNode → Bool

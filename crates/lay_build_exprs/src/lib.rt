@@ -4,8 +4,19 @@
 //! struct literal. Operands and what an `if` tests are put in parentheses where they have to be.
 #![tactic(auto)]
 
+mod branches;
 pub mod kinds;
 mod laws;
+mod leaves;
+mod operands;
+mod operators;
+mod steps;
+mod structs;
 
+pub use branches::expr_if;
 pub use kinds::{BuiltField, NamedExpr};
 pub use laws::stands_law;
+pub use leaves::{expr_int, expr_path, expr_str};
+pub use operators::expr_binary;
+pub use steps::{expr_call, expr_field, expr_method};
+pub use structs::{expr_struct, field};

@@ -1,0 +1,68 @@
+//! Literals and paths.
+ghost use Rattle.std.specs.Prelude.{MatchBool};
+ghost use Rattle.std.specs.Str.{is_utf8};
+ghost use Rattle.lay_build_types.specs.Answers.{IsPart, Makes, Refuses};
+ghost use Rattle.lay_build_types.specs.Kinds.{IsExpr, form_of_expr};
+ghost use Rattle.lay_build_exprs.specs.Nodes as node;
+
+use itoa::Buffer;
+use lay_build_types::{BuildError, BuiltExpr, BuiltName, kept, nodes, path, string_literal};
+use lay_code::{Args, Expr, Literal};
+use lay_piece::Kind;
+use lay_text::{List, NoMemory, Text};
+use std::alloc::Global;
+use std::str;
+
+/// The integer literal of a number, in decimal digits and without a suffix.
+pub fn expr_int(alloc: Global, value: u128) -> Result<BuiltExpr, BuildError>
+    ensures { Makes form_of_expr (node.expr_int value) result }
+{
+    match Text::from_bytes(alloc, Buffer::new().format(value).as_bytes()) {
+        Ok(text) => leaf(Expr::Lit {
+            literal: Literal {
+                kind: Kind::Int,
+                text,
+            },
+        }),
+        Err(NoMemory) => Err(BuildError::NoMemory),
+    }
+}
+
+/// The string literal whose value a text is. BadText comes where the text is no UTF-8.
+pub fn expr_str(alloc: Global, text: &[u8]) -> Result<BuiltExpr, BuildError>
+    ensures { MatchBool (is_utf8 text.now) (Makes form_of_expr (node.expr_str text.now) result)
+        (Refuses BuildError.BadText result) }
+{
+    if str::from_utf8(text).is_err() {
+        return Err(BuildError::BadText);
+    }
+    let text = string_literal(alloc, text)?;
+    leaf(Expr::Lit {
+        literal: Literal {
+            kind: Kind::Str,
+            text,
+        },
+    })
+}
+
+/// The path of these names: `a::b::C`.
+pub fn expr_path(
+    alloc: Global,
+    first: BuiltName,
+    rest: List<BuiltName>,
+) -> Result<BuiltExpr, BuildError>
+    ensures { Makes form_of_expr (node.expr_path first rest) result }
+{
+    let (first, _) = first.into_parts();
+    let (rest, _) = nodes(alloc, rest)?;
+    let path = path(alloc, first, rest, Args::None)?;
+    leaf(Expr::Path { path })
+}
+
+/// An expression with nothing in it that needs depth.
+fn leaf(expr: Expr) -> Result<BuiltExpr, BuildError>
+    requires { IsPart form_of_expr IsExpr (expr, 1) }
+    ensures { Makes form_of_expr expr result }
+{
+    kept(Ok((expr, 1)))
+}

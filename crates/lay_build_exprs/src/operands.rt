@@ -1,0 +1,110 @@
+//! Parentheses, where an expression needs them to stand in another.
+ghost use Rattle.std.specs.Prelude.{◌≡◌, ◌+◌, ◌≤◌};
+ghost use Rattle.lay_code.specs.Reading.{top};
+ghost use Rattle.lay_code.specs.declared.exprs.Expr.TheVariants as variant;
+ghost use Rattle.lay_build_types.specs.Answers.{Gives, IsKept};
+ghost use Rattle.lay_build_types.specs.Kinds.{IsExpr, form_of_expr};
+ghost use Rattle.lay_build_exprs.specs.Nodes as node;
+ghost use Rattle.lay_build_exprs.specs.Parts.{WithNeed};
+
+use lay_build_types::{BuildError, BuiltExpr, boxed};
+use lay_code::{Expr, Step};
+use std::alloc::Global;
+
+/// An operand of an operator, or the base of a field or a method.
+pub(crate) fn operand(alloc: Global, built: BuiltExpr) -> Result<(Expr, u32), BuildError>
+    ensures part { Gives result (WithNeed (node.operand built)) }
+    ensures kept { IsKept form_of_expr IsExpr built }
+{
+    let stands = is_operand(built.node());
+    unless(alloc, stands, built)
+}
+
+/// What is called. Behind the name of a field a call would be a method's.
+pub(crate) fn callee(alloc: Global, built: BuiltExpr) -> Result<(Expr, u32), BuildError>
+    ensures part { Gives result (WithNeed (node.callee built)) }
+    ensures kept { IsKept form_of_expr IsExpr built }
+{
+    if ends_in_field(built.node()) {
+        return unless(alloc, false, built);
+    }
+    operand(alloc, built)
+}
+
+/// What an `if` tests.
+pub(crate) fn test(alloc: Global, built: BuiltExpr) -> Result<(Expr, u32), BuildError>
+    ensures part { Gives result (WithNeed (node.test built)) }
+    ensures kept { IsKept form_of_expr IsExpr built }
+{
+    let stands = is_operand(built.node()) || is_chain(built.node());
+    unless(alloc, stands, built)
+}
+
+/// An expression, in parentheses unless it may stand so.
+fn unless(alloc: Global, stands: bool, built: BuiltExpr) -> Result<(Expr, u32), BuildError>
+    ensures part { Gives result (WithNeed (node.unless stands built)) }
+    ensures kept { IsKept form_of_expr IsExpr built }
+{
+    let (expr, need) = built.into_parts();
+    if stands {
+        return Ok((expr, need));
+    }
+    in_parens(alloc, expr, need)
+}
+
+/// An expression that needs this depth, in parentheses.
+fn in_parens(alloc: Global, expr: Expr, need: u32) -> Result<(Expr, u32), BuildError>
+    requires { need ≤ top }
+    ensures { Gives result (λ part. part ≡ (variant.Paren expr, need + 1)) }
+{
+    let inner = boxed(alloc, expr)?;
+    Ok((Expr::Paren { inner }, need + 1))
+}
+
+/// Whether an operator, and any step, takes it as it is.
+fn is_operand(expr: &Expr) -> bool
+    ensures { result ≡ node.is_operand expr.now }
+{
+    matches!(
+        expr,
+        Expr::Lit { .. }
+            | Expr::Path { .. }
+            | Expr::Paren { .. }
+            | Expr::Tuple { .. }
+            | Expr::Postfix { .. }
+    )
+}
+
+/// Whether it is a chain of operators.
+fn is_chain(expr: &Expr) -> bool
+    ensures { result ≡ node.is_chain expr.now }
+{
+    matches!(expr, Expr::Chain { .. })
+}
+
+/// Whether it ends in the name of a field.
+fn ends_in_field(expr: &Expr) -> bool
+    ensures { result ≡ node.ends_in_field expr.now }
+{
+    match expr {
+        Expr::Postfix { steps, .. } => field_last(steps.as_slice()),
+        _ => false,
+    }
+}
+
+/// Whether the last step is a field.
+fn field_last(steps: &[Step]) -> bool
+    ensures { result ≡ node.field_last steps.now }
+{
+    match steps.last() {
+        Some(step) => is_field(step),
+        None => false,
+    }
+}
+
+/// Whether a step is a field.
+fn is_field(step: &Step) -> bool
+    ensures { result ≡ node.is_field step.now }
+{
+    matches!(step, Step::Field { .. })
+}

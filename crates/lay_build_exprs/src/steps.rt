@@ -1,0 +1,113 @@
+//! Fields, methods and calls.
+ghost use Rattle.std.specs.Prelude.{◌≡◌, ◌∷◌, [], ◌+◌, ◌≤◌};
+ghost use Rattle.lay_form.specs.Depth.{least_depth};
+ghost use Rattle.lay_code.specs.Reading.{top};
+ghost use Rattle.lay_code.specs.nodes.Code.{about_step};
+ghost use Rattle.lay_code.specs.declared.exprs.Expr.TheVariants as variant;
+ghost use Rattle.lay_build_types.specs.Answers.{Gives, Makes};
+ghost use Rattle.lay_build_types.specs.Kinds.{form_of_expr};
+ghost use Rattle.lay_build_exprs.specs.Nodes as node;
+ghost use Rattle.lay_build_exprs.specs.Parts.{WithNeed};
+
+use crate::operands::{callee, operand};
+use lay_build_types::{BuildError, BuiltExpr, BuiltName, both, boxed, keep, kept, nodes, one};
+use lay_code::{Expr, Step};
+use lay_text::List;
+use std::alloc::Global;
+use std::mem;
+
+/// A field: `a.b`.
+pub fn expr_field(alloc: Global, base: BuiltExpr, field: BuiltName) -> Result<BuiltExpr, BuildError>
+    ensures { Makes form_of_expr (node.expr_field base field) result }
+{
+    let (name, _) = field.into_parts();
+    let (base, need) = operand(alloc, base)?;
+    kept(stepped(alloc, base, need, Step::Field { name }, 0))
+}
+
+/// A call of a method: `a.b(c, d)`.
+pub fn expr_method(
+    alloc: Global,
+    base: BuiltExpr,
+    method: BuiltName,
+    args: List<BuiltExpr>,
+) -> Result<BuiltExpr, BuildError>
+    ensures { Makes form_of_expr (node.expr_method base method args) result }
+{
+    let (name, _) = method.into_parts();
+    let (base, args) = both(operand(alloc, base), nodes(alloc, args))?;
+    let (base, need) = base;
+    let (args, more) = args;
+    let step = Step::Method {
+        name,
+        generics: None,
+        args,
+    };
+    kept(stepped(alloc, base, need, step, more))
+}
+
+/// A call: `a(b, c)`. A base that ends in the name of a field is put in parentheses: `(a.b)(c)`.
+pub fn expr_call(
+    alloc: Global,
+    base: BuiltExpr,
+    args: List<BuiltExpr>,
+) -> Result<BuiltExpr, BuildError>
+    ensures { Makes form_of_expr (node.expr_call base args) result }
+{
+    let (base, args) = both(callee(alloc, base), nodes(alloc, args))?;
+    let (base, need) = base;
+    let (args, more) = args;
+    kept(stepped(alloc, base, need, Step::Apply { args }, more))
+}
+
+/// A step behind a base, and behind the steps that the base has.
+fn stepped(
+    alloc: Global,
+    base: Expr,
+    need: u32,
+    step: Step,
+    more: u32,
+) -> Result<(Expr, u32), BuildError>
+    requires need { need ≡ least_depth (form_of_expr base) }
+    requires low { need ≤ top + 1 }
+    requires more { more ≡ least_depth (about_step step).form }
+    requires little { more ≤ top }
+    ensures { Gives result (WithNeed (node.stepped base step)) }
+{
+    let need = if has_steps(&base) {
+        need.max(more + 1)
+    } else {
+        need.max(more) + 1
+    };
+    let mut base = base;
+    let added = add_step(alloc, &mut base, step);
+    let (base, _) = both(Ok(base), added)?;
+    Ok((base, need))
+}
+
+/// Whether a base has steps.
+fn has_steps(base: &Expr) -> bool
+    ensures { result ≡ node.is_postfix base.now }
+{
+    matches!(base, Expr::Postfix { .. })
+}
+
+/// Adds a step behind a base, and behind the steps that the base has.
+fn add_step(alloc: Global, base: &mut Expr, step: Step) -> Result<(), BuildError>
+    ensures { Gives result (λ done. base.new ≡ node.stepped base.old step) }
+{
+    match base {
+        Expr::Postfix { steps, .. } => keep(steps, step),
+        _ => add_first_step(alloc, base, step),
+    }
+}
+
+/// Adds a step behind a base that has none.
+fn add_first_step(alloc: Global, base: &mut Expr, step: Step) -> Result<(), BuildError>
+    ensures { Gives result (λ done. base.new ≡ variant.Postfix base.old (step ∷ [])) }
+{
+    let bare = mem::replace(base, Expr::Underscore);
+    let (inner, steps) = both(boxed(alloc, bare), one(alloc, step))?;
+    *base = Expr::Postfix { base: inner, steps };
+    Ok(())
+}
