@@ -125,6 +125,7 @@ impl InBlock {
     }
 }
 /// What follows the longest gap at the front; nothing where a gap ends the whole text.
+#[inline(always)]
 pub fn after_gap(s: &str) -> Option<&str> {
     let mut rest = s;
     while let Some((c, tail)) = first(rest) {

@@ -17,6 +17,7 @@ pub struct Piece {
 /// The piece that stands at the front of a text, if one does (Rust Reference, "Tokens").
 ///
 /// `index` says that the text follows the `.` of a field, where digits may be the index of a tuple's field.
+#[inline(always)]
 pub fn piece_at(rest: &str, index: bool) -> Option<Piece> {
     let (kind, tail) = front(index, rest)?;
     Some(Piece { kind, len: rest.len() - tail.len() })
