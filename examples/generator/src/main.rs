@@ -38,16 +38,15 @@ struct Module<'a> {
     part: Option<Part<'a>>,
 }
 
-/// The struct or the table to which the next line may belong, and the functions that will follow it.
+/// The struct or the table to which the next line may belong.
 struct Part<'a> {
     name: &'a str,
     doc: &'a str,
     kind: Kind<'a>,
-    functions: Vec<BuiltItem>,
 }
 
 enum Kind<'a> {
-    Struct { params: Vec<BuiltParam>, fields: Vec<BuiltField> },
+    Struct { params: Vec<BuiltParam>, fields: Vec<BuiltField>, getters: Vec<BuiltItem> },
     Table { of: &'a str, stmts: Vec<BuiltStmt> },
 }
 
@@ -60,17 +59,17 @@ impl<'a> Module<'a> {
             ("", _) => {}
             ("module", _) => (self.name, self.doc) = (rest, doc),
             ("struct", _) => {
-                let kind = Kind::Struct { params: Vec::new(), fields: Vec::new() };
-                self.begin(Part { name: rest, doc, kind, functions: Vec::new() })?;
+                let kind = Kind::Struct { params: Vec::new(), fields: Vec::new(), getters: Vec::new() };
+                self.begin(Part { name: rest, doc, kind })?;
             }
             ("table", _) => {
                 let (name, of) = cut(rest, ": ")?;
                 let found = stmt_let(Global, named("found")?, Some(option_of(of)?), path("None")?)?;
                 let kind = Kind::Table { of, stmts: vec![found] };
-                self.begin(Part { name, doc, kind, functions: Vec::new() })?;
+                self.begin(Part { name, doc, kind })?;
             }
             ("field", Some(part)) => part.add_field(rest)?,
-            ("row", Some(part)) => self.items.push(part.add_row(rest, doc)?),
+            ("row", Some(part)) => self.items.extend(part.add_row(rest, doc)?),
             _ => return Err("no such line".into()),
         }
         Ok(())
@@ -95,7 +94,7 @@ impl<'a> Module<'a> {
 impl Part<'_> {
     /// `NAME: TYPE = VALUE`: a field, its default value, and `fn struct_field(struct: &Struct) -> TYPE { struct.field.clone() }`.
     fn add_field(&mut self, rest: &str) -> Made<()> {
-        let Kind::Struct { params, fields } = &mut self.kind else { return Err("a field of no struct".into()) };
+        let Kind::Struct { params, fields, getters } = &mut self.kind else { return Err("a field of no struct".into()) };
         let (name, rest) = cut(rest, ": ")?;
         let (of, given) = cut(rest, " = ")?;
         params.push(param(named(name)?, ty(of)?)?);
@@ -104,12 +103,12 @@ impl Part<'_> {
         let copy = expr_method(Global, expr_field(Global, path(&whole)?, named(name)?)?, named("clone")?, list([])?)?;
         let taken = param(named(&whole)?, type_ref(Global, false, ty(self.name)?)?)?;
         let getter = function(&format!("{whole}_{name}"), [taken], ty(of)?, block(Global, list([])?, Some(copy))?)?;
-        self.functions.push(documented(getter, &format!("The `{name}` of a [`{}`].", self.name))?);
+        getters.push(documented(getter, &format!("The `{name}` of a [`{}`].", self.name))?);
         Ok(())
     }
 
-    /// `NAME = VALUE`: a constant, `fn is_name(table: TYPE) -> bool { table == NAME }`, and a step of the function that finds it.
-    fn add_row(&mut self, rest: &str, doc: &str) -> Made<BuiltItem> {
+    /// `NAME = VALUE`: a constant and `fn is_name(table: TYPE) -> bool { table == NAME }`, and a step of the function that finds it.
+    fn add_row(&mut self, rest: &str, doc: &str) -> Made<[BuiltItem; 2]> {
         let Kind::Table { of, stmts } = &mut self.kind else { return Err("a row of no table".into()) };
         let (name, given) = cut(rest, " = ")?;
         let test = expr_binary(Global, Op::EqEq, path("name")?, expr_str(Global, name.as_bytes())?)?;
@@ -120,32 +119,31 @@ impl Part<'_> {
         let same = expr_binary(Global, Op::EqEq, path(&whole)?, path(name)?)?;
         let taken = param(named(&whole)?, ty(of)?)?;
         let is_it = function(&format!("is_{}", snake(name)), [taken], ty("bool")?, block(Global, list([])?, Some(same))?)?;
-        self.functions.push(documented(is_it, &format!("Whether it is [`{name}`]."))?);
-        documented(item_const(Global, true, named(name)?, ty(of)?, value(given, of)?)?, doc)
+        let constant = item_const(Global, true, named(name)?, ty(of)?, value(given, of)?)?;
+        Ok([documented(constant, doc)?, documented(is_it, &format!("Whether it is [`{name}`]."))?])
     }
 
-    /// What the lines together make: a struct and its default value, or the function that finds a constant; and the function of each line.
+    /// What the lines together make: a struct, its default value and a function for each field, or the function that finds a constant.
     fn finished(self) -> Made<Vec<BuiltItem>> {
         let whole = snake(self.name);
-        let mut items = match self.kind {
-            Kind::Struct { params, fields } => {
+        match self.kind {
+            Kind::Struct { params, fields, getters } => {
                 let literal = expr_struct(Global, named(self.name)?, list([])?, list(fields)?)?;
                 let body = block(Global, list([])?, Some(literal))?;
                 let default = function(&format!("default_{whole}"), [], ty(self.name)?, body)?;
-                vec![
-                    documented(item_struct(Global, true, named(self.name)?, list(params)?)?, self.doc)?,
-                    documented(default, &format!("The [`{}`] where nothing else is said.", self.name))?,
-                ]
+                let structure = item_struct(Global, true, named(self.name)?, list(params)?)?;
+                let mut items = vec![documented(structure, self.doc)?];
+                items.push(documented(default, &format!("The [`{}`] where nothing else is said.", self.name))?);
+                items.extend(getters);
+                Ok(items)
             }
             Kind::Table { of, stmts } => {
                 let body = block(Global, list(stmts)?, Some(path("found")?))?;
                 let taken = param(named("name")?, type_ref(Global, false, ty("str")?)?)?;
                 let find = function(&format!("{whole}_of"), [taken], option_of(of)?, body)?;
-                vec![documented(find, &format!("{} It is found by its name.", self.doc))?]
+                Ok(vec![documented(find, &format!("{} It is found by its name.", self.doc))?])
             }
-        };
-        items.extend(self.functions);
-        Ok(items)
+        }
     }
 }
 
