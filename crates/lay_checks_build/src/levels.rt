@@ -27,7 +27,12 @@ fn modules(rt: &impl Abort, alloc: Global, count: u64) -> BuiltItem {
 fn modules_within_modules(rt: HostRuntime) {
     let alloc = rt.alloc();
     let items = only(&rt, alloc, modules(&rt, alloc, 255));
-    assert!(&rt; matches!(item_mod(alloc, false, named(&rt, alloc, "a"), items), Err(BuildError::TooDeep)));
+    assert!(&rt;
+        matches!(
+            item_mod(alloc, false, named(&rt, alloc, "a"), items),
+            Err(BuildError::TooDeep)
+        )
+    );
 }
 
 /// `a` as the argument of so many calls.
@@ -45,7 +50,12 @@ fn calls(rt: &impl Abort, alloc: Global, count: u64) -> BuiltExpr {
 fn calls_within_calls(rt: HostRuntime) {
     let alloc = rt.alloc();
     let args = only(&rt, alloc, calls(&rt, alloc, 255));
-    assert!(&rt; matches!(expr_call(alloc, path(&rt, alloc, "f"), args), Err(BuildError::TooDeep)));
+    assert!(&rt;
+        matches!(
+            expr_call(alloc, path(&rt, alloc, "f"), args),
+            Err(BuildError::TooDeep)
+        )
+    );
 }
 
 /// So many sums, each an operand of the next.
@@ -63,7 +73,12 @@ fn operands_within_operands(rt: HostRuntime) {
     let alloc = rt.alloc();
     let left = sums(&rt, alloc, 128);
     let right = path(&rt, alloc, "b");
-    assert!(&rt; matches!(expr_binary(alloc, Op::Add, left, right), Err(BuildError::TooDeep)));
+    assert!(&rt;
+        matches!(
+            expr_binary(alloc, Op::Add, left, right),
+            Err(BuildError::TooDeep)
+        )
+    );
 }
 
 /// So many branches, each the only expression in the block of the next.
@@ -86,7 +101,12 @@ fn blocks_within_blocks(rt: HostRuntime) {
     let stmt = branches(&rt, alloc, 255);
     assert!(&rt; matches!(stmt_expr(alloc, stmt), Err(BuildError::TooDeep)));
     let test = branches(&rt, alloc, 255);
-    assert!(&rt; matches!(expr_if(alloc, test, nothing(&rt, alloc), None), Err(BuildError::TooDeep)));
+    assert!(&rt;
+        matches!(
+            expr_if(alloc, test, nothing(&rt, alloc), None),
+            Err(BuildError::TooDeep)
+        )
+    );
 }
 
 /// So many references to a type.
@@ -103,8 +123,22 @@ fn references(rt: &impl Abort, alloc: Global, count: u64) -> BuiltType {
 fn types_in_items(rt: HostRuntime) {
     let alloc = rt.alloc();
     let type_fits = references(&rt, alloc, 254);
-    made(&rt, item_const(alloc, false, named(&rt, alloc, "A"), type_fits, calls(&rt, alloc, 254)));
+    made(
+        &rt,
+        item_const(
+            alloc,
+            false,
+            named(&rt, alloc, "A"),
+            type_fits,
+            calls(&rt, alloc, 254),
+        ),
+    );
     let ty = references(&rt, alloc, 255);
     let one = path(&rt, alloc, "b");
-    assert!(&rt; matches!(item_const(alloc, false, named(&rt, alloc, "A"), ty, one), Err(BuildError::TooDeep)));
+    assert!(&rt;
+        matches!(
+            item_const(alloc, false, named(&rt, alloc, "A"), ty, one),
+            Err(BuildError::TooDeep)
+        )
+    );
 }

@@ -52,12 +52,7 @@ pub(crate) fn path(rt: &impl Abort, alloc: Global, text: &str) -> BuiltExpr {
 }
 
 /// `+` between two expressions.
-pub(crate) fn sum(
-    rt: &impl Abort,
-    alloc: Global,
-    left: BuiltExpr,
-    right: BuiltExpr,
-) -> BuiltExpr {
+pub(crate) fn sum(rt: &impl Abort, alloc: Global, left: BuiltExpr, right: BuiltExpr) -> BuiltExpr {
     made(rt, expr_binary(alloc, Op::Add, left, right))
 }
 

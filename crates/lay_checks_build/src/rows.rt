@@ -123,10 +123,7 @@ fn steps(rt: HostRuntime) {
         literal(&rt, alloc),
     );
     let base = field_of(&rt, alloc, path(&rt, alloc, "a"));
-    let method = made(
-        &rt,
-        expr_method(alloc, base, named(&rt, alloc, "in"), args),
-    );
+    let method = made(&rt, expr_method(alloc, base, named(&rt, alloc, "in"), args));
     let behind_method = called(&rt, alloc, method);
     assert!(&rt; is_value(&rt, alloc, behind_method, "a.f.r#in(a + b, S {})()"));
     let arg = only(&rt, alloc, path(&rt, alloc, "a"));
@@ -137,14 +134,8 @@ fn steps(rt: HostRuntime) {
 #[test]
 fn struct_literals(rt: HostRuntime) {
     let alloc = rt.alloc();
-    let first = made(
-        &rt,
-        field(named(&rt, alloc, "a"), a_and_b(&rt, alloc)),
-    );
-    let second = made(
-        &rt,
-        field(named(&rt, alloc, "b"), literal(&rt, alloc)),
-    );
+    let first = made(&rt, field(named(&rt, alloc, "a"), a_and_b(&rt, alloc)));
+    let second = made(&rt, field(named(&rt, alloc, "b"), literal(&rt, alloc)));
     let fields = with(&rt, only(&rt, alloc, first), second);
     let rest = only(&rt, alloc, named(&rt, alloc, "T"));
     let whole = made(
@@ -177,12 +168,7 @@ fn functions(rt: HostRuntime) {
     let alloc = rt.alloc();
     let plain = made(
         &rt,
-        stmt_let(
-            alloc,
-            named(&rt, alloc, "a"),
-            None,
-            path(&rt, alloc, "b"),
-        ),
+        stmt_let(alloc, named(&rt, alloc, "a"), None, path(&rt, alloc, "b")),
     );
     let typed = made(
         &rt,
@@ -220,7 +206,8 @@ fn functions(rt: HostRuntime) {
         &rt,
         item_fn(alloc, true, named(&rt, alloc, "f"), params, output, body),
     );
-    let wanted = "pub fn f(r#fn: &mut A) -> E {\n    let a = b;\n    let c: D = a + b;\n    if a {};\n    (if c {}) + d\n}\n";
+    let wanted =
+        "pub fn f(r#fn: &mut A) -> E {\n    let a = b;\n    let c: D = a + b;\n    if a {};\n    (if c {}) + d\n}\n";
     assert!(&rt; is_printed(&rt, alloc, function, wanted));
 }
 
@@ -228,10 +215,7 @@ fn functions(rt: HostRuntime) {
 fn operands_in_functions(rt: HostRuntime) {
     let alloc = rt.alloc();
     let two = made(&rt, expr_int(alloc, 2));
-    let product = made(
-        &rt,
-        expr_binary(alloc, Op::Mul, a_and_b(&rt, alloc), two),
-    );
+    let product = made(&rt, expr_binary(alloc, Op::Mul, a_and_b(&rt, alloc), two));
     let function = made(
         &rt,
         item_fn(
@@ -268,11 +252,7 @@ fn items(rt: HostRuntime) {
             only(&rt, alloc, type_of(&rt, alloc, "u8")),
         ),
     );
-    let fields = only(
-        &rt,
-        alloc,
-        made(&rt, param(named(&rt, alloc, "b"), bytes)),
-    );
+    let fields = only(&rt, alloc, made(&rt, param(named(&rt, alloc, "b"), bytes)));
     let structure = made(
         &rt,
         item_struct(alloc, true, named(&rt, alloc, "A"), fields),
@@ -291,10 +271,7 @@ fn items(rt: HostRuntime) {
         only(&rt, alloc, constant(&rt, alloc, true)),
         constant(&rt, alloc, false),
     );
-    let module = made(
-        &rt,
-        item_mod(alloc, false, named(&rt, alloc, "m"), items),
-    );
+    let module = made(&rt, item_mod(alloc, false, named(&rt, alloc, "m"), items));
     assert!(&rt;
         is_printed(
             &rt,
@@ -318,19 +295,24 @@ fn documentation(rt: HostRuntime) {
         );
         assert!(&rt; is_documented(&rt, alloc, item, wanted), "{row}");
     }
-    let first = made(
-        &rt,
-        with_doc(alloc, constant(&rt, alloc, false), b" a"),
-    );
+    let first = made(&rt, with_doc(alloc, constant(&rt, alloc, false), b" a"));
     let second = made(&rt, with_doc(alloc, first, b" b"));
     assert!(&rt; is_documented(&rt, alloc, second, "/// a\n/// b"));
-    assert!(&rt; matches!(with_doc(alloc, constant(&rt, alloc, true), b"\xff"), Err(BuildError::BadText)));
+    assert!(&rt;
+        matches!(
+            with_doc(alloc, constant(&rt, alloc, true), b"\xff"),
+            Err(BuildError::BadText)
+        )
+    );
 }
 
 /// Whether an item is the constant `C` with documentation that is written so.
 fn is_documented(rt: &impl Abort, alloc: Global, item: BuiltItem, wanted: &str) -> bool {
     match printed(rt, alloc, item) {
-        Some(text) => text.as_bytes().strip_suffix(b"\nconst C: u8 = 1;\n".as_slice()) == Some(wanted.as_bytes()),
+        Some(text) => text
+            .as_bytes()
+            .strip_suffix(b"\nconst C: u8 = 1;\n".as_slice())
+            == Some(wanted.as_bytes()),
         None => false,
     }
 }
