@@ -17,7 +17,7 @@ FOLDER = pathlib.Path(__file__).resolve().parent.parent / "examples/generator"
 
 def main():
     usage.words(__doc__, most=0)
-    words = ["cargo", "run", "--quiet", "--release", "--offline", "--", "settings.txt"]
+    words = ["cargo", "run", "--quiet", "--offline", "--", "settings.txt"]
     ran = subprocess.run(words, cwd=FOLDER, stdout=subprocess.PIPE)
     if ran.returncode != 0:
         return f"generator.py: the generator ended with {ran.returncode}"
