@@ -26,9 +26,10 @@
 //!
 //! A node that is nested more than 256 deep is refused with [`BuildError::TooDeep`], so none takes much of the stack.
 pub use crate::generated::lay_build::{
-    BuildError, Built, BuiltBlock, BuiltExpr, BuiltField, BuiltItem, BuiltName, BuiltParam, BuiltStmt, BuiltType, File, List, NamedExpr, NamedType,
-    NoMemory, Op, block, expr_binary, expr_call, expr_field, expr_if, expr_int, expr_method, expr_path, expr_str, expr_struct, field, file, item_const,
-    item_fn, item_mod, item_struct, name, param, stmt_expr, stmt_let, type_path, type_ref, type_tuple, with_doc,
+    BuildError, Built, BuiltBlock, BuiltExpr, BuiltField, BuiltItem, BuiltName, BuiltParam, BuiltStmt, BuiltType, File, List,
+    NamedExpr, NamedType, NoMemory, Op, block, expr_binary, expr_call, expr_field, expr_if, expr_int, expr_method, expr_path,
+    expr_str, expr_struct, field, file, item_const, item_fn, item_mod, item_struct, name, param, stmt_expr, stmt_let, type_path,
+    type_ref, type_tuple, with_doc,
 };
 pub use crate::shims::Global;
 use core::fmt;

@@ -194,7 +194,8 @@ fn a_string_reads_back_to_its_text() {
     // A backslash before a line end would leave out what follows it.
     assert_eq!(written("\\\n a"), "\"\\\\\\n a\"");
     for character in (0..0x180).filter_map(char::from_u32).chain("\u{85}\u{2028}\u{2029}\u{feff}\u{fffd}\u{10ffff}".chars()) {
-        for text in [format!("{character}"), format!("{character}\n "), format!("\\{character}\""), format!("*/{character}{{}}")] {
+        for text in [format!("{character}"), format!("{character}\n "), format!("\\{character}\""), format!("*/{character}{{}}")]
+        {
             assert_eq!(text_in(&written(&text)), text);
         }
     }
@@ -304,7 +305,8 @@ fn statements_stand_in_blocks() {
 
 #[test]
 fn items_stand_in_files() {
-    let params = || list([param(named("a"), ty("B")).unwrap(), param(named("c"), type_ref(Global, false, ty("D")).unwrap()).unwrap()]);
+    let params =
+        || list([param(named("a"), ty("B")).unwrap(), param(named("c"), type_ref(Global, false, ty("D")).unwrap()).unwrap()]);
     for (public, vis) in [(false, ""), (true, "pub ")] {
         let items = [
             item_struct(Global, public, named("S"), params()).unwrap(),
@@ -329,10 +331,7 @@ fn items_stand_in_files() {
 fn documentation_is_written_as_it_may_be() {
     let fields = list([param(named("b"), type_with("Vec", [ty("u8")])).unwrap()]);
     let structure = item_struct(Global, true, named("A"), fields).unwrap();
-    assert_eq!(
-        text_of([with_doc(Global, structure, b" x").unwrap()]),
-        "/// x\npub struct A {\n    b: Vec<u8>,\n}\n"
-    );
+    assert_eq!(text_of([with_doc(Global, structure, b" x").unwrap()]), "/// x\npub struct A {\n    b: Vec<u8>,\n}\n");
     let rows = [
         ("", "///"),
         ("*/", "///*/"),
@@ -508,8 +507,30 @@ fn an_operator_that_assigns_makes_no_source() {
 
 /// Words that are special somewhere, and others.
 const WORDS: [&str; 24] = [
-    "a", "b2", "Some", "é", "type", "fn", "struct", "true", "union", "macro_rules", "raw", "safe", "auto", "gen", "await", "yield", "dyn", "async",
-    "const", "move", "r", "b", "br", "c",
+    "a",
+    "b2",
+    "Some",
+    "é",
+    "type",
+    "fn",
+    "struct",
+    "true",
+    "union",
+    "macro_rules",
+    "raw",
+    "safe",
+    "auto",
+    "gen",
+    "await",
+    "yield",
+    "dyn",
+    "async",
+    "const",
+    "move",
+    "r",
+    "b",
+    "br",
+    "c",
 ];
 /// Texts of strings and documentation.
 const TEXTS: [&str; 12] = ["", " a", "\"\\", "a\nb", " a\r\n", "*/", "/* */\n", "/", "*", "a ", "\u{feff}\u{2028}\0", "#[b]"];
@@ -555,7 +576,20 @@ impl Program {
     }
 
     fn op(&mut self) -> Op {
-        let ops = [Op::OrOr, Op::AndAnd, Op::EqEq, Op::Less, Op::GreaterEq, Op::BitOr, Op::BitAnd, Op::Shl, Op::Shr, Op::Sub, Op::Mul, Op::Rem];
+        let ops = [
+            Op::OrOr,
+            Op::AndAnd,
+            Op::EqEq,
+            Op::Less,
+            Op::GreaterEq,
+            Op::BitOr,
+            Op::BitAnd,
+            Op::Shl,
+            Op::Shr,
+            Op::Sub,
+            Op::Mul,
+            Op::Rem,
+        ];
         ops[self.0.below(ops.len() as u64) as usize]
     }
 

@@ -49,19 +49,28 @@ fn path() -> Result<BuiltExpr, BuildError> {
 
 /// A file in which each call has a part.
 fn built() -> Result<File, BuildError> {
-    let of = || type_path(Global, long_name()?, List::new(Global), one(type_ref(Global, false, type_tuple(Global, List::new(Global))?)?)?);
+    let of = || {
+        type_path(Global, long_name()?, List::new(Global), one(type_ref(Global, false, type_tuple(Global, List::new(Global))?)?)?)
+    };
     let text = expr_str(Global, b"a text that is too long to be kept without memory\n")?;
     let literal = expr_struct(Global, long_name()?, one(long_name()?)?, one(field(long_name()?, text)?)?)?;
     let sum = expr_binary(Global, Op::Add, literal, expr_int(Global, u128::MAX)?)?;
-    let called = expr_call(Global, expr_field(Global, sum, long_name()?)?, one(expr_method(Global, path()?, long_name()?, one(path()?)?)?)?)?;
+    let called = expr_call(
+        Global,
+        expr_field(Global, sum, long_name()?)?,
+        one(expr_method(Global, path()?, long_name()?, one(path()?)?)?)?,
+    )?;
     let stmts = one(stmt_let(Global, long_name()?, Some(of()?), called)?)?;
     let inner = block(Global, one(stmt_expr(Global, path()?)?)?, Some(path()?))?;
-    let body = block(Global, stmts, Some(expr_if(Global, path()?, inner, Some(block(Global, List::new(Global), Some(path()?))?))?))?;
+    let body =
+        block(Global, stmts, Some(expr_if(Global, path()?, inner, Some(block(Global, List::new(Global), Some(path()?))?))?))?;
     let function = item_fn(Global, true, long_name()?, one(param(long_name()?, of()?)?)?, Some(of()?), body)?;
     let structure = item_struct(Global, true, long_name()?, one(param(long_name()?, of()?)?)?)?;
     let mut items = one(with_doc(Global, function, b" A text that is too long to be kept without memory.")?)?;
     for item in [structure, item_const(Global, true, long_name()?, of()?, path()?)?] {
-        items.push(with_doc(Global, item, b"a text that is too long to be kept without memory ")?).map_err(|_| BuildError::NoMemory)?;
+        items
+            .push(with_doc(Global, item, b"a text that is too long to be kept without memory ")?)
+            .map_err(|_| BuildError::NoMemory)?;
     }
     Ok(file(Global, one(item_mod(Global, true, long_name()?, items)?)?)?)
 }
