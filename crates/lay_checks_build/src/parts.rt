@@ -4,7 +4,7 @@ use lay_build::{
     BuildError, BuiltBlock, BuiltExpr, BuiltItem, BuiltName, BuiltType, Op, block, expr_binary,
     expr_path, file, item_const, name, type_path,
 };
-use lay_files::text_of;
+use lay_front::unparse;
 use lay_text::{List, NoMemory, Text};
 use std::alloc::Global;
 use std::process::Abort;
@@ -69,7 +69,7 @@ pub(crate) fn nothing(rt: &impl Abort, alloc: Global) -> BuiltBlock {
 /// The text of a file of an item, or nothing for want of memory.
 pub(crate) fn printed(rt: &impl Abort, alloc: Global, item: BuiltItem) -> Option<Text> {
     match file(alloc, only(rt, alloc, item)) {
-        Ok(file) => text_of(alloc, &file).ok(),
+        Ok(file) => unparse(alloc, &file).ok(),
         Err(NoMemory) => None,
     }
 }
