@@ -1,11 +1,11 @@
 -- Documentation of items that are built.
-use Rattle.std.proofs.Common.{◌≡◌, ◌∙◌, ℕ, Bool, true, false, ◌&&◌, ◌||◌, List, [], ◌∷◌, ◌++◌, map, refl, sym, ap, subst, arith}
+use Rattle.std.proofs.Common.{MatchBool, IsUtf8, Result, Ok, Err, ◌≡◌, ◌∙◌, ℕ, Bool, true, false, ◌&&◌, ◌||◌, List, [], ◌∷◌, ◌++◌, map, refl, sym, ap, subst, arith}
 use Rattle.std.specs.Prelude.{codes, is_some}
 use Rattle.std.specs.Str.{chars, is_utf8}
 use Rattle.std.proofs.lemmas.Bool.{and_parts, and_from}
 use Rattle.std.proofs.lemmas.List.{map-append}
 use Rattle.std.proofs.lemmas.List.Folds.{list_all-append}
-use Rattle.std.proofs.lemmas.Str.{IsUtf8-from_is_utf8, encodes-chars}
+use Rattle.std.proofs.lemmas.Str.{IsUtf8-from_is_utf8, encodes-chars, is_utf8-from_IsUtf8}
 use Rattle.lay_piece.specs.Docs.{doc_form}
 use Rattle.lay_piece.specs.Forms.{after_literal, had, has_form, is_whole, literal_may_stop, may_precede}
 use Rattle.lay_piece.specs.declared.doc.DocForm.{DocForm}
@@ -20,6 +20,7 @@ use Rattle.lay_node.specs.nodes.Attr.{are_attrs, attr_form, is_attr, is_doc_inpu
 use Rattle.lay_node.specs.nodes.Vis.{is_vis}
 use Rattle.lay_node.specs.tokens.Lexed.{is_token_list}
 use Rattle.lay_node.specs.tokens.Listing.{has_form_of_doc}
+use Rattle.lay_node.specs.declared.attr.Attr.{Attr}
 use Rattle.lay_node.specs.declared.attr.MetaInput.TheVariants as input
 use Rattle.lay_node.specs.declared.heads.Site.TheVariants.{Module}
 use Rattle.lay_code.specs.nodes.Code.{told_of_kind}
@@ -28,11 +29,15 @@ use Rattle.lay_code.specs.nodes.Item.{is_inherited, kind_form}
 use Rattle.lay_code.specs.declared.item.Item.{Item}
 use Rattle.lay_code.proofs.nodes.ItemLaws as laws
 use Rattle.lay_depth.proofs.ItemLemmas as depths
-use Rattle.lay_build_types.specs.Answers.{IsMade}
+use Rattle.lay_build_types.specs.Answers.{Gives, IsMade, Makes, Refuses}
 use Rattle.lay_build_types.specs.Kinds.{IsItem, form_of_item}
 use Rattle.lay_build_types.specs.Strings.{string_text}
+use Rattle.lay_build_types.specs.declared.built.BuildError.{BuildError}
+use Rattle.lay_build_types.specs.declared.built.BuildError.TheVariants.{BadText}
+use Rattle.lay_build_types.proofs.AnswerLemmas.{wants}
 use Rattle.lay_build_types.proofs.PieceLemmas.{AllPieces, Pieces, all_behind, behind_parts, behind_pieces, ended, front}
 use Rattle.lay_build_types.proofs.StringLemmas.{literal_piece, literal_value}
+use Rattle.lay_build_exprs.proofs.JoinLemmas.{Both, both_lost, both_parts}
 use Rattle.lay_build.specs.Nodes as node
 use Rattle.lay_build.proofs.ItemLemmas.{KeptItem}
 
@@ -123,3 +128,46 @@ module _ (text : List ℕ) (utf8 : is_utf8 text ≡ true) where
 -- No attribute makes an item deeper.
 pub doc_need : (one : Item) (text : List ℕ) → least_depth (form_of_item (node.with_doc one text)) ≡ least_depth (form_of_item one)
 doc_need one text = depths.item_is (node.with_doc one text) ∙ sym (depths.item_is one)
+
+-- ---- what is answered, where the text may be bad
+
+abbrev Refused : {N : Type 0} → Result N BuildError → Type 0
+Refused result = Refuses BadText result
+
+abbrev Told : List ℕ → Result Attr BuildError → Type 0
+Told text result = Gives result (λ a. a ≡ node.doc text)
+
+module _ (text : List ℕ) (result : Result Attr BuildError) where
+  pub doc_told : IsUtf8 text → Told text result → MatchBool (is_utf8 text) (Told text result) (Refused result)
+  doc_told utf8 told =
+      subst (λ (b : Bool). MatchBool b (Told text result) (Refused result)) (sym (is_utf8-from_IsUtf8 text utf8)) told
+
+  pub doc_refused : (IsUtf8 text → ⊥) → Refused result → MatchBool (is_utf8 text) (Told text result) (Refused result)
+  doc_refused never refused = by (is_utf8 text) refl
+    where
+      by : (b : Bool) → is_utf8 text ≡ b → MatchBool b (Told text result) (Refused result)
+      by true h = absurd (never (IsUtf8-from_is_utf8 text h))
+      by false h = refused
+
+module _ (one : Item) (text : List ℕ) (made : Result Attr BuildError) (second : Item × ℕ) where
+  -- Why there is no documentation is why there is no item with it.
+  pub doc_lost : (good : Bool) (why : BuildError) → MatchBool good (Told text made) (Refused made) → Both made (Ok second) (Err why)
+      → MatchBool good (Makes form_of_item (node.with_doc one text) (Err why)) (Refused {N = Item} (Err why))
+  doc_lost true why is both =
+      wants form_of_item (node.with_doc one text) why
+      (both_lost (λ (a : Attr). a ≡ node.doc text) (λ (p : Item × ℕ). p ≡ second) made (Ok second) why is refl both)
+  doc_lost false why is both = by made is both
+    where
+      by : (r : Result Attr BuildError) → Refused r → Both r (Ok second) (Err why) → Refused {N = Item} (Err why)
+      by (Ok a) told m = absurd told
+      by (Err w) told m = let same : w ≡ why = cc in subst (λ (e : BuildError). Refused {N = Item} (Err e)) same told
+
+  pub doc_got : (good : Bool) (a : Attr) (b : Item × ℕ) → MatchBool good (Told text made) (Refused made) → Both made (Ok second) (Ok (a, b))
+      → (good ≡ true) × ((a ≡ node.doc text) × (b ≡ second))
+  doc_got true a b is both =
+      (refl, both_parts (λ (x : Attr). x ≡ node.doc text) (λ (p : Item × ℕ). p ≡ second) made (Ok second) a b is refl both)
+  doc_got false a b is both = by made is both
+    where
+      by : (r : Result Attr BuildError) → Refused r → Both r (Ok second) (Ok (a, b)) → (false ≡ true) × ((a ≡ node.doc text) × (b ≡ second))
+      by (Ok x) told m = absurd told
+      by (Err w) told m = absurd (let no : ⊥ = cc in no)

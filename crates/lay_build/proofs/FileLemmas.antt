@@ -1,16 +1,18 @@
 -- Files of items that are built can be written.
-use Rattle.std.proofs.Common.{◌≡◌, ◌≤◌, true, List, [], ◌∷◌, map, refl, arith}
+use Rattle.std.proofs.Common.{◌≡◌, ◌∙◌, ◌≤◌, true, List, [], ◌∷◌, map, None, refl, ap, arith}
 use Rattle.std.specs.List.{AllByRecursion}
 use Rattle.std.proofs.lemmas.Bool.{and_from}
 use Rattle.lay_form.specs.Depth.{least_depth}
 use Rattle.lay_form.specs.Notation.{lines}
 use Rattle.lay_form.specs.Pieces.{are_pieces}
 use Rattle.lay_node.specs.nodes.Facts.{all_good, forms}
+use Rattle.lay_node.specs.declared.attr.Attr.{Attr}
 use Rattle.lay_node.specs.declared.heads.Site.TheVariants.{Module}
 use Rattle.lay_code.specs.Reading.{top}
 use Rattle.lay_code.specs.Written.{Written}
 use Rattle.lay_code.specs.nodes.Code.{about_item}
 use Rattle.lay_code.specs.nodes.File.{form_of_file}
+use Rattle.lay_code.specs.declared.file.File.{File}
 use Rattle.lay_code.specs.declared.item.Item.{Item}
 use Rattle.lay_depth_nodes.specs.Depths.{greatest}
 use Rattle.lay_depth.proofs.ItemLemmas.{file_is}
@@ -42,3 +44,10 @@ deepest (i ∷ is) all = let more = deepest is all.1 in omega (arith, all.0.with
 
 pub file_within : (is : List Item) → KeptItems is → least_depth (form_of_file (node.file is)) ≤ top
 file_within is all = let h = file_is (node.file is) in let d = deepest is all in omega (arith, h, d)
+
+-- the file of these inner attributes and items
+abbrev file_of : List Attr → List Item → File
+file_of attrs items = record { shebang = None; attrs = attrs; items = items }
+
+pub same_file : (attrs : List Attr) (given items : List Item) → attrs ≡ [] → given ≡ items → file_of attrs given ≡ node.file items
+same_file attrs given items none same = ap (λ (inner : List Attr). file_of inner given) none ∙ ap node.file same

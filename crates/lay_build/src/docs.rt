@@ -15,20 +15,29 @@ use std::str;
 /// The item with documentation behind its attributes: a comment or, where no comment can say the text, the attribute
 /// `#[doc = "text"]`. BadText comes where the text is no UTF-8.
 pub fn with_doc(alloc: Global, item: BuiltItem, text: &[u8]) -> Result<BuiltItem, BuildError>
-    ensures { MatchBool (is_utf8 text.now) (Makes form_of_item (node.with_doc item text.now) result) (Refuses BuildError.BadText result) }
+    ensures { MatchBool (is_utf8 text.now) (Makes form_of_item (node.with_doc item text.now) result)
+        (Refuses BuildError.BadText result) }
 {
-    let (attr, item) = both(doc(alloc, text), Ok(item.into_parts()))?;
+    let (attr, item) = both(checked_doc(alloc, text), Ok(item.into_parts()))?;
     let (item, need) = item;
     kept(both(with_attr(item, attr), Ok(need)))
 }
 
-/// Documentation of what follows it.
-fn doc(alloc: Global, text: &[u8]) -> Result<Attr, BuildError>
-    ensures { MatchBool (is_utf8 text.now) (Gives result (λ attr. attr ≡ node.doc text.now)) (Refuses BuildError.BadText result) }
+/// Documentation of what follows it, where the text is UTF-8.
+fn checked_doc(alloc: Global, text: &[u8]) -> Result<Attr, BuildError>
+    ensures { MatchBool (is_utf8 text.now) (Gives result (λ attr. attr ≡ node.doc text.now))
+        (Refuses BuildError.BadText result) }
 {
-    if str::from_utf8(text).is_err() {
-        return Err(BuildError::BadText);
+    match str::from_utf8(text) {
+        Ok(_) => doc(alloc, text),
+        Err(_) => Err(BuildError::BadText),
     }
+}
+
+/// Documentation of what follows it, as a comment or as an attribute.
+fn doc(alloc: Global, text: &[u8]) -> Result<Attr, BuildError>
+    ensures { Gives result (λ attr. attr ≡ node.doc text.now) }
+{
     match doc_form(text, false) {
         DocForm::Line | DocForm::Block => Ok(Attr::Doc {
             inner: false,
