@@ -6,7 +6,8 @@ usage: documents.py COMMAND
 - The samples of README.md: what stands in each block `rust output` is what COMMAND gives of the block `rust input` before it. Each block of docs/STYLE.md is its own
   text. Each example in "Left out" of docs/GRAMMAR.md is refused, and tests/cases/left_out.jsonl has just these.
 - What the commands of docs/COMMAND.md print, over the source before it, is what stands there, and the text between them is the source's.
-- The clauses that README.md shows stand in crates/lay_front/src/command.rt.
+- The clauses that README.md shows stand in crates/lay_front/src/command.rt, its blocks `rust generator` in the generator's source under examples/generator, and
+  those `rust generated` in what that prints, output.rs.
 - The numbers of crates, of cases, of kinds of nesting and of lines of definitions are what is there.
 - Each file that a document names between backquotes, or by its path in docs/, is there. The contents of docs/DECISIONS.md are its sections.
 - Each crate has a row in docs/ARCHITECTURE.md and in docs/PROVED.md, and a place in the graph.
@@ -84,6 +85,13 @@ def wrong_clauses():
                     yield f"README.md: not in command.rt: {clause[:60]!r}"
 
 
+def wrong_generator():
+    files = {"generator": "examples/generator/src/main.rs", "generated": "examples/generator/output.rs"}
+    for _, kind, text in BLOCK.findall((TOP / "README.md").read_text()):
+        if kind in files and text not in (TOP / files[kind]).read_text():
+            yield f"README.md: not in {files[kind]}: {text[:60]!r}"
+
+
 def wrong_numbers():
     crates = (TOP / "crates.txt").read_text().count(":")
     by_file = {path.name: path.read_text().count("\n") for path in (TOP / "tests/cases").glob("*.jsonl")}
@@ -148,7 +156,7 @@ def main():
     if not os.access(command, os.X_OK):
         usage.refuse(__doc__, f"not there: {command}")
     command = os.path.abspath(command)
-    found = [*wrong_samples(command), *wrong_refusals(command), *wrong_commands(command), *wrong_clauses(), *wrong_numbers(), *wrong_names(), *wrong_rows(), *wrong_contents()]
+    found = [*wrong_samples(command), *wrong_refusals(command), *wrong_commands(command), *wrong_clauses(), *wrong_generator(), *wrong_numbers(), *wrong_names(), *wrong_rows(), *wrong_contents()]
     print(*found, sep="\n", end="\n" if found else "")
     return 1 if found else 0
 

@@ -88,6 +88,14 @@ impl fmt::Display for Error {
 
 impl core::error::Error for Error {}
 
+impl fmt::Display for NoMemory {
+    fn fmt(&self, out: &mut fmt::Formatter<'_>) -> fmt::Result {
+        out.write_str(Error::NO_MEMORY.message())
+    }
+}
+
+impl core::error::Error for NoMemory {}
+
 impl From<NoMemory> for Error {
     fn from(_: NoMemory) -> Error {
         Error::NO_MEMORY

@@ -20,6 +20,9 @@
 //! assert_eq!(text, "pub fn f() {}\n");
 //! ```
 //!
+//! A generator that writes no text builds a file by the calls of [`build`], or puts a tree together of the types of [`tree`], and prints it
+//! with [`unparse`].
+//!
 //! # What is trusted
 //!
 //! The module `generated` is translated by a program from sources that are proved, which leaves their contracts out. It isn't proved itself:
@@ -43,6 +46,7 @@ extern crate alloc;
 #[cfg(feature = "std")]
 extern crate std;
 
+pub mod build;
 mod calls;
 mod error;
 #[allow(dead_code, unused_imports, unused_labels, unused_variables, clippy::all)]

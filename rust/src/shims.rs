@@ -368,17 +368,24 @@ impl<T> HeapCircularBuffer<T> {
 }
 
 /// Room for the digits of a number.
-pub struct Buffer([u8; 20]);
+pub struct Buffer([u8; 39]);
 
 impl Buffer {
     pub fn new() -> Buffer {
-        Buffer([b'0'; 20])
+        Buffer([b'0'; 39])
     }
 
     /// The number in decimal digits.
-    pub fn format<N: TryInto<u64>>(&mut self, number: N) -> &str {
-        let mut rest = number.try_into().unwrap_or(0);
+    pub fn format<N: TryInto<u128>>(&mut self, number: N) -> &str {
+        let mut wide = number.try_into().unwrap_or(0);
         let mut at = self.0.len() - 1;
+        // To divide so wide a number is slow, so it is done only as long as it must be.
+        while wide > u64::MAX.into() {
+            self.0[at] = b'0' + (wide % 10) as u8;
+            wide /= 10;
+            at -= 1;
+        }
+        let mut rest = wide as u64;
         self.0[at] = b'0' + (rest % 10) as u8;
         rest /= 10;
         while rest > 0 {

@@ -4,21 +4,13 @@ extern crate alloc;
 
 #[path = "../src/shims.rs"]
 mod shims;
+mod draws;
 mod refusing;
 
+use draws::Draw;
 use refusing::with_refusal;
 use shims::{Arg, ArgAction, Box, Buffer, Command, Global, HeapCircularBuffer, SmallVec, Vec, error::ErrorKind, filled};
 use std::collections::VecDeque;
-
-/// Numbers that are drawn the same way each time.
-struct Draw(u64);
-
-impl Draw {
-    fn below(&mut self, bound: u64) -> u64 {
-        self.0 = self.0.wrapping_mul(6364136223846793005).wrapping_add(1442695040888963407);
-        (self.0 >> 33) % bound
-    }
-}
 
 #[test]
 fn a_vector_does_what_rusts_does() {
@@ -199,11 +191,12 @@ fn a_queue_does_what_rusts_does_within_its_room() {
 
 #[test]
 fn numbers_have_the_digits_that_rust_gives_them() {
-    for power in 0..64 {
-        for number in [(1u64 << power) - 1, 1 << power, u64::MAX - (1 << power)] {
+    for power in 0..128 {
+        for number in [(1u128 << power) - 1, 1 << power, u128::MAX - (1 << power)] {
             assert_eq!(Buffer::new().format(number), number.to_string());
         }
     }
+    assert_eq!(Buffer::new().format(u64::MAX), "18446744073709551615");
     assert_eq!(Buffer::new().format(256u32), "256");
     assert_eq!(Buffer::new().format(16_777_216usize), "16777216");
 }

@@ -1,5 +1,6 @@
 #!/usr/bin/env python3
-"""Tests the translator: what it doesn't know has to end its run with the file and the line where it stands, and trees are offered whole.
+"""Tests the translator: what it doesn't know has to end its run with the file and the line where it stands, and trees are offered
+whole, and so are the calls that build them.
 
 usage: test.py"""
 import os
@@ -16,7 +17,7 @@ PLANTED = [
     ('#[strange]\nfn a() {}', 1, 'the attribute strange'),
     ('#[derive(Clone, Strange)]\nstruct A;', 1, 'the derive Strange'),
     ('use std::sync::Arc;', 1, 'the path std::sync'),
-    ('fn a() {\n    std::mem::swap(b, c)\n}', 2, 'the path std::mem'),
+    ('fn a() {\n    std::ptr::swap(b, c)\n}', 2, 'the path std::ptr'),
     ('fn a() {\n    println!("b")\n}', 2, 'the macro println'),
     ('fn a() {\n    b ⊎ c\n}', 2, 'the sign ⊎'),
     ('/* a */', 1, 'a block comment'),
@@ -50,8 +51,8 @@ def translate(source):
     """What the translator says of a repository of one crate, and what it makes of that."""
     with tempfile.TemporaryDirectory() as top:
         with open(os.path.join(top, 'crates.txt'), 'w', encoding='utf-8') as file:
-            file.write('lay_front: regex smallvec\nlay_laws: lay_front\n')
-        for crate in ('lay_front', 'lay_laws'):
+            file.write('lay_front: regex smallvec\nlay_laws: lay_front\nlay_build: lay_front\n')
+        for crate in ('lay_front', 'lay_laws', 'lay_build'):
             os.makedirs(os.path.join(top, 'crates', crate, 'src'))
             with open(os.path.join(top, 'crates', crate, 'src', 'lib.rt'), 'w', encoding='utf-8') as file:
                 file.write(source if crate == 'lay_front' else KNOWN)
@@ -89,11 +90,21 @@ def tree_failures():
         yield f'rust/src/tree.rs and lay_tree differ in {sorted(ours ^ theirs)}'
 
 
+def build_failures():
+    """The crate's calls that build files are all that lay_build passes on but laws."""
+    ours = listed('rust/src/build.rs', 'pub use crate::generated::lay_build::{')
+    with open(os.path.join(TOP, 'crates/lay_build/src/lib.rt'), encoding='utf-8') as file:
+        passed_on = re.findall(r'^pub use \w+::([^;]*);', file.read(), re.M)
+    theirs = {name for names in passed_on for name in re.findall(r'\w+', names) if not name.endswith('_law')}
+    if ours != theirs:
+        yield f'rust/src/build.rs and lay_build differ in {sorted(ours ^ theirs)}'
+
+
 def main():
     if sys.argv[1:]:
         print('usage: test.py')
         sys.exit(0 if sys.argv[1:] == ['--help'] else 2)
-    failures = [*planted_failures(), *tree_failures()]
+    failures = [*planted_failures(), *tree_failures(), *build_failures()]
     for failure in failures:
         print(failure)
     print(f'{len(PLANTED)} planted, {len(failures)} failures')

@@ -14,7 +14,7 @@ import sys
 from dataclasses import dataclass, replace
 
 # The crates whose calls the cargo crate offers. All crates below them become modules.
-ROOTS = ['lay_front', 'lay_laws']
+ROOTS = ['lay_front', 'lay_laws', 'lay_build']
 # Crates that hold nothing that runs.
 LAWS = {'lay_form', 'lay_loose', 'lay_reparse', 'lay_units'}
 # Modules that aren't taken over: what reaches the system, which the cargo crate does by its own standard library, and what only tests use.
@@ -26,7 +26,7 @@ LEFT_OUT = {
 PLACES = {
     'std::alloc': 'crate::shims',
     'std::boxed': 'crate::shims',
-    'std::mem::forget': 'core::mem::forget',
+    'std::mem': 'core::mem',
     'std::str': 'core::str',
     'smallvec': 'crate::shims',
     'circular_buffer': 'crate::shims',

@@ -1,6 +1,9 @@
 //! The proved sources without their contracts, one module for each crate.
 pub mod identifiers;
 pub mod lay_alone;
+pub mod lay_build;
+pub mod lay_build_exprs;
+pub mod lay_build_types;
 pub mod lay_climb;
 pub mod lay_code;
 pub mod lay_cook;

@@ -1,0 +1,48 @@
+//! Made by scripts/rust.sh from crates/lay_build_exprs/src/leaves.rt, which is proved: change that.
+//!
+//! Literals and paths.
+use crate::shims::Buffer;
+use crate::generated::lay_build_types::{
+    BuildError,
+    BuiltExpr,
+    BuiltName,
+    kept,
+    nodes,
+    path,
+    string_literal,
+};
+use crate::generated::lay_code::{Args, Expr, Literal};
+use crate::generated::lay_piece::Kind;
+use crate::generated::lay_text::{List, NoMemory, Text};
+use crate::shims::Global;
+use core::str;
+/// The integer literal of a number, in decimal digits and without a suffix.
+pub fn expr_int(alloc: Global, value: u128) -> Result<BuiltExpr, BuildError> {
+    match Text::from_bytes(alloc, Buffer::new().format(value).as_bytes()) {
+        Ok(text) => leaf(Expr::Lit { literal: Literal { kind: Kind::Int, text } }),
+        Err(NoMemory) => Err(BuildError::NoMemory),
+    }
+}
+/// The string literal whose value a text is. BadText comes where the text is no UTF-8.
+pub fn expr_str(alloc: Global, text: &[u8]) -> Result<BuiltExpr, BuildError> {
+    if str::from_utf8(text).is_err() {
+        return Err(BuildError::BadText);
+    }
+    let text = string_literal(alloc, text)?;
+    leaf(Expr::Lit { literal: Literal { kind: Kind::Str, text } })
+}
+/// The path of these names: `a::b::C`.
+pub fn expr_path(
+    alloc: Global,
+    first: BuiltName,
+    rest: List<BuiltName>,
+) -> Result<BuiltExpr, BuildError> {
+    let (first, _) = first.into_parts();
+    let (rest, _) = nodes(alloc, rest)?;
+    let path = path(alloc, first, rest, Args::None)?;
+    leaf(Expr::Path { path })
+}
+/// An expression with nothing in it that needs depth.
+fn leaf(expr: Expr) -> Result<BuiltExpr, BuildError> {
+    kept(Ok((expr, 1)))
+}
