@@ -31,15 +31,19 @@ pub fn with_doc(
     item: BuiltItem,
     text: &[u8],
 ) -> Result<BuiltItem, BuildError> {
-    let (attr, item) = both(doc(alloc, text), Ok(item.into_parts()))?;
+    let (attr, item) = both(checked_doc(alloc, text), Ok(item.into_parts()))?;
     let (item, need) = item;
     kept(both(with_attr(item, attr), Ok(need)))
 }
-/// Documentation of what follows it.
-fn doc(alloc: Global, text: &[u8]) -> Result<Attr, BuildError> {
-    if str::from_utf8(text).is_err() {
-        return Err(BuildError::BadText);
+/// Documentation of what follows it, where the text is UTF-8.
+fn checked_doc(alloc: Global, text: &[u8]) -> Result<Attr, BuildError> {
+    match str::from_utf8(text) {
+        Ok(_) => doc(alloc, text),
+        Err(_) => Err(BuildError::BadText),
     }
+}
+/// Documentation of what follows it, as a comment or as an attribute.
+fn doc(alloc: Global, text: &[u8]) -> Result<Attr, BuildError> {
     match doc_form(text, false) {
         DocForm::Line | DocForm::Block => {
             Ok(Attr::Doc { inner: false, text: copied(alloc, text)? })
