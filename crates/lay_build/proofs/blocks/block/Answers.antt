@@ -1,10 +1,10 @@
-use Rattle.std.proofs.Common.{◌≡◌, ◌∙◌, ℕ, ◌+◌, max, List, ◌++◌, Option, ap, subst, arith}
+use Rattle.std.proofs.Common.{◌≡◌, ◌∙◌, ℕ, List, ◌++◌, Option, ap, subst, arith}
 use Rattle.std.specs.Option.{option_to_list}
 use Rattle.lay_code.specs.declared.blocks.Block.{Block}
 use Rattle.lay_code.specs.declared.blocks.Stmt.{Stmt}
 use Rattle.lay_code.specs.declared.exprs.Expr.{Expr}
 use Rattle.lay_build_types.specs.Answers.{AreParts}
-use Rattle.lay_build_types.specs.Kinds.{IsBlock, IsStmt, form_of_block, form_of_expr, form_of_stmt}
+use Rattle.lay_build_types.specs.Kinds.{IsBlock, IsStmt, form_of_block, form_of_stmt}
 use Rattle.lay_build_types.proofs.AnswerLemmas.{Is, part_of}
 use Rattle.lay_build.specs.Nodes as node
 use Rattle.lay_build.proofs.BlockLemmas.{block_made, block_need}

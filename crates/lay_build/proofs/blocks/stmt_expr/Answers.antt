@@ -1,9 +1,8 @@
-use Rattle.std.proofs.Common.{◌∙◌, ℕ, ◌+◌, ap, subst, arith}
+use Rattle.std.proofs.Common.{ℕ, ◌+◌, ap, subst, arith}
 use Rattle.lay_code.specs.declared.blocks.Stmt.{Stmt}
 use Rattle.lay_code.specs.declared.exprs.Expr.{Expr}
-use Rattle.lay_build_types.specs.Answers.{Gives}
-use Rattle.lay_build_types.specs.Kinds.{IsStmt, form_of_expr, form_of_stmt}
-use Rattle.lay_build_types.proofs.AnswerLemmas.{Is, makes, part_of}
+use Rattle.lay_build_types.specs.Kinds.{IsStmt, form_of_stmt}
+use Rattle.lay_build_types.proofs.AnswerLemmas.{Is, part_of}
 use Rattle.lay_build.specs.Nodes as node
 use Rattle.lay_build.proofs.BlockLemmas.{expr_stmt_made, expr_stmt_need}
 use Rattle.lay_build.proofs.PartLemmas.{both_is}

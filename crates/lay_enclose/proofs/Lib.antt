@@ -1,0 +1,3 @@
+pub mod ShellLemmas
+pub mod WholeLemmas
+pub mod KeptLemmas

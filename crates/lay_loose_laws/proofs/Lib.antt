@@ -1,0 +1,17 @@
+pub mod Kept
+pub mod PartLemmas
+pub mod ExprLemmas
+pub mod ExprErased
+pub mod StepLemmas
+pub mod BlockLemmas
+pub mod ItemLemmas
+pub mod Closed
+pub mod Family
+pub mod ConstantLemmas
+pub mod DepthKept
+pub mod DepthParts
+pub mod DepthExprs
+pub mod DepthBlocks
+pub mod DepthItems
+pub mod DepthFamily
+pub mod EnclosedLemmas
