@@ -1,5 +1,5 @@
 //! Literals and paths.
-ghost use Rattle.std.specs.Prelude.{MatchBool};
+ghost use Rattle.std.specs.Prelude.{◌≡◌, MatchBool};
 ghost use Rattle.std.specs.Str.{is_utf8};
 ghost use Rattle.lay_build_types.specs.Answers.{IsPart, Makes, Refuses};
 ghost use Rattle.lay_build_types.specs.Kinds.{IsExpr, form_of_expr};
@@ -33,7 +33,7 @@ pub fn expr_str(alloc: Global, text: &[u8]) -> Result<BuiltExpr, BuildError>
     ensures { MatchBool (is_utf8 text.now) (Makes form_of_expr (node.expr_str text.now) result)
         (Refuses BuildError.BadText result) }
 {
-    if str::from_utf8(text).is_err() {
+    if !is_text(text) {
         return Err(BuildError::BadText);
     }
     let text = string_literal(alloc, text)?;
@@ -43,6 +43,13 @@ pub fn expr_str(alloc: Global, text: &[u8]) -> Result<BuiltExpr, BuildError>
             text,
         },
     })
+}
+
+/// Whether bytes are UTF-8.
+fn is_text(bytes: &[u8]) -> bool
+    ensures { result ≡ is_utf8 bytes.now }
+{
+    str::from_utf8(bytes).is_ok()
 }
 
 /// The path of these names: `a::b::C`.

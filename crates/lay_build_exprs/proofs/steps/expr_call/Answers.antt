@@ -1,0 +1,41 @@
+use Rattle.std.proofs.Common.{◌∙◌, ℕ, List, sym, ap, subst, arith}
+use Rattle.lay_code.specs.declared.exprs.Expr.{Expr}
+use Rattle.lay_code.specs.declared.exprs.Step.TheVariants as step
+use Rattle.lay_depth_nodes.specs.Depths.{greatest}
+use Rattle.std.specs.Prelude.{map}
+use Rattle.lay_build_types.specs.Answers.{AreParts, Gives}
+use Rattle.lay_build_types.specs.Kinds.{IsExpr, form_of_expr}
+use Rattle.lay_build_exprs.specs.Nodes as node
+use Rattle.lay_build_exprs.specs.Parts.{WithNeed}
+use Rattle.lay_build_exprs.proofs.JoinLemmas.{both_parts}
+use Rattle.lay_build_exprs.proofs.PartLemmas.{callee_within, part_with}
+use Rattle.lay_build_exprs.proofs.StepLemmas.{call_depth, expr_call_made}
+use Rattle.lay_build_exprs.proofs.steps.expr_call.Goals as goal
+
+pub stepped-requires-clause-low : goal.stepped-requires-clause-low
+stepped-requires-clause-low c =
+    let two =
+    both_parts (WithNeed (node.callee c.args.base)) (AreParts form_of_expr IsExpr c.args.args) c.callee.result c.nodes.result c.in_ok-base.base c.in_ok-base.args
+    c.callee.ensures.part c.nodes.ensures c.in_ok-base.ensures in
+    let n = ap (λ (p : Expr × ℕ). p.1) two.0 in
+    let within = callee_within c.args.base c.callee.ensures.kept in omega (arith, n, within)
+
+pub stepped-requires-clause-more : goal.stepped-requires-clause-more
+stepped-requires-clause-more c =
+    let two =
+    both_parts (WithNeed (node.callee c.args.base)) (AreParts form_of_expr IsExpr c.args.args) c.callee.result c.nodes.result c.in_ok-base.base c.in_ok-base.args
+    c.callee.ensures.part c.nodes.ensures c.in_ok-base.ensures in
+    two.1.need ∙ ap (λ (xs : List Expr). greatest (map form_of_expr xs)) (sym two.1.same) ∙ sym (call_depth c.in_ok-base.args.0)
+
+pub kept-requires : goal.kept-requires
+kept-requires c =
+    let base = c.args.base in
+    let x = node.callee base in
+    let stepped = c.stepped.result in
+    let two =
+    both_parts (WithNeed (node.callee c.args.base)) (AreParts form_of_expr IsExpr c.args.args) c.callee.result c.nodes.result c.in_ok-base.base c.in_ok-base.args
+    c.callee.ensures.part c.nodes.ensures c.in_ok-base.ensures in
+    let told =
+    subst (λ (p : Expr × ℕ). Gives stepped (WithNeed (node.stepped p.0 (step.Apply c.in_ok-base.args.0)))) two.0 c.stepped.ensures in
+    let with_args = subst (λ (xs : List Expr). Gives stepped (WithNeed (node.stepped x (step.Apply xs)))) two.1.same told in
+    part_with (node.expr_call base c.args.args) stepped with_args (expr_call_made base c.callee.ensures.kept c.args.args two.1.kept)
