@@ -25,11 +25,15 @@ pub fn expr_int(alloc: Global, value: u128) -> Result<BuiltExpr, BuildError> {
 }
 /// The string literal whose value a text is. BadText comes where the text is no UTF-8.
 pub fn expr_str(alloc: Global, text: &[u8]) -> Result<BuiltExpr, BuildError> {
-    if str::from_utf8(text).is_err() {
+    if !is_text(text) {
         return Err(BuildError::BadText);
     }
     let text = string_literal(alloc, text)?;
     leaf(Expr::Lit { literal: Literal { kind: Kind::Str, text } })
+}
+/// Whether bytes are UTF-8.
+fn is_text(bytes: &[u8]) -> bool {
+    str::from_utf8(bytes).is_ok()
 }
 /// The path of these names: `a::b::C`.
 pub fn expr_path(
