@@ -3,8 +3,8 @@
 #
 # usage: unproved_tests.sh FOLDER    FOLDER isn't there yet; it becomes a clone of this repository with these crates added
 #
-# The exit status is 0 where every test passed. It takes four to eight minutes. The files are named `.rs` here, since the gate
-# proves whatever is named `.rt`.
+# The exit status is 0 where every test passed. It takes a quarter of an hour, and more beside other work. The files are named `.rs`
+# here, since the gate proves whatever is named `.rt`.
 set -eu
 . "$(dirname "$0")/usage.sh"
 words 1 1 "$@"
@@ -20,6 +20,6 @@ lay_more_pairs: lay_token lay_code lay_tree lay_files lay_laws lay_given lay_ops
 END
 failed=
 for crate in lay_more_trees lay_more_nodes lay_more_pairs; do
-    (cd "crates/$crate" && rt try --test) || failed=$crate
+    (cd "crates/$crate" && rt try --test --seconds 3600) || failed=$crate
 done
 [ -z "$failed" ]
