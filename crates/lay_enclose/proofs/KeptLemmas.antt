@@ -1,7 +1,8 @@
 -- What the layout asks of bodies, statements and steps is the same of them where they are enclosed.
-use Rattle.std.proofs.Common.{◌≡◌, ℕ, ◌+◌, if◌then◌else◌, not, ◌&&◌, Bool, true, false, List, [], ◌∷◌, map, option_map, Some, None, refl, sym, ap, ◌∙◌}
+use Rattle.std.proofs.Common.{◌≡◌, ℕ, ◌+◌, if◌then◌else◌, not, ◌&&◌, Bool, true, false, List, [], ◌∷◌, map, Option, option_map, Some, None, refl, sym, ap, ◌∙◌}
 use Rattle.lay_form.specs.Form.{Marked}
 use Rattle.lay_node.specs.declared.attr.Attr.{Attr}
+use Rattle.lay_node.specs.declared.token.Lifetime.{Lifetime}
 use Rattle.lay_code.specs.nodes.Bodies.{braces_of}
 use Rattle.lay_code.specs.nodes.Blocks.{is_single}
 use Rattle.lay_code.specs.nodes.Code.{about_expr, about_step, about_stmt}
@@ -133,6 +134,33 @@ bare_block : (x : Expr) → is_bare x ≡ true → (b : Block) × (x ≡ expr.Bl
 bare_block x is =
     let found = bare_is_block (views.out-Expr x) is in
     (found.0, sym (views.roll-out-Expr x) ∙ ap views.roll-Expr found.1 ∙ views.rolls-Block None found.0)
+
+-- What is no block is none without a label.
+pub other_bare : (x : Expr) → ((label : Option Lifetime) (b : Block) → x ≡ expr.Block label b → ⊥) → is_bare x ≡ false
+other_bare x no_block = by (is_bare x) refl
+  where
+    by : (bare : Bool) → is_bare x ≡ bare → bare ≡ false
+    by true is = let found = bare_block x is in absurd (no_block None found.0 found.1)
+    by false is = refl
+
+-- A block is one where it has none.
+pub block_bare : (x : Expr) (label : Option Lifetime) (b : Block) → x ≡ expr.Block label b → label ≡ None → is_bare x ≡ true
+block_bare x label b is none =
+    ap is_bare is ∙ ap is_bare_node (views.outs-Block label b) ∙ ap (λ (l : Option Lifetime). is_bare_node (Expr-F.Block l b)) none
+
+pub labelled_bare : (x : Expr) (label : Option Lifetime) (b : Block) (l : Lifetime) → x ≡ expr.Block label b → label ≡ Some l
+    → is_bare x ≡ false
+labelled_bare x label b l is some =
+    ap is_bare is ∙ ap is_bare_node (views.outs-Block label b) ∙ ap (λ (m : Option Lifetime). is_bare_node (Expr-F.Block m b)) some
+
+-- A body gets parentheses where parts do, unless it is one.
+pub never_enclosed : (d bare : Bool) → bare ≡ true → false ≡ (d && not bare)
+never_enclosed true bare is = rw is refl
+never_enclosed false bare is = refl
+
+pub enclosed_as_parts : (d bare : Bool) → bare ≡ false → d ≡ (d && not bare)
+enclosed_as_parts true bare is = rw is refl
+enclosed_as_parts false bare is = refl
 
 block_by : {A : Type 0} (f : Expr → A) (d : Bool) (x : Expr) → ((b c : Block) → f (expr.Block None b) ≡ f (expr.Block None c))
     → is_bare x ≡ true → f x ≡ f (enclose d x)

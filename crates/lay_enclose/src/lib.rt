@@ -6,6 +6,8 @@
 //! made of its parts.
 #![tactic(auto)]
 
+mod enclosing;
 mod laws;
 
+pub use enclosing::{AsIs, Enclose, Enclosed, is_body_enclosed};
 pub use laws::shell_law;

@@ -6,13 +6,15 @@ ghost use Rattle.lay_form.specs.Stream.{stream_of};
 ghost use Rattle.lay_code.specs.nodes.Blocks.{else_form};
 ghost use Rattle.lay_code.specs.nodes.Code.{about_block, about_expr, about_stmt};
 ghost use Rattle.lay_code.specs.nodes.Exprs.{value_form};
+ghost use Rattle.lay_enclose.specs.Enclosed.{enclose_block, enclose_stmt, part};
 ghost use Rattle.lay_out_types.specs.Calls.{Adds};
 ghost use Rattle.lay_out_types.specs.Rows.{further};
 ghost use Rattle.lay_out_code.specs.Parts.{stmt_told};
 
-use crate::exprs::add_expr;
+use crate::exprs::{add_expr, add_whole};
 use crate::items::{add_inner_attrs, add_item};
 use lay_code::{Block, Boxed, Expr, Stmt};
+use lay_enclose::{AsIs, Enclose};
 use lay_layout::Break;
 use lay_out_exprs::blocks::{close_soft, is_single};
 use lay_out_exprs::flags::both;
@@ -30,19 +32,19 @@ pub fn put_block<E: Emit>(out: &mut E, block: &Block, lead: bool) -> Result<(), 
     ensures { Did E.meanings out.old (stream_of ((about_block block.now).form lead)) result
         out.new }
 {
-    add_block(out, Ok(()), lead, block)
+    add_block::<E, AsIs>(out, Ok(()), lead, block)
 }
 
 /// A block, with each statement on a line of its own. The braces have a leading blank or not.
 #[cycle(code)]
-pub fn add_block<E: Emit>(
+pub fn add_block<E: Emit, X: Enclose>(
     out: &mut E,
     before: Result<(), E::Fault>,
     lead: bool,
     block: &Block,
 ) -> Result<(), E::Fault>
-    ensures { Adds E.meanings before out.old (stream_of ((about_block block.now).form lead)) result
-        out.new }
+    ensures { let told = about_block (enclose_block X.on block.now) in
+        Adds E.meanings before out.old (stream_of (told.form lead)) result out.new }
 {
     let attrs = block.attrs.as_slice();
     let stmts = block.stmts.as_slice();
@@ -51,43 +53,43 @@ pub fn add_block<E: Emit>(
     }
     let opened = open_body(out, before, lead);
     let attrs = add_inner_attrs(out, opened, attrs);
-    let stmts = add_stmts(out, attrs, HARD_BREAK, stmts);
+    let stmts = add_stmts::<E, X>(out, attrs, HARD_BREAK, stmts);
     close_body(out, stmts)
 }
 
 /// A block that may stand on one line where it is one expression.
 #[cycle(code)]
-pub fn add_soft<E: Emit>(
+pub fn add_soft<E: Emit, X: Enclose>(
     out: &mut E,
     before: Result<(), E::Fault>,
     block: &Block,
 ) -> Result<(), E::Fault>
-    ensures { Adds E.meanings before out.old (stream_of (about_block block.now).soft) result
-        out.new }
+    ensures { let told = about_block (enclose_block X.on block.now) in
+        Adds E.meanings before out.old (stream_of told.soft) result out.new }
 {
     if is_single(block) {
         let opened = open_body(out, before, true);
-        let stmts = add_stmts(out, opened, SPACE_BREAK, block.stmts.as_slice());
+        let stmts = add_stmts::<E, X>(out, opened, SPACE_BREAK, block.stmts.as_slice());
         return close_soft(out, stmts);
     }
-    add_block(out, before, true, block)
+    add_block::<E, X>(out, before, true, block)
 }
 
 /// Statements, each behind a break.
 #[cycle(code)]
-fn add_stmts<E: Emit>(
+fn add_stmts<E: Emit, X: Enclose>(
     out: &mut E,
     before: Result<(), E::Fault>,
     lead: Break,
     stmts: &[Stmt],
 ) -> Result<(), E::Fault>
     ensures { Adds E.meanings before out.old (further (tok.Break lead ∷ [])
-        (map stmt_told stmts.now)) result out.new }
+        (map stmt_told (map (enclose_stmt X.on) stmts.now))) result out.new }
 {
     let mut done = before;
     for stmt in stmts {
         done = add_break(out, done, lead);
-        done = add_stmt(out, done, stmt);
+        done = add_stmt::<E, X>(out, done, stmt);
     }
     done
 }
@@ -96,13 +98,18 @@ fn add_stmts<E: Emit>(
 pub fn put_stmt<E: Emit>(out: &mut E, stmt: &Stmt) -> Result<(), E::Fault>
     ensures { Did E.meanings out.old (stream_of (about_stmt stmt.now).form) result out.new }
 {
-    add_stmt(out, Ok(()), stmt)
+    add_stmt::<E, AsIs>(out, Ok(()), stmt)
 }
 
 /// A statement.
 #[cycle(code)]
-fn add_stmt<E: Emit>(out: &mut E, before: Result<(), E::Fault>, stmt: &Stmt) -> Result<(), E::Fault>
-    ensures { Adds E.meanings before out.old (stream_of (about_stmt stmt.now).form) result out.new }
+fn add_stmt<E: Emit, X: Enclose>(
+    out: &mut E,
+    before: Result<(), E::Fault>,
+    stmt: &Stmt,
+) -> Result<(), E::Fault>
+    ensures { let told = about_stmt (enclose_stmt X.on stmt.now) in
+        Adds E.meanings before out.old (stream_of told.form) result out.new }
 {
     match stmt {
         Stmt::Let {
@@ -116,14 +123,14 @@ fn add_stmt<E: Emit>(out: &mut E, before: Result<(), E::Fault>, stmt: &Stmt) -> 
             let word = add_text(out, attrs, b"let ");
             let pat = add_pat(out, word, pat);
             let ty = add_self_type(out, pat, ty);
-            let value = add_value(out, ty, value);
-            let otherwise = add_otherwise(out, value, otherwise);
+            let value = add_value::<E, X>(out, ty, value);
+            let otherwise = add_otherwise::<E, X>(out, value, otherwise);
             add_text(out, otherwise, b";")
         },
-        Stmt::Item { item } => add_item(out, before, item.get()),
+        Stmt::Item { item } => add_item::<E, X>(out, before, item.get()),
         Stmt::Expr { attrs, expr, ended } => {
             let attrs = add_attrs(out, before, attrs.as_slice());
-            let expr = add_expr(out, attrs, false, expr.get());
+            let expr = add_whole::<E, X>(out, attrs, false, expr.get());
             add_if(out, expr, *ended, b";")
         },
     }
@@ -131,39 +138,39 @@ fn add_stmt<E: Emit>(out: &mut E, before: Result<(), E::Fault>, stmt: &Stmt) -> 
 
 /// The block that a binding leads to where its pattern isn't matched, if there is one, behind its `else`.
 #[cycle(code)]
-fn add_otherwise<E: Emit>(
+fn add_otherwise<E: Emit, X: Enclose>(
     out: &mut E,
     before: Result<(), E::Fault>,
     otherwise: &Option<Block>,
 ) -> Result<(), E::Fault>
-    ensures { Adds E.meanings before out.old (stream_of
-        (else_form (option_map about_block otherwise.now))) result out.new }
+    ensures { let told = option_map about_block (option_map (enclose_block X.on) otherwise.now) in
+        Adds E.meanings before out.old (stream_of (else_form told)) result out.new }
 {
     match otherwise {
         None => before,
         Some(block) => {
             let word = add_text(out, before, b" else");
-            add_block(out, word, true, block)
+            add_block::<E, X>(out, word, true, block)
         },
     }
 }
 
 /// A value, if there is one, behind its `=`.
 #[cycle(code)]
-pub fn add_value<E: Emit>(
+pub fn add_value<E: Emit, X: Enclose>(
     out: &mut E,
     before: Result<(), E::Fault>,
     value: &Option<Boxed<Expr>>,
 ) -> Result<(), E::Fault>
-    ensures { Adds E.meanings before out.old (stream_of
-        (value_form (option_map about_expr value.now))) result out.new }
+    ensures { let told = option_map about_expr (option_map (part X.on) value.now) in
+        Adds E.meanings before out.old (stream_of (value_form told)) result out.new }
 {
     match value {
         None => before,
         Some(expr) => {
             let equals = add_text(out, before, b" = ");
             let lead = add_break(out, equals, NEVER_BREAK);
-            add_expr(out, lead, false, expr.get())
+            add_expr::<E, X>(out, lead, false, expr.get())
         },
     }
 }

@@ -11,6 +11,7 @@ ghost use Rattle.lay_node.specs.nodes.Heads.{value_head_form};
 ghost use Rattle.lay_code.specs.nodes.Code.{about_block, about_expr, form_of_item, told_of_kind};
 ghost use Rattle.lay_code.specs.nodes.Exprs.{value_form};
 ghost use Rattle.lay_code.specs.nodes.Item.{function_tail};
+ghost use Rattle.lay_enclose.specs.Enclosed.{enclose_block, enclose_item, enclose_kind, part};
 ghost use Rattle.lay_out_types.specs.Calls.{Adds};
 ghost use Rattle.lay_out_code.specs.Parts.{head_row, kind_row};
 
@@ -19,6 +20,7 @@ use crate::calls::{add_alias, add_bare_attr, add_enum, add_extern_crate, add_str
 use crate::heads::{Head, add_clause, add_ended, add_ended_clause, add_foreign_head, add_head};
 use crate::macros::{add_call_item, add_macro_rules};
 use lay_code::{Attr, Block, Boxed, Expr, FnHead, Item, ItemKind, ValueHead, Vis, Wheres};
+use lay_enclose::{AsIs, Enclose};
 use lay_out_exprs::flags::both;
 use lay_out_heads::calls::add_break;
 use lay_out_heads::items::{leads, open_head};
@@ -33,32 +35,33 @@ use lay_stream::Emit;
 pub fn put_item<E: Emit>(out: &mut E, item: &Item) -> Result<(), E::Fault>
     ensures { Did E.meanings out.old (stream_of (form_of_item item.now)) result out.new }
 {
-    add_item(out, Ok(()), item)
+    add_item::<E, AsIs>(out, Ok(()), item)
 }
 
 /// An item.
 #[cycle(code)]
-pub fn add_item<E: Emit>(
+pub fn add_item<E: Emit, X: Enclose>(
     out: &mut E,
     before: Result<(), E::Fault>,
     item: &Item,
 ) -> Result<(), E::Fault>
-    ensures { Adds E.meanings before out.old (stream_of (form_of_item item.now)) result out.new }
+    ensures { Adds E.meanings before out.old (stream_of (form_of_item (enclose_item X.on item.now)))
+        result out.new }
 {
     let attrs = add_attrs(out, before, item.attrs.as_slice());
-    add_kind(out, attrs, &item.vis, item.kind.get())
+    add_kind::<E, X>(out, attrs, &item.vis, item.kind.get())
 }
 
 /// An item without its attributes.
 #[cycle(code)]
-fn add_kind<E: Emit>(
+fn add_kind<E: Emit, X: Enclose>(
     out: &mut E,
     before: Result<(), E::Fault>,
     vis: &Vis,
     kind: &ItemKind,
 ) -> Result<(), E::Fault>
-    ensures { Adds E.meanings before out.old (kind_row vis.now (told_of_kind kind.now)) result
-        out.new }
+    ensures { let told = told_of_kind (enclose_kind X.on kind.now) in
+        Adds E.meanings before out.old (kind_row vis.now told) result out.new }
 {
     match kind {
         ItemKind::ExternCrate { item } => add_extern_crate(out, before, vis, item),
@@ -66,16 +69,16 @@ fn add_kind<E: Emit>(
         ItemKind::FileModule { name } => add_ended(out, before, vis, name),
         ItemKind::Module { name, attrs, items } => {
             let head = add_head(out, before, vis, name);
-            add_body(out, head, true, attrs.as_slice(), items.as_slice())
+            add_body::<E, X>(out, head, true, attrs.as_slice(), items.as_slice())
         },
         ItemKind::Function { head, wheres, body } => {
-            add_function(out, before, vis, head, wheres, body)
+            add_function::<E, X>(out, before, vis, head, wheres, body)
         },
         ItemKind::Alias { item } => add_alias(out, before, vis, item),
         ItemKind::Struct { item } => add_struct(out, before, vis, item),
         ItemKind::Union { item } => add_union(out, before, vis, item),
         ItemKind::Enum { item } => add_enum(out, before, vis, item),
-        ItemKind::Value { head, value } => add_valued(out, before, vis, head, value),
+        ItemKind::Value { head, value } => add_valued::<E, X>(out, before, vis, head, value),
         ItemKind::Trait {
             head,
             wheres,
@@ -83,7 +86,7 @@ fn add_kind<E: Emit>(
             items,
         } => {
             let clause = add_clause(out, before, vis, head, wheres);
-            add_body(
+            add_body::<E, X>(
                 out,
                 clause,
                 leads(wheres),
@@ -98,7 +101,7 @@ fn add_kind<E: Emit>(
             items,
         } => {
             let clause = add_clause(out, before, vis, head, wheres);
-            add_body(
+            add_body::<E, X>(
                 out,
                 clause,
                 leads(wheres),
@@ -113,7 +116,7 @@ fn add_kind<E: Emit>(
             items,
         } => {
             let head = add_foreign_head(out, before, vis, *is_unsafe, abi);
-            add_body(out, head, true, attrs.as_slice(), items.as_slice())
+            add_body::<E, X>(out, head, true, attrs.as_slice(), items.as_slice())
         },
         ItemKind::MacroRules { name, rules } => add_macro_rules(out, before, name, rules),
         ItemKind::Call { call } => add_call_item(out, before, call),
@@ -122,7 +125,7 @@ fn add_kind<E: Emit>(
 
 /// A function, with its body or without one.
 #[cycle(code)]
-fn add_function<E: Emit>(
+fn add_function<E: Emit, X: Enclose>(
     out: &mut E,
     before: Result<(), E::Fault>,
     vis: &Vis,
@@ -130,7 +133,8 @@ fn add_function<E: Emit>(
     wheres: &Wheres,
     body: &Option<Block>,
 ) -> Result<(), E::Fault>
-    ensures { let tail = function_tail wheres.now (option_map about_block body.now) in
+    ensures { let told = option_map about_block (option_map (enclose_block X.on) body.now) in
+        let tail = function_tail wheres.now told in
         Adds E.meanings before out.old (head_row vis.now (fn_head_form head.now) ++ stream_of tail)
         result out.new }
 {
@@ -138,42 +142,43 @@ fn add_function<E: Emit>(
         None => add_ended_clause(out, before, vis, head, wheres),
         Some(block) => {
             let clause = add_clause(out, before, vis, head, wheres);
-            add_block(out, clause, leads(wheres), block)
+            add_block::<E, X>(out, clause, leads(wheres), block)
         },
     }
 }
 
 /// A constant or a static, and a `;`.
 #[cycle(code)]
-fn add_valued<E: Emit>(
+fn add_valued<E: Emit, X: Enclose>(
     out: &mut E,
     before: Result<(), E::Fault>,
     vis: &Vis,
     head: &ValueHead,
     value: &Option<Boxed<Expr>>,
 ) -> Result<(), E::Fault>
-    ensures { let whole = Part (value_head_form head.now)
-        (value_form (option_map about_expr value.now)) in
+    ensures { let told = option_map about_expr (option_map (part X.on) value.now) in
+        let whole = Part (value_head_form head.now) (value_form told) in
         Adds E.meanings before out.old (head_row vis.now whole ++ stream_of (piece semicolon))
         result out.new }
 {
     let opened = open_head(out, before, vis);
     let head = head.add(out, opened);
-    let value = add_value(out, head, value);
+    let value = add_value::<E, X>(out, head, value);
     let whole = add_end(out, value);
     add_text(out, whole, b";")
 }
 
 /// Inner attributes and items in braces, each on a line of its own. The braces have a leading blank or not.
 #[cycle(code)]
-fn add_body<E: Emit>(
+fn add_body<E: Emit, X: Enclose>(
     out: &mut E,
     before: Result<(), E::Fault>,
     lead: bool,
     attrs: &[Attr],
     items: &[Item],
 ) -> Result<(), E::Fault>
-    ensures { let parts = map attr_form attrs.now ++ map form_of_item items.now in
+    ensures { let items = map (enclose_item X.on) items.now in
+        let parts = map attr_form attrs.now ++ map form_of_item items in
         Adds E.meanings before out.old (stream_of (body (blank_if lead) [] parts)) result out.new }
 {
     if both(attrs.is_empty(), items.is_empty()) {
@@ -181,24 +186,25 @@ fn add_body<E: Emit>(
     }
     let opened = open_body(out, before, lead);
     let attrs = add_inner_attrs(out, opened, attrs);
-    let items = add_lines(out, attrs, items);
+    let items = add_lines::<E, X>(out, attrs, items);
     close_body(out, items)
 }
 
 /// Items, each behind a newline.
 #[cycle(code)]
-fn add_lines<E: Emit>(
+fn add_lines<E: Emit, X: Enclose>(
     out: &mut E,
     before: Result<(), E::Fault>,
     items: &[Item],
 ) -> Result<(), E::Fault>
-    ensures { Adds E.meanings before out.old (stream_of (each H (map form_of_item items.now)))
-        result out.new }
+    ensures { let items = map (enclose_item X.on) items.now in
+        Adds E.meanings before out.old (stream_of (each H (map form_of_item items))) result
+        out.new }
 {
     let mut done = before;
     for item in items {
         done = add_break(out, done, HARD_BREAK);
-        done = add_item(out, done, item);
+        done = add_item::<E, X>(out, done, item);
     }
     done
 }

@@ -5,3 +5,4 @@ pub mod StepLemmas
 pub mod StructLemmas
 pub mod PointLemmas
 pub mod BlockLemmas
+pub mod PartLemmas

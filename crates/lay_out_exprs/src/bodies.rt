@@ -4,10 +4,12 @@ ghost use Rattle.lay_layout.specs.Machine.{IsNested};
 ghost use Rattle.lay_code.specs.nodes.Bodies.{braces_of};
 ghost use Rattle.lay_code.specs.nodes.Code.{about_expr};
 ghost use Rattle.lay_code.specs.nodes.Exprs.{body_braces};
+ghost use Rattle.lay_enclose.specs.Enclosed.{body_part};
 ghost use Rattle.lay_out_types.specs.Calls.{Adds};
 ghost use Rattle.lay_out_exprs.specs.Bodies.{arm_closed, arm_opened, closure_closed, closure_opened, seen_as};
 
 use lay_code::Expr;
+use lay_enclose::{Enclose, is_body_enclosed};
 use lay_layout::{Break, Mark};
 use lay_ops::may_wear_braces;
 use lay_out_heads::calls::{add_break, add_inside};
@@ -45,8 +47,28 @@ const CLOSING_ARM_BREAK: Break = Break {
     ..CLOSING_BRACE_BREAK
 };
 
+/// How the body of an arm is laid out, where one in parentheses is laid out in braces.
+pub fn arm_body_braces<X: Enclose>(body: &Expr) -> BodyBraces
+    ensures { seen_as result ≡ braces_of (about_expr (body_part X.on body.now)).kind }
+{
+    if is_body_enclosed::<X>(body) {
+        return BodyBraces::Marked;
+    }
+    arm_braces(body)
+}
+
+/// How the body of a closure is laid out, where one in parentheses is laid out in braces.
+pub fn closure_body_braces<X: Enclose>(body: &Expr) -> BodyBraces
+    ensures { seen_as result ≡ body_braces (about_expr (body_part X.on body.now)) }
+{
+    if is_body_enclosed::<X>(body) {
+        return BodyBraces::Marked;
+    }
+    closure_braces(body)
+}
+
 /// How the body of an arm is laid out: a macro call as it stands, so too a block without a label, and all else in braces.
-pub fn arm_braces(body: &Expr) -> BodyBraces
+fn arm_braces(body: &Expr) -> BodyBraces
     ensures { seen_as result ≡ braces_of (about_expr body.now).kind }
 {
     match body {
@@ -60,7 +82,7 @@ pub fn arm_braces(body: &Expr) -> BodyBraces
 }
 
 /// How the body of a closure is laid out: as that of an arm, or as it stands where no braces may stand round it.
-pub fn closure_braces(body: &Expr) -> BodyBraces
+fn closure_braces(body: &Expr) -> BodyBraces
     ensures { seen_as result ≡ body_braces (about_expr body.now) }
 {
     if may_wear_braces(body) {

@@ -6,15 +6,39 @@ ghost use Rattle.lay_node.specs.nodes.Types.{about_path};
 ghost use Rattle.lay_node.specs.declared.types.PathStyle.TheVariants.{Code};
 ghost use Rattle.lay_code.specs.nodes.Code.{about_expr};
 ghost use Rattle.lay_code.specs.nodes.Exprs.{end_form};
+ghost use Rattle.lay_enclose.specs.Enclosed.{part};
 
 use crate::flags::both;
 use lay_code::{Boxed, Expr, Path, PathStart};
+use lay_enclose::Enclose;
 use lay_out_pats::is_pointed;
+
+/// Whether an expression that is a part ends in a point, which it doesn't in parentheses. The flag says that one stands
+/// before it.
+pub fn part_ends_in_point<X: Enclose>(point: bool, node: &Expr) -> bool
+    ensures { result ≡ ends_behind_point point (about_expr (part X.on node.now)).form }
+{
+    if X::on() {
+        return false;
+    }
+    ends_in_point(point, node)
+}
+
+/// Whether a part that may be left out ends in a point.
+pub fn optional_ends_in_point<X: Enclose>(point: bool, node: &Option<Boxed<Expr>>) -> bool
+    ensures { let told = option_map about_expr (option_map (part X.on) node.now) in
+        result ≡ ends_behind_point point (end_form told Done) }
+{
+    match node {
+        None => point,
+        Some(node) => part_ends_in_point::<X>(point, node.get()),
+    }
+}
 
 /// Whether an expression ends in a point. The flag says that one stands before it: what is empty, as nothing is that was
 /// read, leaves that point at the end.
 #[cycle(ends_in_point)]
-pub fn ends_in_point(point: bool, node: &Expr) -> bool
+fn ends_in_point(point: bool, node: &Expr) -> bool
     ensures { result ≡ ends_behind_point point (about_expr node.now).form }
 {
     match node {
@@ -53,7 +77,7 @@ pub fn ends_in_point(point: bool, node: &Expr) -> bool
 
 /// Whether an operand that may be left out ends in a point.
 #[cycle(ends_in_point)]
-pub fn operand_ends_in_point(point: bool, operand: &Option<Boxed<Expr>>) -> bool
+fn operand_ends_in_point(point: bool, operand: &Option<Boxed<Expr>>) -> bool
     ensures { result ≡ ends_behind_point point (end_form (option_map about_expr operand.now) Done) }
 {
     match operand {

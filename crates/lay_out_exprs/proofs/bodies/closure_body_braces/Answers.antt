@@ -1,0 +1,12 @@
+use Rattle.std.proofs.Common.{sym, ◌∙◌}
+use Rattle.lay_enclose.proofs.KeptLemmas.{enclosed_body, whole_body}
+use Rattle.lay_out_exprs.proofs.bodies.closure_body_braces.Goals as goal
+
+pub returns-then-is_body_enclosed : goal.returns-then-is_body_enclosed
+returns-then-is_body_enclosed g c =
+    enclosed_body g.X.Enclose.on c.args.body.now (sym c.is_body_enclosed.ensures ∙ c.if-is_body_enclosed.true)
+
+pub returns : goal.returns
+returns g c =
+    c.closure_braces.ensures
+    ∙ whole_body g.X.Enclose.on c.args.body.now (sym c.is_body_enclosed.ensures ∙ c.if-is_body_enclosed.false)
