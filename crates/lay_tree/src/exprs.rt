@@ -1,17 +1,21 @@
-//! Expressions, blocks and items, which hold each other.
-ghost use Rattle.std.specs.Prelude.{◌≡◌, ◌↔◌, IsTrue};
+//! Whether a tree is what another becomes: expressions, blocks and items, which hold each other.
+//!
+//! What a tree becomes goes by the type `X`: itself, or itself with each part in parentheses.
+ghost use Rattle.std.specs.Prelude.{◌≡◌, ◌↔◌, IsTrue, map, option_map};
+ghost use Rattle.lay_enclose.specs.Enclosed.{body_part, enclose_arm, enclose_block, enclose_branch, enclose_condition, enclose_field, enclose_item, enclose_link, enclose_step, enclose_stmt, operand_part, part, shell, shell_field, shell_kind, shell_link, shell_step, shell_stmt, target_part};
 
 use crate::operators::{same_op, same_params, same_prefixes};
 use lay_code::{
     Arm, Block, Branch, Condition, Expr, FieldExpr, Item, ItemKind, Link, Op, Step, Stmt,
 };
+use lay_enclose::{Enclose, is_body_enclosed};
 use lay_node::Boxed;
 use lay_same_nodes::Same;
 
-/// Whether two expressions are equal.
+/// Whether the other expression is what this one becomes, with no parentheses round it.
 #[cycle(code)]
-pub fn same_expr(expr: &Expr, other: &Expr) -> bool
-    ensures { IsTrue result ↔ expr.now ≡ other.now }
+pub fn same_whole<X: Enclose>(expr: &Expr, other: &Expr) -> bool
+    ensures { IsTrue result ↔ shell X.on expr.now ≡ other.now }
 {
     match expr {
         Expr::Lit { literal } => {
@@ -21,24 +25,30 @@ pub fn same_expr(expr: &Expr, other: &Expr) -> bool
         Expr::Underscore => matches!(other, Expr::Underscore),
         Expr::Call { call } => matches!(other, Expr::Call { call: given } if call.same(given)),
         Expr::Paren { inner } => {
-            matches!(other, Expr::Paren { inner: given } if same_expr(inner.get(), given.get()))
+            matches!(other, Expr::Paren { inner: given } if same_part::<X>(inner.get(), given.get()))
         }
         Expr::Continue { label } => {
             matches!(other, Expr::Continue { label: given } if label.same(given))
         }
         Expr::Tuple { elements } => match other {
-            Expr::Tuple { elements: given } => same_exprs(elements.as_slice(), given.as_slice()),
+            Expr::Tuple { elements: given } => same_parts::<X>(
+                elements.as_slice(),
+                given.as_slice(),
+            ),
             _ => false,
         },
         Expr::Array { elements } => match other {
-            Expr::Array { elements: given } => same_exprs(elements.as_slice(), given.as_slice()),
+            Expr::Array { elements: given } => same_parts::<X>(
+                elements.as_slice(),
+                given.as_slice(),
+            ),
             _ => false,
         },
         Expr::Repeat { element, length } => match other {
             Expr::Repeat {
                 element: other_element,
                 length: other_length,
-            } => { same_expr(element.get(), other_element.get()) && length.same(other_length) }
+            } => { same_part::<X>(element.get(), other_element.get()) && length.same(other_length) }
             _ => false,
         },
         Expr::Struct { path, fields, base } => match other {
@@ -48,8 +58,8 @@ pub fn same_expr(expr: &Expr, other: &Expr) -> bool
                 base: other_base,
             } => {
                 path.same(other_path)
-                    && same_fields(fields.as_slice(), other_fields.as_slice())
-                    && same_base(base, other_base)
+                    && same_fields::<X>(fields.as_slice(), other_fields.as_slice())
+                    && same_base::<X>(base, other_base)
             }
             _ => false,
         },
@@ -58,8 +68,8 @@ pub fn same_expr(expr: &Expr, other: &Expr) -> bool
                 first: other_first,
                 rest: other_rest,
             } => {
-                same_expr(first.get(), other_first.get())
-                    && same_operands(rest.as_slice(), other_rest.as_slice())
+                same_part::<X>(first.get(), other_first.get())
+                    && same_operands::<X>(rest.as_slice(), other_rest.as_slice())
             }
             _ => false,
         },
@@ -67,7 +77,7 @@ pub fn same_expr(expr: &Expr, other: &Expr) -> bool
             Expr::Cast {
                 operand: other_operand,
                 types: other_types,
-            } => { same_expr(operand.get(), other_operand.get()) && types.same(other_types) }
+            } => { same_part::<X>(operand.get(), other_operand.get()) && types.same(other_types) }
             _ => false,
         },
         Expr::Unary { prefixes, operand } => match other {
@@ -76,7 +86,7 @@ pub fn same_expr(expr: &Expr, other: &Expr) -> bool
                 operand: other_operand,
             } => {
                 same_prefixes(prefixes.as_slice(), other_prefixes.as_slice())
-                    && same_expr(operand.get(), other_operand.get())
+                    && same_part::<X>(operand.get(), other_operand.get())
             }
             _ => false,
         },
@@ -90,9 +100,9 @@ pub fn same_expr(expr: &Expr, other: &Expr) -> bool
                 inclusive: other_inclusive,
                 end: other_end,
             } => {
-                same_operand(start, other_start)
+                same_operand::<X>(start, other_start)
                     && *inclusive == *other_inclusive
-                    && same_operand(end, other_end)
+                    && same_operand::<X>(end, other_end)
             }
             _ => false,
         },
@@ -101,8 +111,8 @@ pub fn same_expr(expr: &Expr, other: &Expr) -> bool
                 targets: other_targets,
                 value: other_value,
             } => {
-                same_targets(targets.as_slice(), other_targets.as_slice())
-                    && same_expr(value.get(), other_value.get())
+                same_targets::<X>(targets.as_slice(), other_targets.as_slice())
+                    && same_part::<X>(value.get(), other_value.get())
             }
             _ => false,
         },
@@ -111,8 +121,8 @@ pub fn same_expr(expr: &Expr, other: &Expr) -> bool
                 base: other_base,
                 steps: other_steps,
             } => {
-                same_expr(base.get(), other_base.get())
-                    && same_steps(steps.as_slice(), other_steps.as_slice())
+                same_part::<X>(base.get(), other_base.get())
+                    && same_steps::<X>(steps.as_slice(), other_steps.as_slice())
             }
             _ => false,
         },
@@ -120,20 +130,20 @@ pub fn same_expr(expr: &Expr, other: &Expr) -> bool
             Expr::Block {
                 label: other_label,
                 body: other_body,
-            } => { label.same(other_label) && same_block(body, other_body) }
+            } => { label.same(other_label) && same_block::<X>(body, other_body) }
             _ => false,
         },
         Expr::Unsafe { body } => {
-            matches!(other, Expr::Unsafe { body: given } if same_block(body, given))
+            matches!(other, Expr::Unsafe { body: given } if same_block::<X>(body, given))
         }
         Expr::ConstBlock { body } => {
-            matches!(other, Expr::ConstBlock { body: given } if same_block(body, given))
+            matches!(other, Expr::ConstBlock { body: given } if same_block::<X>(body, given))
         }
         Expr::Async { moves, body } => match other {
             Expr::Async {
                 moves: other_moves,
                 body: other_body,
-            } => { *moves == *other_moves && same_block(body, other_body) }
+            } => { *moves == *other_moves && same_block::<X>(body, other_body) }
             _ => false,
         },
         Expr::If {
@@ -144,8 +154,8 @@ pub fn same_expr(expr: &Expr, other: &Expr) -> bool
                 branches: other_branches,
                 otherwise: other_otherwise,
             } => {
-                same_branches(branches.as_slice(), other_branches.as_slice())
-                    && same_body(otherwise, other_otherwise)
+                same_branches::<X>(branches.as_slice(), other_branches.as_slice())
+                    && same_body::<X>(otherwise, other_otherwise)
             }
             _ => false,
         },
@@ -159,9 +169,9 @@ pub fn same_expr(expr: &Expr, other: &Expr) -> bool
                 attrs: other_attrs,
                 arms: other_arms,
             } => {
-                same_expr(scrutinee.get(), other_scrutinee.get())
+                same_part::<X>(scrutinee.get(), other_scrutinee.get())
                     && attrs.same(other_attrs)
-                    && same_arms(arms.as_slice(), other_arms.as_slice())
+                    && same_arms::<X>(arms.as_slice(), other_arms.as_slice())
             }
             _ => false,
         },
@@ -169,7 +179,7 @@ pub fn same_expr(expr: &Expr, other: &Expr) -> bool
             Expr::Loop {
                 label: other_label,
                 body: other_body,
-            } => { label.same(other_label) && same_block(body, other_body) }
+            } => { label.same(other_label) && same_block::<X>(body, other_body) }
             _ => false,
         },
         Expr::While {
@@ -183,8 +193,8 @@ pub fn same_expr(expr: &Expr, other: &Expr) -> bool
                 body: other_body,
             } => {
                 label.same(other_label)
-                    && same_condition(condition, other_condition)
-                    && same_block(body, other_body)
+                    && same_condition::<X>(condition, other_condition)
+                    && same_block::<X>(body, other_body)
             }
             _ => false,
         },
@@ -202,8 +212,8 @@ pub fn same_expr(expr: &Expr, other: &Expr) -> bool
             } => {
                 label.same(other_label)
                     && pat.same(other_pat)
-                    && same_expr(iterated.get(), other_iterated.get())
-                    && same_block(body, other_body)
+                    && same_part::<X>(iterated.get(), other_iterated.get())
+                    && same_block::<X>(body, other_body)
             }
             _ => false,
         },
@@ -222,7 +232,7 @@ pub fn same_expr(expr: &Expr, other: &Expr) -> bool
                 *is_async == *other_is_async
                     && *moves == *other_moves
                     && same_params(params.as_slice(), other_params.as_slice())
-                    && same_expr(body.get(), other_body.get())
+                    && same_body_part::<X>(body.get(), other_body.get())
             }
             _ => false,
         },
@@ -244,100 +254,129 @@ pub fn same_expr(expr: &Expr, other: &Expr) -> bool
                     && *moves == *other_moves
                     && same_params(params.as_slice(), other_params.as_slice())
                     && output.same(other_output)
-                    && same_block(body, other_body)
+                    && same_block::<X>(body, other_body)
             }
             _ => false,
         },
         Expr::Return { operand } => {
-            matches!(other, Expr::Return { operand: given } if same_operand(operand, given))
+            matches!(other, Expr::Return { operand: given } if same_operand::<X>(operand, given))
         }
         Expr::Break { label, operand } => match other {
             Expr::Break {
                 label: other_label,
                 operand: other_operand,
-            } => { label.same(other_label) && same_operand(operand, other_operand) }
+            } => { label.same(other_label) && same_operand::<X>(operand, other_operand) }
             _ => false,
         },
     }
 }
 
-/// Whether two lists of expressions are equal.
+/// Whether the other expression is what this one becomes as a part.
 #[cycle(code)]
-fn same_exprs(exprs: &[Expr], others: &[Expr]) -> bool
-    ensures { IsTrue result ↔ exprs.now ≡ others.now }
+pub fn same_part<X: Enclose>(expr: &Expr, other: &Expr) -> bool
+    ensures { IsTrue result ↔ part X.on expr.now ≡ other.now }
+{
+    if !X::on() {
+        return same_whole::<X>(expr, other);
+    }
+    match other {
+        Expr::Paren { inner } => same_whole::<X>(expr, inner.get()),
+        _ => false,
+    }
+}
+
+/// Whether the other expression is what this one becomes as the body of an arm or of a closure.
+#[cycle(code)]
+fn same_body_part<X: Enclose>(body: &Expr, other: &Expr) -> bool
+    ensures { IsTrue result ↔ body_part X.on body.now ≡ other.now }
+{
+    if is_body_enclosed::<X>(body) {
+        same_part::<X>(body, other)
+    } else {
+        same_whole::<X>(body, other)
+    }
+}
+
+/// Whether the other expressions are what these become as parts.
+#[cycle(code)]
+fn same_parts<X: Enclose>(exprs: &[Expr], others: &[Expr]) -> bool
+    ensures { IsTrue result ↔ map (part X.on) exprs.now ≡ others.now }
 {
     if exprs.len() != others.len() {
         return false;
     }
     for (expr, other) in exprs.iter().zip(others) {
-        if !same_expr(expr, other) {
+        if !same_part::<X>(expr, other) {
             return false;
         }
     }
     true
 }
 
-/// Whether two expressions that may be left out are equal.
+/// Whether the other part, which may be left out, is what this one becomes.
 #[cycle(code)]
-fn same_operand(operand: &Option<Boxed<Expr>>, other: &Option<Boxed<Expr>>) -> bool
-    ensures { IsTrue result ↔ operand.now ≡ other.now }
+fn same_operand<X: Enclose>(operand: &Option<Boxed<Expr>>, other: &Option<Boxed<Expr>>) -> bool
+    ensures { IsTrue result ↔ option_map (part X.on) operand.now ≡ other.now }
 {
     match operand {
         None => other.is_none(),
-        Some(operand) => matches!(other, Some(given) if same_expr(operand.get(), given.get())),
+        Some(operand) => matches!(other, Some(given) if same_part::<X>(operand.get(), given.get())),
     }
 }
 
-/// Whether the operators and operands of two chains are equal.
+/// Whether a chain's other operators and operands are what these become.
 #[cycle(code)]
-fn same_operands(operands: &[(Op, Boxed<Expr>)], others: &[(Op, Boxed<Expr>)]) -> bool
-    ensures { IsTrue result ↔ operands.now ≡ others.now }
+fn same_operands<X: Enclose>(operands: &[(Op, Boxed<Expr>)], others: &[(Op, Boxed<Expr>)]) -> bool
+    ensures { IsTrue result ↔ map (operand_part X.on) operands.now ≡ others.now }
 {
     if operands.len() != others.len() {
         return false;
     }
     for ((op, operand), (other_op, other_operand)) in operands.iter().zip(others) {
-        if !same_op(op, other_op) || !same_expr(operand.get(), other_operand.get()) {
+        if !same_op(op, other_op) || !same_part::<X>(operand.get(), other_operand.get()) {
             return false;
         }
     }
     true
 }
 
-/// Whether the bases of two struct literals are equal, behind a `..` where there is one.
+/// Whether a struct literal's other base is what this one becomes, behind a `..` where there is one.
 #[cycle(code)]
-fn same_base(base: &Option<Option<Boxed<Expr>>>, other: &Option<Option<Boxed<Expr>>>) -> bool
-    ensures { IsTrue result ↔ base.now ≡ other.now }
+fn same_base<X: Enclose>(
+    base: &Option<Option<Boxed<Expr>>>,
+    other: &Option<Option<Boxed<Expr>>>,
+) -> bool
+    ensures { IsTrue result ↔ option_map (option_map (part X.on)) base.now ≡ other.now }
 {
     match base {
         None => other.is_none(),
         Some(None) => matches!(other, Some(None)),
         Some(Some(base)) => {
-            matches!(other, Some(Some(given)) if same_expr(base.get(), given.get()))
+            matches!(other, Some(Some(given)) if same_part::<X>(base.get(), given.get()))
         }
     }
 }
 
-/// Whether the targets of two assignments are equal.
+/// Whether an assignment's other targets are what these become.
 #[cycle(code)]
-fn same_targets(targets: &[(Boxed<Expr>, Op)], others: &[(Boxed<Expr>, Op)]) -> bool
-    ensures { IsTrue result ↔ targets.now ≡ others.now }
+fn same_targets<X: Enclose>(targets: &[(Boxed<Expr>, Op)], others: &[(Boxed<Expr>, Op)]) -> bool
+    ensures { IsTrue result ↔ map (target_part X.on) targets.now ≡ others.now }
 {
     if targets.len() != others.len() {
         return false;
     }
     for ((target, op), (other_target, other_op)) in targets.iter().zip(others) {
-        if !same_expr(target.get(), other_target.get()) || !same_op(op, other_op) {
+        if !same_part::<X>(target.get(), other_target.get()) || !same_op(op, other_op) {
             return false;
         }
     }
     true
 }
 
-/// Whether two fields of struct literals are equal.
+/// Whether a struct literal's other field is what this one becomes.
 #[cycle(code)]
-fn same_field(field: &FieldExpr, other: &FieldExpr) -> bool
-    ensures { IsTrue result ↔ field.now ≡ other.now }
+fn same_field<X: Enclose>(field: &FieldExpr, other: &FieldExpr) -> bool
+    ensures { IsTrue result ↔ shell_field X.on field.now ≡ other.now }
 {
     match field {
         FieldExpr::Named { attrs, name, value } => match other {
@@ -348,7 +387,7 @@ fn same_field(field: &FieldExpr, other: &FieldExpr) -> bool
             } => {
                 attrs.same(other_attrs)
                     && name.same(other_name)
-                    && same_expr(value.get(), other_value.get())
+                    && same_part::<X>(value.get(), other_value.get())
             }
             _ => false,
         },
@@ -364,7 +403,7 @@ fn same_field(field: &FieldExpr, other: &FieldExpr) -> bool
             } => {
                 attrs.same(other_attrs)
                     && index.same(other_index)
-                    && same_expr(value.get(), other_value.get())
+                    && same_part::<X>(value.get(), other_value.get())
             }
             _ => false,
         },
@@ -378,26 +417,26 @@ fn same_field(field: &FieldExpr, other: &FieldExpr) -> bool
     }
 }
 
-/// Whether the fields of two struct literals are equal.
+/// Whether a struct literal's other fields are what these become.
 #[cycle(code)]
-fn same_fields(fields: &[FieldExpr], others: &[FieldExpr]) -> bool
-    ensures { IsTrue result ↔ fields.now ≡ others.now }
+fn same_fields<X: Enclose>(fields: &[FieldExpr], others: &[FieldExpr]) -> bool
+    ensures { IsTrue result ↔ map (enclose_field X.on) fields.now ≡ others.now }
 {
     if fields.len() != others.len() {
         return false;
     }
     for (field, other) in fields.iter().zip(others) {
-        if !same_field(field, other) {
+        if !same_field::<X>(field, other) {
             return false;
         }
     }
     true
 }
 
-/// Whether two steps are equal.
+/// Whether the other step is what this one becomes.
 #[cycle(code)]
-fn same_step(step: &Step, other: &Step) -> bool
-    ensures { IsTrue result ↔ step.now ≡ other.now }
+fn same_step<X: Enclose>(step: &Step, other: &Step) -> bool
+    ensures { IsTrue result ↔ shell_step X.on step.now ≡ other.now }
 {
     match step {
         Step::Field { name } => matches!(other, Step::Field { name: given } if name.same(given)),
@@ -416,61 +455,62 @@ fn same_step(step: &Step, other: &Step) -> bool
             } => {
                 name.same(other_name)
                     && generics.same(other_generics)
-                    && same_exprs(args.as_slice(), other_args.as_slice())
+                    && same_parts::<X>(args.as_slice(), other_args.as_slice())
             }
             _ => false,
         },
         Step::Apply { args } => match other {
-            Step::Apply { args: given } => same_exprs(args.as_slice(), given.as_slice()),
+            Step::Apply { args: given } => same_parts::<X>(args.as_slice(), given.as_slice()),
             _ => false,
         },
         Step::Index { index } => {
-            matches!(other, Step::Index { index: given } if same_expr(index.get(), given.get()))
+            matches!(other, Step::Index { index: given } if same_part::<X>(index.get(), given.get()))
         }
         Step::Try => matches!(other, Step::Try),
         Step::Await => matches!(other, Step::Await),
     }
 }
 
-/// Whether the steps behind two expressions are equal.
+/// Whether the other steps are what these become.
 #[cycle(code)]
-fn same_steps(steps: &[Step], others: &[Step]) -> bool
-    ensures { IsTrue result ↔ steps.now ≡ others.now }
+fn same_steps<X: Enclose>(steps: &[Step], others: &[Step]) -> bool
+    ensures { IsTrue result ↔ map (enclose_step X.on) steps.now ≡ others.now }
 {
     if steps.len() != others.len() {
         return false;
     }
     for (step, other) in steps.iter().zip(others) {
-        if !same_step(step, other) {
+        if !same_step::<X>(step, other) {
             return false;
         }
     }
     true
 }
 
-/// Whether two blocks are equal.
+/// Whether the other block is what this one becomes.
 #[cycle(code)]
-pub fn same_block(block: &Block, other: &Block) -> bool
-    ensures { IsTrue result ↔ block.now ≡ other.now }
+pub fn same_block<X: Enclose>(block: &Block, other: &Block) -> bool
+    ensures { IsTrue result ↔ enclose_block X.on block.now ≡ other.now }
 {
-    block.attrs.same(&other.attrs) && same_stmts(block.stmts.as_slice(), other.stmts.as_slice())
+    block.attrs.same(&other.attrs)
+        && same_stmts::<X>(block.stmts.as_slice(), other.stmts.as_slice())
 }
 
-/// Whether two blocks that may be left out are equal.
+/// Whether the other block, which may be left out, is what this one becomes.
 #[cycle(code)]
-fn same_body(body: &Option<Block>, other: &Option<Block>) -> bool
-    ensures { IsTrue result ↔ body.now ≡ other.now }
+fn same_body<X: Enclose>(body: &Option<Block>, other: &Option<Block>) -> bool
+    ensures { IsTrue result ↔ option_map (enclose_block X.on) body.now ≡ other.now }
 {
     match body {
         None => other.is_none(),
-        Some(body) => matches!(other, Some(given) if same_block(body, given)),
+        Some(body) => matches!(other, Some(given) if same_block::<X>(body, given)),
     }
 }
 
-/// Whether two statements are equal.
+/// Whether the other statement is what this one becomes.
 #[cycle(code)]
-pub fn same_stmt(stmt: &Stmt, other: &Stmt) -> bool
-    ensures { IsTrue result ↔ stmt.now ≡ other.now }
+pub fn same_stmt<X: Enclose>(stmt: &Stmt, other: &Stmt) -> bool
+    ensures { IsTrue result ↔ shell_stmt X.on stmt.now ≡ other.now }
 {
     match stmt {
         Stmt::Let {
@@ -490,13 +530,13 @@ pub fn same_stmt(stmt: &Stmt, other: &Stmt) -> bool
                 attrs.same(other_attrs)
                     && pat.same(other_pat)
                     && ty.same(other_ty)
-                    && same_operand(value, other_value)
-                    && same_body(otherwise, other_otherwise)
+                    && same_operand::<X>(value, other_value)
+                    && same_body::<X>(otherwise, other_otherwise)
             }
             _ => false,
         },
         Stmt::Item { item } => {
-            matches!(other, Stmt::Item { item: given } if same_item(item.get(), given.get()))
+            matches!(other, Stmt::Item { item: given } if same_item::<X>(item.get(), given.get()))
         }
         Stmt::Expr { attrs, expr, ended } => match other {
             Stmt::Expr {
@@ -505,154 +545,155 @@ pub fn same_stmt(stmt: &Stmt, other: &Stmt) -> bool
                 ended: other_ended,
             } => {
                 attrs.same(other_attrs)
-                    && same_expr(expr.get(), other_expr.get())
                     && *ended == *other_ended
+                    && same_whole::<X>(expr.get(), other_expr.get())
             }
             _ => false,
         },
     }
 }
 
-/// Whether two lists of statements are equal.
+/// Whether the other statements are what these become.
 #[cycle(code)]
-fn same_stmts(stmts: &[Stmt], others: &[Stmt]) -> bool
-    ensures { IsTrue result ↔ stmts.now ≡ others.now }
+fn same_stmts<X: Enclose>(stmts: &[Stmt], others: &[Stmt]) -> bool
+    ensures { IsTrue result ↔ map (enclose_stmt X.on) stmts.now ≡ others.now }
 {
     if stmts.len() != others.len() {
         return false;
     }
     for (stmt, other) in stmts.iter().zip(others) {
-        if !same_stmt(stmt, other) {
+        if !same_stmt::<X>(stmt, other) {
             return false;
         }
     }
     true
 }
 
-/// Whether two branches are equal.
+/// Whether the other branch is what this one becomes.
 #[cycle(code)]
-fn same_branch(branch: &Branch, other: &Branch) -> bool
-    ensures { IsTrue result ↔ branch.now ≡ other.now }
+fn same_branch<X: Enclose>(branch: &Branch, other: &Branch) -> bool
+    ensures { IsTrue result ↔ enclose_branch X.on branch.now ≡ other.now }
 {
-    same_condition(&branch.condition, &other.condition) && same_block(&branch.body, &other.body)
+    same_condition::<X>(&branch.condition, &other.condition)
+        && same_block::<X>(&branch.body, &other.body)
 }
 
-/// Whether the branches of two expressions are equal.
+/// Whether the other branches are what these become.
 #[cycle(code)]
-fn same_branches(branches: &[Branch], others: &[Branch]) -> bool
-    ensures { IsTrue result ↔ branches.now ≡ others.now }
+fn same_branches<X: Enclose>(branches: &[Branch], others: &[Branch]) -> bool
+    ensures { IsTrue result ↔ map (enclose_branch X.on) branches.now ≡ others.now }
 {
     if branches.len() != others.len() {
         return false;
     }
     for (branch, other) in branches.iter().zip(others) {
-        if !same_branch(branch, other) {
+        if !same_branch::<X>(branch, other) {
             return false;
         }
     }
     true
 }
 
-/// Whether two conditions are equal.
+/// Whether the other condition is what this one becomes.
 #[cycle(code)]
-fn same_condition(condition: &Condition, other: &Condition) -> bool
-    ensures { IsTrue result ↔ condition.now ≡ other.now }
+fn same_condition<X: Enclose>(condition: &Condition, other: &Condition) -> bool
+    ensures { IsTrue result ↔ enclose_condition X.on condition.now ≡ other.now }
 {
-    same_links(condition.links.as_slice(), other.links.as_slice())
+    same_links::<X>(condition.links.as_slice(), other.links.as_slice())
 }
 
-/// Whether two links of conditions are equal.
+/// Whether a condition's other link is what this one becomes.
 #[cycle(code)]
-fn same_link(link: &Link, other: &Link) -> bool
-    ensures { IsTrue result ↔ link.now ≡ other.now }
+fn same_link<X: Enclose>(link: &Link, other: &Link) -> bool
+    ensures { IsTrue result ↔ shell_link X.on link.now ≡ other.now }
 {
     match link {
         Link::Expr { expr } => {
-            matches!(other, Link::Expr { expr: given } if same_expr(expr.get(), given.get()))
+            matches!(other, Link::Expr { expr: given } if same_part::<X>(expr.get(), given.get()))
         }
         Link::Let { pat, value } => match other {
             Link::Let {
                 pat: other_pat,
                 value: other_value,
-            } => pat.same(other_pat) && same_expr(value.get(), other_value.get()),
+            } => pat.same(other_pat) && same_part::<X>(value.get(), other_value.get()),
             _ => false,
         },
     }
 }
 
-/// Whether the links of two conditions are equal.
+/// Whether a condition's other links are what these become.
 #[cycle(code)]
-fn same_links(links: &[Link], others: &[Link]) -> bool
-    ensures { IsTrue result ↔ links.now ≡ others.now }
+fn same_links<X: Enclose>(links: &[Link], others: &[Link]) -> bool
+    ensures { IsTrue result ↔ map (enclose_link X.on) links.now ≡ others.now }
 {
     if links.len() != others.len() {
         return false;
     }
     for (link, other) in links.iter().zip(others) {
-        if !same_link(link, other) {
+        if !same_link::<X>(link, other) {
             return false;
         }
     }
     true
 }
 
-/// Whether two arms are equal.
+/// Whether the other arm is what this one becomes.
 #[cycle(code)]
-pub fn same_arm(arm: &Arm, other: &Arm) -> bool
-    ensures { IsTrue result ↔ arm.now ≡ other.now }
+pub fn same_arm<X: Enclose>(arm: &Arm, other: &Arm) -> bool
+    ensures { IsTrue result ↔ enclose_arm X.on arm.now ≡ other.now }
 {
     arm.attrs.same(&other.attrs)
         && arm.pat.same(&other.pat)
-        && same_operand(&arm.guard, &other.guard)
-        && same_expr(arm.body.get(), other.body.get())
+        && same_operand::<X>(&arm.guard, &other.guard)
+        && same_body_part::<X>(arm.body.get(), other.body.get())
 }
 
-/// Whether the arms of two expressions are equal.
+/// Whether the other arms are what these become.
 #[cycle(code)]
-fn same_arms(arms: &[Arm], others: &[Arm]) -> bool
-    ensures { IsTrue result ↔ arms.now ≡ others.now }
+fn same_arms<X: Enclose>(arms: &[Arm], others: &[Arm]) -> bool
+    ensures { IsTrue result ↔ map (enclose_arm X.on) arms.now ≡ others.now }
 {
     if arms.len() != others.len() {
         return false;
     }
     for (arm, other) in arms.iter().zip(others) {
-        if !same_arm(arm, other) {
+        if !same_arm::<X>(arm, other) {
             return false;
         }
     }
     true
 }
 
-/// Whether two items are equal.
+/// Whether the other item is what this one becomes.
 #[cycle(code)]
-pub fn same_item(item: &Item, other: &Item) -> bool
-    ensures { IsTrue result ↔ item.now ≡ other.now }
+pub fn same_item<X: Enclose>(item: &Item, other: &Item) -> bool
+    ensures { IsTrue result ↔ enclose_item X.on item.now ≡ other.now }
 {
     item.attrs.same(&other.attrs)
         && item.vis.same(&other.vis)
-        && same_kind(item.kind.get(), other.kind.get())
+        && same_kind::<X>(item.kind.get(), other.kind.get())
 }
 
-/// Whether two lists of items are equal.
+/// Whether the other items are what these become.
 #[cycle(code)]
-pub fn same_items(items: &[Item], others: &[Item]) -> bool
-    ensures { IsTrue result ↔ items.now ≡ others.now }
+pub fn same_items<X: Enclose>(items: &[Item], others: &[Item]) -> bool
+    ensures { IsTrue result ↔ map (enclose_item X.on) items.now ≡ others.now }
 {
     if items.len() != others.len() {
         return false;
     }
     for (item, other) in items.iter().zip(others) {
-        if !same_item(item, other) {
+        if !same_item::<X>(item, other) {
             return false;
         }
     }
     true
 }
 
-/// Whether two items without their attributes and visibilities are equal.
+/// Whether the other item is what this one becomes, without their attributes and visibilities.
 #[cycle(code)]
-fn same_kind(kind: &ItemKind, other: &ItemKind) -> bool
-    ensures { IsTrue result ↔ kind.now ≡ other.now }
+fn same_kind<X: Enclose>(kind: &ItemKind, other: &ItemKind) -> bool
+    ensures { IsTrue result ↔ shell_kind X.on kind.now ≡ other.now }
 {
     match kind {
         ItemKind::ExternCrate { item } => {
@@ -672,7 +713,7 @@ fn same_kind(kind: &ItemKind, other: &ItemKind) -> bool
             } => {
                 name.same(other_name)
                     && attrs.same(other_attrs)
-                    && same_items(items.as_slice(), other_items.as_slice())
+                    && same_items::<X>(items.as_slice(), other_items.as_slice())
             }
             _ => false,
         },
@@ -682,7 +723,9 @@ fn same_kind(kind: &ItemKind, other: &ItemKind) -> bool
                 wheres: other_wheres,
                 body: other_body,
             } => {
-                head.same(other_head) && wheres.same(other_wheres) && same_body(body, other_body)
+                head.same(other_head)
+                    && wheres.same(other_wheres)
+                    && same_body::<X>(body, other_body)
             }
             _ => false,
         },
@@ -702,7 +745,7 @@ fn same_kind(kind: &ItemKind, other: &ItemKind) -> bool
             ItemKind::Value {
                 head: other_head,
                 value: other_value,
-            } => { head.same(other_head) && same_operand(value, other_value) }
+            } => { head.same(other_head) && same_operand::<X>(value, other_value) }
             _ => false,
         },
         ItemKind::Trait {
@@ -720,7 +763,7 @@ fn same_kind(kind: &ItemKind, other: &ItemKind) -> bool
                 head.same(other_head)
                     && wheres.same(other_wheres)
                     && attrs.same(other_attrs)
-                    && same_items(items.as_slice(), other_items.as_slice())
+                    && same_items::<X>(items.as_slice(), other_items.as_slice())
             }
             _ => false,
         },
@@ -739,7 +782,7 @@ fn same_kind(kind: &ItemKind, other: &ItemKind) -> bool
                 head.same(other_head)
                     && wheres.same(other_wheres)
                     && attrs.same(other_attrs)
-                    && same_items(items.as_slice(), other_items.as_slice())
+                    && same_items::<X>(items.as_slice(), other_items.as_slice())
             }
             _ => false,
         },
@@ -758,7 +801,7 @@ fn same_kind(kind: &ItemKind, other: &ItemKind) -> bool
                 *is_unsafe == *other_is_unsafe
                     && abi.same(other_abi)
                     && attrs.same(other_attrs)
-                    && same_items(items.as_slice(), other_items.as_slice())
+                    && same_items::<X>(items.as_slice(), other_items.as_slice())
             }
             _ => false,
         },

@@ -1,7 +1,7 @@
 //! Files.
 ghost use Rattle.std.specs.Prelude.{◌≡◌, ◌↔◌, IsTrue};
 
-use crate::exprs::same_items;
+use crate::equal::same_items;
 use lay_code::File;
 use lay_same_nodes::Same;
 

@@ -1,0 +1,5 @@
+use Rattle.lay_tree.proofs.PartLemmas.{items_off, told}
+use Rattle.lay_tree.proofs.equal.same_items.Goals as goal
+
+pub returns : goal.returns
+returns c = told (items_off c.args.items.now) c.same_items.ensures
