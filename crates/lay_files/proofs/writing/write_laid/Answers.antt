@@ -5,23 +5,23 @@ use Rattle.lay_printer.specs.Printers.{lent_core, press_loans}
 use Rattle.lay_printer.proofs.Through.{Begins, printed_stopped, printed_finish, level_zero}
 use Rattle.lay_code.specs.Out.{layout_of_file}
 use Rattle.lay_files.proofs.WritingLemmas.{file_written}
-use Rattle.lay_files.proofs.writing.write_file.Goals as goal
+use Rattle.lay_files.proofs.writing.write_laid.Goals as goal
 
-pub returns-in_err-put_file : goal.returns-in_err-put_file
-returns-in_err-put_file g c =
+pub returns-in_err-put : goal.returns-in_err-put
+returns-in_err-put g c =
     let k = g.K.Sink in
     let x = c.new-press.result in
-    let y = c.put_file.new.out in
+    let y = c.put.new.out in
     let first : x.sink.now ≡ c.args.out.now = search rules in
     let fresh : x.core.now ≡ c.in-Ok.core = search rules in
     let b : Begins x.core.now (k.written x.sink.now) =
     record { fresh = search rules; runs = rw fresh (c.in-Ok.ensures.runs _) } in
-    let same = (c.in_err-put_file.ensures.stops _ refl).same_loans in
+    let same = (c.in_err-put.ensures.stops _ refl).same_loans in
     let name : y.sink.ghost_name ≡ x.sink.ghost_name = ap (λ (loans : List ℕ). get_or loans 0 0) same in
-    let last : y.sink.now ≡ c.in_err-put_file.out-1-own.given.0 = search (rules, name) in
+    let last : y.sink.now ≡ c.in_err-put.out-1-own.given.0 = search (rules, name) in
     let h = printed_stopped lent_core (λ p. k.written p.sink.now) (λ p. k.faults p.sink.now) (press_loans k.loan)
-    x y _ _ _ b c.in_err-put_file.ensures c.from_residual.ensures.1 in
-    let w = file_written k.written k.faults k.loan x y _ _ c.args.file.now _ first last same h in
+    x y _ _ _ b c.in_err-put.ensures c.from_residual.ensures.1 in
+    let w = file_written k.written k.faults k.loan x y _ _ (g.L.Laid.file c.args.node.now) _ first last same h in
     record { later = w.later; loan = w.same_loan; whole = w.whole; part = w.part; cause = w.cause }
 
 pub returns : goal.returns
@@ -33,12 +33,12 @@ returns g c =
     let fresh : x.core.now ≡ c.in-Ok.core = search rules in
     let b : Begins x.core.now (k.written x.sink.now) =
     record { fresh = search rules; runs = rw fresh (c.in-Ok.ensures.runs _) } in
-    let same = c.finish.ensures.loans ∙ (c.in_ok-put_file.ensures.puts _ refl).same_loans in
+    let same = c.finish.ensures.loans ∙ (c.in_ok-put.ensures.puts _ refl).same_loans in
     let name : y.sink.ghost_name ≡ x.sink.ghost_name = ap (λ (loans : List ℕ). get_or loans 0 0) same in
     let last : y.sink.now ≡ c.out-2-1.given.0 = search (rules, name) in
     let h = printed_finish lent_core (λ p. k.written p.sink.now) (λ p. k.faults p.sink.now) (press_loans k.loan)
-    x c.put_file.new.out y _ _ _ b c.in_ok-put_file.ensures c.finish.ensures.finishes in
-    let w = file_written k.written k.faults k.loan x y _ _ c.args.file.now _ first last same h in
+    x c.put.new.out y _ _ _ b c.in_ok-put.ensures c.finish.ensures.finishes in
+    let w = file_written k.written k.faults k.loan x y _ _ (g.L.Laid.file c.args.node.now) _ first last same h in
     record { later = w.later; loan = w.same_loan; whole = w.whole; part = w.part; cause = w.cause }
 
 pub finish-requires : goal.finish-requires
@@ -47,4 +47,4 @@ finish-requires g c =
     let x = c.new-press.result in
     let e : x.core.now.groups ≡ 0 = search rules in
     λ _. level_zero lent_core (λ p. k.written p.sink.now) (λ p. k.faults p.sink.now) (press_loans k.loan)
-    x c.put_file.new.out _ _ e c.in_ok-put_file.ensures (closed_stream (layout_of_file c.args.file.now)).1
+    x c.put.new.out _ _ e c.in_ok-put.ensures (closed_stream (layout_of_file (g.L.Laid.file c.args.node.now))).1

@@ -1,5 +1,0 @@
-use Rattle.lay_files.proofs.KeepingLemmas.{kept}
-use Rattle.lay_files.proofs.writing.bytes_of.Goals as goal
-
-pub returns-in-Ok : goal.returns-in-Ok
-returns-in-Ok c = kept _ _ _ _ c.new-keeper.ensures c.in-Ok.ensures.whole c.into_list.ensures
