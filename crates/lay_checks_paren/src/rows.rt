@@ -1,5 +1,6 @@
 //! What is made of trees, printed.
 
+use crate::loose::told;
 use crate::trees::{expr, printed, with_part};
 use lay_code::{Expr, Place};
 use lay_given::{BETWEEN, parts};
@@ -24,10 +25,10 @@ const ROWS: &str =
     §{let a=p else{b};}←c&&d→{\n    let a = (c && d) else {\n        b\n    };\n}§{let a=p else{b};}←S{}→{\n    let a = (S {}) else {\n        b\n    };\n}\
     §{let a=p else{b};}←||c→{\n    let a = (|| c) else {\n        b\n    };\n}§{let a=p else{b};}←c.d→{\n    let a = c.d else {\n        b\n    };\n}\
     §p..b←a..→(a..)..b§..p←a..b→..(a..b)§a..p←b=c→a..(b = c)§p..←a=b→(a = b)..§a=p←b=c→a = (b = c)§p=a←b..→(b..) = a\
-    §-p←p as T←a+b→-((a + b) as T)§match p{}←-p←S{}→match -(S {}) {}§match p{}←|x|p←S{}→match |x| (S {}) {}§return p←p+a←{}→return {} + a";
+    §-p←p as T←a+b→-((a + b) as T)§match p{}←-p←S{}→match -(S {}) {}§match p{}←|x|p←S{}→match |x| (S {}) {}§return p←p+a←{}→return {} + a§a+b→a + b";
 
 /// The tree of a row: nodes behind one another, each within the one before it.
-fn tree(alloc: Global, given: &str) -> Option<Expr> {
+pub(crate) fn tree(alloc: Global, given: &str) -> Option<Expr> {
     match given.split_once('←') {
         Some((node, part)) => with_part(alloc, node, inner(alloc, part)?),
         None => expr(alloc, given),
@@ -68,6 +69,10 @@ fn trees(rt: HostRuntime) -> Result<(), Fail> {
     let alloc = rt.alloc();
     for row in ROWS.split(BETWEEN) {
         let (given, wanted) = parts(row);
+        assert!(rt;
+            matches!(told(alloc, tree(alloc, given)), Some(true)),
+            "{row}"
+        );
         let Some(tree) = tree(alloc, given) else {
             panic!(rt; "no tree: {row}");
         };
@@ -130,5 +135,13 @@ fn the_depth_of_what_is_made(rt: HostRuntime) -> Result<(), Fail> {
     let alloc = rt.alloc();
     assert!(rt; matches!(refusal(alloc, 128), None));
     assert!(rt; matches!(refusal(alloc, 129), Some(ParenError::TooDeep)));
+    Ok(())
+}
+
+#[test]
+fn the_depth_of_what_lacks_them(rt: HostRuntime) -> Result<(), Fail> {
+    let alloc = rt.alloc();
+    assert!(rt; matches!(told(alloc, signs(alloc, 255)), Some(true)));
+    assert!(rt; matches!(told(alloc, signs(alloc, 256)), Some(false)));
     Ok(())
 }

@@ -2,6 +2,7 @@
 use crate::places::{placed, text, written};
 use crate::shapes::{Shape, expr, paired, with_part};
 use lay_code::{Expr, Place};
+use lay_laws::is_loose;
 use lay_paren::parenthesize;
 use std::alloc::Global;
 
@@ -19,6 +20,8 @@ pub struct Tree {
 pub enum Found {
     /// The tree breaks another rule than those of places and slots.
     NotLoose,
+    /// Whether it does isn't what `is_loose` tells.
+    Mistold,
     /// What is made is written in the place, and isn't without any of its pairs, of which there are so many.
     Least(usize),
     /// It isn't written there.
@@ -79,10 +82,15 @@ fn is_written(alloc: Global, tree: Tree, choice: usize, around: &str) -> Option<
 
 /// What is made of the tree in the place.
 pub fn tried(alloc: Global, tree: Tree, place: Place, around: &str) -> Option<Found> {
-    if !is_written(alloc, tree, all_pairs(tree), "p")? {
+    let given = made(alloc, tree, 0)?;
+    let is_good = is_written(alloc, tree, all_pairs(tree), "p")?;
+    if is_loose(alloc, &given).ok()? != is_good {
+        return Some(Found::Mistold);
+    }
+    if !is_good {
         return Some(Found::NotLoose);
     }
-    let least = parenthesize(alloc, made(alloc, tree, 0)?, place).ok()?;
+    let least = parenthesize(alloc, given, place).ok()?;
     let file = placed(alloc, around, least)?;
     let spelled = text(alloc, &file)?;
     if !written(alloc, &file)? {
