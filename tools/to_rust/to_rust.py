@@ -16,7 +16,7 @@ from dataclasses import dataclass, replace
 # The crates whose calls the cargo crate offers. All crates below them become modules.
 ROOTS = ['lay_front', 'lay_laws', 'lay_build']
 # Crates that hold nothing that runs.
-LAWS = {'lay_form', 'lay_loose', 'lay_reparse', 'lay_units'}
+LAWS = {'lay_form', 'lay_loose', 'lay_loose_laws', 'lay_reparse', 'lay_units'}
 # Modules that aren't taken over: what reaches the system, which the cargo crate does by its own standard library, and what only tests use.
 LEFT_OUT = {
     'lay_io': {'host', 'inputs', 'lent', 'room', 'sinks', 'stored'},
@@ -535,7 +535,6 @@ class Sources:
         self.crates = []
         for root in ROOTS:
             self.add(root)
-        self.crates = [crate for crate in self.crates if crate not in LAWS]
         Paths.libraries = frozenset(name for uses in self.uses.values() for name in uses if name not in self.uses)
         self.tokens = {}
         for crate in self.crates:
@@ -545,8 +544,9 @@ class Sources:
             self.laws |= self.laws_of(crate)
 
     def add(self, crate):
+        """Adds a crate behind those below it that hold what runs."""
         for below in self.uses[crate]:
-            if below in self.uses and below not in self.crates:
+            if below in self.uses and below not in self.crates and below not in LAWS:
                 self.add(below)
         if crate not in self.crates:
             self.crates.append(crate)

@@ -4,15 +4,18 @@
 //!
 //! [`put_file`] appends exactly the stream of the layout that `lay_code` gives to a file, [`put_shebang`] that of its first
 //! line, and [`put_item`], [`put_block`], [`put_stmt`], [`put_arm`] and [`put_expr`] the streams of the forms of their
-//! nodes, or they stop where the `Emit` does.
+//! nodes, or they stop where the `Emit` does. [`put_enclosed`] appends the stream of a file of one constant, whose value
+//! is an expression in which each part stands in parentheses.
 //!
 //! A function whose name begins with `add` is told how the calls before it came out, as in [`lay_out_heads`]. Expressions
 //! hold blocks, blocks hold items, and items hold expressions, so these functions call each other. What stands between
-//! such parts is laid out by `lay_out_exprs` and `lay_out_heads`.
+//! such parts is laid out by `lay_out_exprs` and `lay_out_heads`. A type parameter tells them whether parts get
+//! parentheses, as `lay_enclose` says: so one layout serves both.
 mod blocks;
 mod branches;
 mod calls;
 mod conditions;
+mod enclosed;
 mod exprs;
 mod files;
 mod heads;
@@ -21,6 +24,7 @@ mod macros;
 mod operands;
 pub use blocks::{put_block, put_stmt};
 pub use branches::put_arm;
+pub use enclosed::put_enclosed;
 pub use exprs::put_expr;
 pub use files::{put_file, put_shebang};
 pub use items::put_item;

@@ -4,11 +4,15 @@
 //!
 //! The types are those of `lay_code`, which defines which tokens spell a tree and how it is laid out, and of the crates below
 //! it. [`same`] compares two files, [`same_item`], [`same_stmt`], [`same_block`], [`same_arm`] and [`same_expr`] what they
-//! hold, and [`Same`] the nodes that hold no expression. A comparison takes as much of the stack as the trees are deep.
+//! hold, and [`Same`] the nodes that hold no expression. [`same_enclosed`] tells whether a file is the constant whose value is an
+//! expression with each part in parentheses. A comparison takes as much of the stack as the trees are deep.
+mod enclosed;
+mod equal;
 mod exprs;
 mod files;
 mod operators;
-pub use exprs::{same_arm, same_block, same_expr, same_item, same_stmt};
+pub use enclosed::same_enclosed;
+pub use equal::{same_arm, same_block, same_expr, same_item, same_stmt};
 pub use files::same;
 pub use crate::generated::lay_code::{
     Abi,

@@ -10,6 +10,7 @@ pub mod lay_cook;
 pub mod lay_count;
 pub mod lay_depth;
 pub mod lay_depth_nodes;
+pub mod lay_enclose;
 pub mod lay_ends;
 pub mod lay_files;
 pub mod lay_front;

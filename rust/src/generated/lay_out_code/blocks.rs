@@ -1,9 +1,10 @@
 //! Made by scripts/rust.sh from crates/lay_out_code/src/blocks.rt, which is proved: change that.
 //!
 //! Blocks and statements.
-use crate::generated::lay_out_code::exprs::add_expr;
+use crate::generated::lay_out_code::exprs::{add_expr, add_whole};
 use crate::generated::lay_out_code::items::{add_inner_attrs, add_item};
 use crate::generated::lay_code::{Block, Boxed, Expr, Stmt};
+use crate::generated::lay_enclose::{AsIs, Enclose};
 use crate::generated::lay_layout::Break;
 use crate::generated::lay_out_exprs::blocks::{close_soft, is_single};
 use crate::generated::lay_out_exprs::flags::both;
@@ -19,11 +20,12 @@ use crate::generated::lay_stream::Emit;
 pub fn put_block<
     E: Emit,
 >(out: &mut E, block: &Block, lead: bool) -> Result<(), E::Fault> {
-    add_block(out, Ok(()), lead, block)
+    add_block::<E, AsIs>(out, Ok(()), lead, block)
 }
 /// A block, with each statement on a line of its own. The braces have a leading blank or not.
 pub fn add_block<
     E: Emit,
+    X: Enclose,
 >(
     out: &mut E,
     before: Result<(), E::Fault>,
@@ -37,23 +39,25 @@ pub fn add_block<
     }
     let opened = open_body(out, before, lead);
     let attrs = add_inner_attrs(out, opened, attrs);
-    let stmts = add_stmts(out, attrs, HARD_BREAK, stmts);
+    let stmts = add_stmts::<E, X>(out, attrs, HARD_BREAK, stmts);
     close_body(out, stmts)
 }
 /// A block that may stand on one line where it is one expression.
 pub fn add_soft<
     E: Emit,
+    X: Enclose,
 >(out: &mut E, before: Result<(), E::Fault>, block: &Block) -> Result<(), E::Fault> {
     if is_single(block) {
         let opened = open_body(out, before, true);
-        let stmts = add_stmts(out, opened, SPACE_BREAK, block.stmts.as_slice());
+        let stmts = add_stmts::<E, X>(out, opened, SPACE_BREAK, block.stmts.as_slice());
         return close_soft(out, stmts);
     }
-    add_block(out, before, true, block)
+    add_block::<E, X>(out, before, true, block)
 }
 /// Statements, each behind a break.
 fn add_stmts<
     E: Emit,
+    X: Enclose,
 >(
     out: &mut E,
     before: Result<(), E::Fault>,
@@ -63,17 +67,18 @@ fn add_stmts<
     let mut done = before;
     for stmt in stmts {
         done = add_break(out, done, lead);
-        done = add_stmt(out, done, stmt);
+        done = add_stmt::<E, X>(out, done, stmt);
     }
     done
 }
 /// Feeds the layout of a statement.
 pub fn put_stmt<E: Emit>(out: &mut E, stmt: &Stmt) -> Result<(), E::Fault> {
-    add_stmt(out, Ok(()), stmt)
+    add_stmt::<E, AsIs>(out, Ok(()), stmt)
 }
 /// A statement.
 fn add_stmt<
     E: Emit,
+    X: Enclose,
 >(out: &mut E, before: Result<(), E::Fault>, stmt: &Stmt) -> Result<(), E::Fault> {
     match stmt {
         Stmt::Let { attrs, pat, ty, value, otherwise } => {
@@ -81,14 +86,14 @@ fn add_stmt<
             let word = add_text(out, attrs, b"let ");
             let pat = add_pat(out, word, pat);
             let ty = add_self_type(out, pat, ty);
-            let value = add_value(out, ty, value);
-            let otherwise = add_otherwise(out, value, otherwise);
+            let value = add_value::<E, X>(out, ty, value);
+            let otherwise = add_otherwise::<E, X>(out, value, otherwise);
             add_text(out, otherwise, b";")
         }
-        Stmt::Item { item } => add_item(out, before, item.get()),
+        Stmt::Item { item } => add_item::<E, X>(out, before, item.get()),
         Stmt::Expr { attrs, expr, ended } => {
             let attrs = add_attrs(out, before, attrs.as_slice());
-            let expr = add_expr(out, attrs, false, expr.get());
+            let expr = add_whole::<E, X>(out, attrs, false, expr.get());
             add_if(out, expr, *ended, b";")
         }
     }
@@ -96,6 +101,7 @@ fn add_stmt<
 /// The block that a binding leads to where its pattern isn't matched, if there is one, behind its `else`.
 fn add_otherwise<
     E: Emit,
+    X: Enclose,
 >(
     out: &mut E,
     before: Result<(), E::Fault>,
@@ -105,13 +111,14 @@ fn add_otherwise<
         None => before,
         Some(block) => {
             let word = add_text(out, before, b" else");
-            add_block(out, word, true, block)
+            add_block::<E, X>(out, word, true, block)
         }
     }
 }
 /// A value, if there is one, behind its `=`.
 pub fn add_value<
     E: Emit,
+    X: Enclose,
 >(
     out: &mut E,
     before: Result<(), E::Fault>,
@@ -122,7 +129,7 @@ pub fn add_value<
         Some(expr) => {
             let equals = add_text(out, before, b" = ");
             let lead = add_break(out, equals, NEVER_BREAK);
-            add_expr(out, lead, false, expr.get())
+            add_expr::<E, X>(out, lead, false, expr.get())
         }
     }
 }

@@ -3,11 +3,12 @@
 //! Branches and arms.
 use crate::generated::lay_out_code::blocks::add_soft;
 use crate::generated::lay_out_code::conditions::add_condition;
-use crate::generated::lay_out_code::exprs::add_expr;
+use crate::generated::lay_out_code::exprs::{add_body, add_expr};
 use crate::generated::lay_out_code::items::add_inner_attrs;
 use crate::generated::lay_code::{Arm, Attr, Block, Boxed, Branch, Expr};
+use crate::generated::lay_enclose::{AsIs, Enclose};
 use crate::generated::lay_out_exprs::blocks::{add_condition_lead, add_else_word};
-use crate::generated::lay_out_exprs::bodies::{arm_braces, close_arm, open_arm};
+use crate::generated::lay_out_exprs::bodies::{arm_body_braces, close_arm, open_arm};
 use crate::generated::lay_out_exprs::flags::both;
 use crate::generated::lay_out_heads::calls::add_break;
 use crate::generated::lay_out_heads::loops::{close_body, open_body};
@@ -20,14 +21,16 @@ use crate::generated::lay_stream::Emit;
 /// What is matched, behind its word, in a group of its own.
 pub fn add_scrutinee<
     E: Emit,
+    X: Enclose,
 >(out: &mut E, before: Result<(), E::Fault>, scrutinee: &Expr) -> Result<(), E::Fault> {
     let lead = add_condition_lead(out, before, b"match ");
-    let scrutinee = add_expr(out, lead, false, scrutinee);
+    let scrutinee = add_expr::<E, X>(out, lead, false, scrutinee);
     add_end(out, scrutinee)
 }
 /// Branches, with `else` between them.
 pub fn add_branches<
     E: Emit,
+    X: Enclose,
 >(
     out: &mut E,
     before: Result<(), E::Fault>,
@@ -36,14 +39,15 @@ pub fn add_branches<
     let mut done = before;
     for (index, branch) in branches.iter().enumerate() {
         done = add_else_word(out, done, index == 0);
-        done = add_condition(out, done, b"if ", &branch.condition);
-        done = add_soft(out, done, &branch.body);
+        done = add_condition::<E, X>(out, done, b"if ", &branch.condition);
+        done = add_soft::<E, X>(out, done, &branch.body);
     }
     done
 }
 /// The block behind the last branch, if there is one, behind its `else`.
 pub fn add_else<
     E: Emit,
+    X: Enclose,
 >(
     out: &mut E,
     before: Result<(), E::Fault>,
@@ -53,13 +57,14 @@ pub fn add_else<
         None => before,
         Some(block) => {
             let word = add_text(out, before, b" else");
-            add_soft(out, word, block)
+            add_soft::<E, X>(out, word, block)
         }
     }
 }
 /// Inner attributes and arms in braces, each on a line of its own.
 pub fn add_arms<
     E: Emit,
+    X: Enclose,
 >(
     out: &mut E,
     before: Result<(), E::Fault>,
@@ -71,43 +76,46 @@ pub fn add_arms<
     }
     let opened = open_body(out, before, true);
     let attrs = add_inner_attrs(out, opened, attrs);
-    let arms = add_arm_lines(out, attrs, arms);
+    let arms = add_arm_lines::<E, X>(out, attrs, arms);
     close_body(out, arms)
 }
 /// Arms, each behind a newline.
 fn add_arm_lines<
     E: Emit,
+    X: Enclose,
 >(out: &mut E, before: Result<(), E::Fault>, arms: &[Arm]) -> Result<(), E::Fault> {
     let mut done = before;
     for arm in arms {
         done = add_break(out, done, HARD_BREAK);
-        done = add_arm(out, done, arm);
+        done = add_arm::<E, X>(out, done, arm);
     }
     done
 }
 /// Feeds the layout of an arm, which is the same whether or not it is the last.
 pub fn put_arm<E: Emit>(out: &mut E, arm: &Arm) -> Result<(), E::Fault> {
-    add_arm(out, Ok(()), arm)
+    add_arm::<E, AsIs>(out, Ok(()), arm)
 }
 /// An arm.
 fn add_arm<
     E: Emit,
+    X: Enclose,
 >(out: &mut E, before: Result<(), E::Fault>, arm: &Arm) -> Result<(), E::Fault> {
     let attrs = add_attrs(out, before, arm.attrs.as_slice());
     let group = add_group(out, attrs);
     let pat = add_pat(out, group, &arm.pat);
-    let guard = add_guard(out, pat, &arm.guard);
+    let guard = add_guard::<E, X>(out, pat, &arm.guard);
     let head = add_end(out, guard);
     let arrow = add_text(out, head, b" => ");
     let never = add_break(out, arrow, NEVER_BREAK);
-    let braces = arm_braces(arm.body.get());
+    let braces = arm_body_braces::<X>(arm.body.get());
     let opened = open_arm(out, never, braces);
-    let inner = add_expr(out, opened, false, arm.body.get());
+    let inner = add_body::<E, X>(out, opened, arm.body.get());
     close_arm(out, inner, braces)
 }
 /// The guard of an arm, if it has one, behind its `if`.
 fn add_guard<
     E: Emit,
+    X: Enclose,
 >(
     out: &mut E,
     before: Result<(), E::Fault>,
@@ -117,7 +125,7 @@ fn add_guard<
         None => before,
         Some(guard) => {
             let word = add_text(out, before, b" if ");
-            add_expr(out, word, false, guard.get())
+            add_expr::<E, X>(out, word, false, guard.get())
         }
     }
 }

@@ -3,6 +3,7 @@
 //! Conditions and their links.
 use crate::generated::lay_out_code::exprs::add_expr;
 use crate::generated::lay_code::{Condition, Link};
+use crate::generated::lay_enclose::Enclose;
 use crate::generated::lay_out_exprs::blocks::{
     add_condition_lead,
     add_let_lead,
@@ -13,6 +14,7 @@ use crate::generated::lay_stream::Emit;
 /// A condition behind its word, in a group of its own.
 pub fn add_condition<
     E: Emit,
+    X: Enclose,
 >(
     out: &mut E,
     before: Result<(), E::Fault>,
@@ -20,19 +22,20 @@ pub fn add_condition<
     condition: &Condition,
 ) -> Result<(), E::Fault> {
     let lead = add_condition_lead(out, before, word);
-    let links = add_links(out, lead, condition.links.as_slice());
+    let links = add_links::<E, X>(out, lead, condition.links.as_slice());
     add_end(out, links)
 }
 /// The links of a condition. Two or more are in a group of their own.
 fn add_links<
     E: Emit,
+    X: Enclose,
 >(out: &mut E, before: Result<(), E::Fault>, links: &[Link]) -> Result<(), E::Fault> {
     match links {
         [] => before,
-        [link] => add_link(out, before, link),
+        [link] => add_link::<E, X>(out, before, link),
         [_, _, ..] => {
             let group = add_begin(out, before);
-            let row = add_link_row(out, group, links);
+            let row = add_link_row::<E, X>(out, group, links);
             add_end(out, row)
         }
     }
@@ -40,23 +43,25 @@ fn add_links<
 /// Links, with `&&` between them.
 fn add_link_row<
     E: Emit,
+    X: Enclose,
 >(out: &mut E, before: Result<(), E::Fault>, links: &[Link]) -> Result<(), E::Fault> {
     let mut done = before;
     for (index, link) in links.iter().enumerate() {
         done = add_link_lead(out, done, index == 0);
-        done = add_link(out, done, link);
+        done = add_link::<E, X>(out, done, link);
     }
     done
 }
 /// A link.
 fn add_link<
     E: Emit,
+    X: Enclose,
 >(out: &mut E, before: Result<(), E::Fault>, link: &Link) -> Result<(), E::Fault> {
     match link {
-        Link::Expr { expr } => add_expr(out, before, false, expr.get()),
+        Link::Expr { expr } => add_expr::<E, X>(out, before, false, expr.get()),
         Link::Let { pat, value } => {
             let lead = add_let_lead(out, before, pat);
-            add_expr(out, lead, false, value.get())
+            add_expr::<E, X>(out, lead, false, value.get())
         }
     }
 }

@@ -17,16 +17,20 @@ use crate::generated::lay_out_code::operands::{
     add_targets,
 };
 use crate::generated::lay_code::{Boxed, Expr, PathStyle};
+use crate::generated::lay_enclose::{AsIs, Enclose, is_body_enclosed};
 use crate::generated::lay_out_exprs::add_closure_head;
 use crate::generated::lay_out_exprs::blocks::add_labelled;
 use crate::generated::lay_out_exprs::bodies::{
     close_closure,
-    closure_braces,
+    closure_body_braces,
     open_closure,
 };
 use crate::generated::lay_out_exprs::flags::both;
 use crate::generated::lay_out_exprs::operators::{add_casts, add_label, add_prefixes};
-use crate::generated::lay_out_exprs::points::{ends_in_point, operand_ends_in_point};
+use crate::generated::lay_out_exprs::points::{
+    optional_ends_in_point,
+    part_ends_in_point,
+};
 use crate::generated::lay_out_exprs::steps::{
     add_steps_end,
     add_steps_start,
@@ -50,11 +54,40 @@ use crate::generated::lay_out_types::{add_path, add_type};
 use crate::generated::lay_stream::Emit;
 /// Feeds the layout of an expression.
 pub fn put_expr<E: Emit>(out: &mut E, node: &Expr) -> Result<(), E::Fault> {
-    add_expr(out, Ok(()), false, node)
+    add_expr::<E, AsIs>(out, Ok(()), false, node)
 }
-/// An expression. The flag says that a point stands before it.
+/// An expression that is a part of another node: in parentheses, where parts get them. The flag says that a point stands
+/// before it.
 pub fn add_expr<
     E: Emit,
+    X: Enclose,
+>(
+    out: &mut E,
+    before: Result<(), E::Fault>,
+    point: bool,
+    node: &Expr,
+) -> Result<(), E::Fault> {
+    if X::on() {
+        let opener = add_text(out, before, b"(");
+        let inner = add_whole::<E, X>(out, opener, false, node);
+        return add_text(out, inner, b")");
+    }
+    add_whole::<E, X>(out, before, point, node)
+}
+/// The body of an arm or of a closure, which is a part, unless it gets no parentheses.
+pub fn add_body<
+    E: Emit,
+    X: Enclose,
+>(out: &mut E, before: Result<(), E::Fault>, body: &Expr) -> Result<(), E::Fault> {
+    if is_body_enclosed::<X>(body) {
+        return add_expr::<E, X>(out, before, false, body);
+    }
+    add_whole::<E, X>(out, before, false, body)
+}
+/// An expression by itself, in which parts get their parentheses or don't. The flag says that a point stands before it.
+pub fn add_whole<
+    E: Emit,
+    X: Enclose,
 >(
     out: &mut E,
     before: Result<(), E::Fault>,
@@ -68,20 +101,20 @@ pub fn add_expr<
         Expr::Call { call } => add_call(out, before, call),
         Expr::Paren { inner } => {
             let opener = add_text(out, before, b"(");
-            let inner = add_expr(out, opener, false, inner.get());
+            let inner = add_expr::<E, X>(out, opener, false, inner.get());
             add_text(out, inner, b")")
         }
         Expr::Continue { label } => {
             let word = add_text(out, before, b"continue");
             add_label(out, word, label)
         }
-        Expr::Tuple { elements } => add_tuple(out, before, elements.as_slice()),
+        Expr::Tuple { elements } => add_tuple::<E, X>(out, before, elements.as_slice()),
         Expr::Array { elements } => {
-            add_exprs(out, before, elements.as_slice(), b"[", b"[]", b"]")
+            add_exprs::<E, X>(out, before, elements.as_slice(), b"[", b"[]", b"]")
         }
         Expr::Repeat { element, length } => {
             let opener = add_text(out, before, b"[");
-            let element = add_expr(out, opener, false, element.get());
+            let element = add_expr::<E, X>(out, opener, false, element.get());
             let semicolon = add_text(out, element, b"; ");
             let length = add_tokens(out, semicolon, length);
             add_text(out, length, b"]")
@@ -89,88 +122,91 @@ pub fn add_expr<
         Expr::Struct { path, fields, base } => {
             let path = add_path(out, before, path, PathStyle::Code);
             let fields = fields.as_slice();
-            let inner = add_fields(out, path, fields);
+            let inner = add_fields::<E, X>(out, path, fields);
             match base {
                 None => add_closing_brace(out, inner, true, fields.is_empty()),
                 Some(base) => {
-                    let base = add_base(out, inner, fields.is_empty(), base);
+                    let base = add_base::<E, X>(out, inner, fields.is_empty(), base);
                     add_closing_brace(out, base, false, false)
                 }
             }
         }
         Expr::Chain { first, rest } => {
             let group = add_begin(out, before);
-            let first = add_expr(out, group, point, first.get());
-            let rest = add_operands(out, first, rest.as_slice());
+            let first = add_expr::<E, X>(out, group, point, first.get());
+            let rest = add_operands::<E, X>(out, first, rest.as_slice());
             add_end(out, rest)
         }
         Expr::Cast { operand, types } => {
-            let operand = add_expr(out, before, point, operand.get());
+            let operand = add_expr::<E, X>(out, before, point, operand.get());
             add_casts(out, operand, types.as_slice())
         }
         Expr::Unary { prefixes, operand } => {
             let prefixes = prefixes.as_slice();
             let signs = add_prefixes(out, before, prefixes);
-            add_expr(out, signs, both(point, prefixes.is_empty()), operand.get())
+            add_expr::<E, X>(out, signs, both(point, prefixes.is_empty()), operand.get())
         }
         Expr::Range { start, inclusive, end } => {
-            let first = add_optional(out, before, point, start);
+            let first = add_optional::<E, X>(out, before, point, start);
             let dots = add_dots_behind(
                 out,
                 first,
                 *inclusive,
-                operand_ends_in_point(point, start),
+                optional_ends_in_point::<X>(point, start),
             );
-            add_optional(out, dots, !*inclusive, end)
+            add_optional::<E, X>(out, dots, !*inclusive, end)
         }
         Expr::Assign { targets, value } => {
             let targets = targets.as_slice();
-            let assigned = add_targets(out, before, point, targets);
-            add_expr(out, assigned, both(point, targets.is_empty()), value.get())
+            let assigned = add_targets::<E, X>(out, before, point, targets);
+            add_expr::<E, X>(out, assigned, both(point, targets.is_empty()), value.get())
         }
         Expr::Postfix { base, steps } => {
             let base = base.get();
             let steps = steps.as_slice();
             let several = are_several_methods(steps);
             let start = add_steps_start(out, before, several);
-            let first = add_expr(out, start, point, base);
-            let rest = add_steps(out, first, ends_in_point(point, base), several, steps);
+            let first = add_expr::<E, X>(out, start, point, base);
+            let rest = add_steps::<
+                E,
+                X,
+            >(out, first, part_ends_in_point::<X>(point, base), several, steps);
             add_steps_end(out, rest, several)
         }
         Expr::Block { label, body } => {
             let label = add_labelled(out, before, label);
-            add_block(out, label, false, body)
+            add_block::<E, X>(out, label, false, body)
         }
         Expr::Unsafe { body } => {
             let word = add_text(out, before, b"unsafe");
-            add_soft(out, word, body)
+            add_soft::<E, X>(out, word, body)
         }
         Expr::ConstBlock { body } => {
             let word = add_text(out, before, b"const");
-            add_soft(out, word, body)
+            add_soft::<E, X>(out, word, body)
         }
         Expr::Async { moves, body } => {
             let word = add_text(out, before, b"async");
             let word = add_if(out, word, *moves, b" move");
-            add_block(out, word, true, body)
+            add_block::<E, X>(out, word, true, body)
         }
         Expr::If { branches, otherwise } => {
-            let branches = add_branches(out, before, branches.as_slice());
-            add_else(out, branches, otherwise)
+            let branches = add_branches::<E, X>(out, before, branches.as_slice());
+            add_else::<E, X>(out, branches, otherwise)
         }
         Expr::Match { scrutinee, attrs, arms } => {
-            let head = add_scrutinee(out, before, scrutinee.get());
-            add_arms(out, head, attrs.as_slice(), arms.as_slice())
+            let head = add_scrutinee::<E, X>(out, before, scrutinee.get());
+            add_arms::<E, X>(out, head, attrs.as_slice(), arms.as_slice())
         }
         Expr::Loop { label, body } => {
             let label = add_labelled(out, before, label);
             let word = add_text(out, label, b"loop");
-            add_block(out, word, true, body)
+            add_block::<E, X>(out, word, true, body)
         }
         Expr::While { label, condition, body } => {
             let label = add_labelled(out, before, label);
-            let head = add_condition(out, label, b"while ", condition);
-            add_block(out, head, true, body)
+            let head = add_condition::<E, X>(out, label, b"while ", condition);
+            add_block::<E, X>(out, head, true, body)
         }
         Expr::For { label, pat, iterated, body } => {
             let label = add_labelled(out, before, label);
@@ -178,9 +214,9 @@ pub fn add_expr<
             let word = add_text(out, group, b"for ");
             let pat = add_pat(out, word, pat);
             let word = add_text(out, pat, b" in ");
-            let iterated = add_expr(out, word, false, iterated.get());
+            let iterated = add_expr::<E, X>(out, word, false, iterated.get());
             let head = add_end(out, iterated);
-            add_block(out, head, true, body)
+            add_block::<E, X>(out, head, true, body)
         }
         Expr::Closure { is_async, moves, params, body } => {
             let head = add_closure_head(
@@ -191,7 +227,7 @@ pub fn add_expr<
                 params.as_slice(),
             );
             let blank = add_text(out, head, b" ");
-            add_closure_body(out, blank, body.get())
+            add_closure_body::<E, X>(out, blank, body.get())
         }
         Expr::TypedClosure { is_async, moves, params, output, body } => {
             let head = add_closure_head(
@@ -203,36 +239,38 @@ pub fn add_expr<
             );
             let arrow = add_text(out, head, b" -> ");
             let output = add_type(out, arrow, output);
-            add_block(out, output, true, body)
+            add_block::<E, X>(out, output, true, body)
         }
         Expr::Return { operand } => {
             let word = add_text(out, before, b"return");
-            add_operand(out, word, operand)
+            add_operand::<E, X>(out, word, operand)
         }
         Expr::Break { label, operand } => {
             let word = add_text(out, before, b"break");
             let label = add_label(out, word, label);
-            add_operand(out, label, operand)
+            add_operand::<E, X>(out, label, operand)
         }
     }
 }
 /// A tuple, which has a comma behind a single element.
 fn add_tuple<
     E: Emit,
+    X: Enclose,
 >(out: &mut E, before: Result<(), E::Fault>, elements: &[Expr]) -> Result<(), E::Fault> {
     match elements {
         [] => add_text(out, before, b"()"),
         [element] => {
             let opener = add_text(out, before, b"(");
-            let element = add_expr(out, opener, false, element);
+            let element = add_expr::<E, X>(out, opener, false, element);
             add_text(out, element, b",)")
         }
-        [_, _, ..] => add_exprs(out, before, elements, b"(", b"()", b")"),
+        [_, _, ..] => add_exprs::<E, X>(out, before, elements, b"(", b"()", b")"),
     }
 }
 /// Expressions in brackets, with a `,` between them. Without an expression the brackets are one text.
 pub fn add_exprs<
     E: Emit,
+    X: Enclose,
 >(
     out: &mut E,
     before: Result<(), E::Fault>,
@@ -244,13 +282,14 @@ pub fn add_exprs<
     let mut done = before;
     for (index, expr) in exprs.iter().enumerate() {
         done = add_lead(out, done, index == 0, opener);
-        done = add_expr(out, done, false, expr);
+        done = add_expr::<E, X>(out, done, false, expr);
     }
     add_close(out, done, true, exprs.is_empty(), both, closer)
 }
 /// An expression, if there is one.
 pub fn add_optional<
     E: Emit,
+    X: Enclose,
 >(
     out: &mut E,
     before: Result<(), E::Fault>,
@@ -259,21 +298,23 @@ pub fn add_optional<
 ) -> Result<(), E::Fault> {
     match node {
         None => before,
-        Some(node) => add_expr(out, before, point, node.get()),
+        Some(node) => add_expr::<E, X>(out, before, point, node.get()),
     }
 }
 /// The body of a closure, in braces where it is broken and may stand in them.
 fn add_closure_body<
     E: Emit,
+    X: Enclose,
 >(out: &mut E, before: Result<(), E::Fault>, body: &Expr) -> Result<(), E::Fault> {
-    let braces = closure_braces(body);
+    let braces = closure_body_braces::<X>(body);
     let opened = open_closure(out, before, braces);
-    let inner = add_expr(out, opened, false, body);
+    let inner = add_body::<E, X>(out, opened, body);
     close_closure(out, inner, braces)
 }
 /// The operand of a `return` or a `break` behind its blank, if there is one.
 fn add_operand<
     E: Emit,
+    X: Enclose,
 >(
     out: &mut E,
     before: Result<(), E::Fault>,
@@ -283,7 +324,7 @@ fn add_operand<
         None => before,
         Some(operand) => {
             let blank = add_text(out, before, b" ");
-            add_expr(out, blank, false, operand.get())
+            add_expr::<E, X>(out, blank, false, operand.get())
         }
     }
 }

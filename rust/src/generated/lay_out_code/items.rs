@@ -31,6 +31,7 @@ use crate::generated::lay_code::{
     Vis,
     Wheres,
 };
+use crate::generated::lay_enclose::{AsIs, Enclose};
 use crate::generated::lay_out_exprs::flags::both;
 use crate::generated::lay_out_heads::calls::add_break;
 use crate::generated::lay_out_heads::items::{leads, open_head};
@@ -42,18 +43,20 @@ use crate::generated::lay_out_types::lists::add_end;
 use crate::generated::lay_stream::Emit;
 /// Feeds the layout of an item, with its attributes, each on a line of its own.
 pub fn put_item<E: Emit>(out: &mut E, item: &Item) -> Result<(), E::Fault> {
-    add_item(out, Ok(()), item)
+    add_item::<E, AsIs>(out, Ok(()), item)
 }
 /// An item.
 pub fn add_item<
     E: Emit,
+    X: Enclose,
 >(out: &mut E, before: Result<(), E::Fault>, item: &Item) -> Result<(), E::Fault> {
     let attrs = add_attrs(out, before, item.attrs.as_slice());
-    add_kind(out, attrs, &item.vis, item.kind.get())
+    add_kind::<E, X>(out, attrs, &item.vis, item.kind.get())
 }
 /// An item without its attributes.
 fn add_kind<
     E: Emit,
+    X: Enclose,
 >(
     out: &mut E,
     before: Result<(), E::Fault>,
@@ -66,27 +69,35 @@ fn add_kind<
         ItemKind::FileModule { name } => add_ended(out, before, vis, name),
         ItemKind::Module { name, attrs, items } => {
             let head = add_head(out, before, vis, name);
-            add_body(out, head, true, attrs.as_slice(), items.as_slice())
+            add_body::<E, X>(out, head, true, attrs.as_slice(), items.as_slice())
         }
         ItemKind::Function { head, wheres, body } => {
-            add_function(out, before, vis, head, wheres, body)
+            add_function::<E, X>(out, before, vis, head, wheres, body)
         }
         ItemKind::Alias { item } => add_alias(out, before, vis, item),
         ItemKind::Struct { item } => add_struct(out, before, vis, item),
         ItemKind::Union { item } => add_union(out, before, vis, item),
         ItemKind::Enum { item } => add_enum(out, before, vis, item),
-        ItemKind::Value { head, value } => add_valued(out, before, vis, head, value),
+        ItemKind::Value { head, value } => {
+            add_valued::<E, X>(out, before, vis, head, value)
+        }
         ItemKind::Trait { head, wheres, attrs, items } => {
             let clause = add_clause(out, before, vis, head, wheres);
-            add_body(out, clause, leads(wheres), attrs.as_slice(), items.as_slice())
+            add_body::<
+                E,
+                X,
+            >(out, clause, leads(wheres), attrs.as_slice(), items.as_slice())
         }
         ItemKind::Impl { head, wheres, attrs, items } => {
             let clause = add_clause(out, before, vis, head, wheres);
-            add_body(out, clause, leads(wheres), attrs.as_slice(), items.as_slice())
+            add_body::<
+                E,
+                X,
+            >(out, clause, leads(wheres), attrs.as_slice(), items.as_slice())
         }
         ItemKind::Foreign { is_unsafe, abi, attrs, items } => {
             let head = add_foreign_head(out, before, vis, *is_unsafe, abi);
-            add_body(out, head, true, attrs.as_slice(), items.as_slice())
+            add_body::<E, X>(out, head, true, attrs.as_slice(), items.as_slice())
         }
         ItemKind::MacroRules { name, rules } => {
             add_macro_rules(out, before, name, rules)
@@ -97,6 +108,7 @@ fn add_kind<
 /// A function, with its body or without one.
 fn add_function<
     E: Emit,
+    X: Enclose,
 >(
     out: &mut E,
     before: Result<(), E::Fault>,
@@ -109,13 +121,14 @@ fn add_function<
         None => add_ended_clause(out, before, vis, head, wheres),
         Some(block) => {
             let clause = add_clause(out, before, vis, head, wheres);
-            add_block(out, clause, leads(wheres), block)
+            add_block::<E, X>(out, clause, leads(wheres), block)
         }
     }
 }
 /// A constant or a static, and a `;`.
 fn add_valued<
     E: Emit,
+    X: Enclose,
 >(
     out: &mut E,
     before: Result<(), E::Fault>,
@@ -125,13 +138,14 @@ fn add_valued<
 ) -> Result<(), E::Fault> {
     let opened = open_head(out, before, vis);
     let head = head.add(out, opened);
-    let value = add_value(out, head, value);
+    let value = add_value::<E, X>(out, head, value);
     let whole = add_end(out, value);
     add_text(out, whole, b";")
 }
 /// Inner attributes and items in braces, each on a line of its own. The braces have a leading blank or not.
 fn add_body<
     E: Emit,
+    X: Enclose,
 >(
     out: &mut E,
     before: Result<(), E::Fault>,
@@ -144,17 +158,18 @@ fn add_body<
     }
     let opened = open_body(out, before, lead);
     let attrs = add_inner_attrs(out, opened, attrs);
-    let items = add_lines(out, attrs, items);
+    let items = add_lines::<E, X>(out, attrs, items);
     close_body(out, items)
 }
 /// Items, each behind a newline.
 fn add_lines<
     E: Emit,
+    X: Enclose,
 >(out: &mut E, before: Result<(), E::Fault>, items: &[Item]) -> Result<(), E::Fault> {
     let mut done = before;
     for item in items {
         done = add_break(out, done, HARD_BREAK);
-        done = add_item(out, done, item);
+        done = add_item::<E, X>(out, done, item);
     }
     done
 }

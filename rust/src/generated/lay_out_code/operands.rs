@@ -3,6 +3,7 @@
 //! Operands, targets and steps, and the fields of struct literals.
 use crate::generated::lay_out_code::exprs::{add_expr, add_exprs, add_optional};
 use crate::generated::lay_code::{Boxed, Expr, FieldExpr, Op, Step};
+use crate::generated::lay_enclose::Enclose;
 use crate::generated::lay_out_exprs::add_generics;
 use crate::generated::lay_out_exprs::flags::either;
 use crate::generated::lay_out_exprs::operators::{add_assignment, add_operator};
@@ -14,6 +15,7 @@ use crate::generated::lay_stream::Emit;
 /// The fields of a struct literal, behind what opens their braces.
 pub fn add_fields<
     E: Emit,
+    X: Enclose,
 >(
     out: &mut E,
     before: Result<(), E::Fault>,
@@ -22,13 +24,14 @@ pub fn add_fields<
     let mut done = before;
     for (index, field) in fields.iter().enumerate() {
         done = add_brace(out, done, index == 0);
-        done = add_field(out, done, field);
+        done = add_field::<E, X>(out, done, field);
     }
     done
 }
 /// The `..` behind the fields of a struct literal, and its base, if it has one.
 pub fn add_base<
     E: Emit,
+    X: Enclose,
 >(
     out: &mut E,
     before: Result<(), E::Fault>,
@@ -37,24 +40,25 @@ pub fn add_base<
 ) -> Result<(), E::Fault> {
     let lead = add_brace(out, before, first);
     let dots = add_text(out, lead, b"..");
-    add_optional(out, dots, true, base)
+    add_optional::<E, X>(out, dots, true, base)
 }
 /// A field of a struct literal, behind its attributes.
 fn add_field<
     E: Emit,
+    X: Enclose,
 >(out: &mut E, before: Result<(), E::Fault>, field: &FieldExpr) -> Result<(), E::Fault> {
     match field {
         FieldExpr::Named { attrs, name, value } => {
             let attrs = add_attrs(out, before, attrs.as_slice());
             let name = add_word(out, attrs, name.raw, &name.text);
             let colon = add_text(out, name, b": ");
-            add_expr(out, colon, false, value.get())
+            add_expr::<E, X>(out, colon, false, value.get())
         }
         FieldExpr::Numbered { attrs, index, value } => {
             let attrs = add_attrs(out, before, attrs.as_slice());
             let index = add_text(out, attrs, index.as_bytes());
             let colon = add_text(out, index, b": ");
-            add_expr(out, colon, false, value.get())
+            add_expr::<E, X>(out, colon, false, value.get())
         }
         FieldExpr::Short { attrs, name } => {
             let attrs = add_attrs(out, before, attrs.as_slice());
@@ -65,6 +69,7 @@ fn add_field<
 /// The operands behind the first one, each behind its operator.
 pub fn add_operands<
     E: Emit,
+    X: Enclose,
 >(
     out: &mut E,
     before: Result<(), E::Fault>,
@@ -73,13 +78,14 @@ pub fn add_operands<
     let mut done = before;
     for (op, operand) in operands {
         done = add_operator(out, done, *op);
-        done = add_expr(out, done, false, operand.get());
+        done = add_expr::<E, X>(out, done, false, operand.get());
     }
     done
 }
 /// The targets of an assignment, each before its operator.
 pub fn add_targets<
     E: Emit,
+    X: Enclose,
 >(
     out: &mut E,
     before: Result<(), E::Fault>,
@@ -89,7 +95,7 @@ pub fn add_targets<
     let mut done = before;
     let mut point = point;
     for (target, op) in targets {
-        done = add_expr(out, done, point, target.get());
+        done = add_expr::<E, X>(out, done, point, target.get());
         done = add_assignment(out, done, *op);
         point = false;
     }
@@ -99,6 +105,7 @@ pub fn add_targets<
 /// before each method but the first.
 pub fn add_steps<
     E: Emit,
+    X: Enclose,
 >(
     out: &mut E,
     before: Result<(), E::Fault>,
@@ -112,7 +119,7 @@ pub fn add_steps<
     for step in steps {
         let method = is_method(step);
         done = add_step_break(out, done, several, behind, method);
-        done = add_step(out, done, point, step);
+        done = add_step::<E, X>(out, done, point, step);
         point = false;
         behind = either(behind, method);
     }
@@ -121,6 +128,7 @@ pub fn add_steps<
 /// A step.
 fn add_step<
     E: Emit,
+    X: Enclose,
 >(
     out: &mut E,
     before: Result<(), E::Fault>,
@@ -140,14 +148,14 @@ fn add_step<
             let dot = add_either(out, before, point, b" .", b".");
             let name = add_word(out, dot, name.raw, &name.text);
             let generics = add_generics(out, name, generics);
-            add_exprs(out, generics, args.as_slice(), b"(", b"()", b")")
+            add_exprs::<E, X>(out, generics, args.as_slice(), b"(", b"()", b")")
         }
         Step::Apply { args } => {
-            add_exprs(out, before, args.as_slice(), b"(", b"()", b")")
+            add_exprs::<E, X>(out, before, args.as_slice(), b"(", b"()", b")")
         }
         Step::Index { index } => {
             let opener = add_lead(out, before, true, b"[");
-            let index = add_expr(out, opener, false, index.get());
+            let index = add_expr::<E, X>(out, opener, false, index.get());
             add_close(out, index, false, false, b"[]", b"]")
         }
         Step::Try => add_text(out, before, b"?"),

@@ -2,6 +2,7 @@
 //!
 //! What stands round the bodies of arms and of closures.
 use crate::generated::lay_code::Expr;
+use crate::generated::lay_enclose::{Enclose, is_body_enclosed};
 use crate::generated::lay_layout::{Break, Mark};
 use crate::generated::lay_ops::may_wear_braces;
 use crate::generated::lay_out_heads::calls::{add_break, add_inside};
@@ -32,8 +33,22 @@ const CLOSING_BRACE_BREAK: Break = Break {
 };
 /// The same behind the body of an arm, with a `,` where it is no newline.
 const CLOSING_ARM_BREAK: Break = Break { instead: Mark::Comma, ..CLOSING_BRACE_BREAK };
+/// How the body of an arm is laid out, where one in parentheses is laid out in braces.
+pub fn arm_body_braces<X: Enclose>(body: &Expr) -> BodyBraces {
+    if is_body_enclosed::<X>(body) {
+        return BodyBraces::Marked;
+    }
+    arm_braces(body)
+}
+/// How the body of a closure is laid out, where one in parentheses is laid out in braces.
+pub fn closure_body_braces<X: Enclose>(body: &Expr) -> BodyBraces {
+    if is_body_enclosed::<X>(body) {
+        return BodyBraces::Marked;
+    }
+    closure_braces(body)
+}
 /// How the body of an arm is laid out: a macro call as it stands, so too a block without a label, and all else in braces.
-pub fn arm_braces(body: &Expr) -> BodyBraces {
+fn arm_braces(body: &Expr) -> BodyBraces {
     match body {
         Expr::Call { .. } => BodyBraces::Bare,
         Expr::Block { label, .. } => {
@@ -46,7 +61,7 @@ pub fn arm_braces(body: &Expr) -> BodyBraces {
     }
 }
 /// How the body of a closure is laid out: as that of an arm, or as it stands where no braces may stand round it.
-pub fn closure_braces(body: &Expr) -> BodyBraces {
+fn closure_braces(body: &Expr) -> BodyBraces {
     if may_wear_braces(body) { arm_braces(body) } else { BodyBraces::Bare }
 }
 /// What opens the body of an arm.

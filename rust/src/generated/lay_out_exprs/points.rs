@@ -3,10 +3,28 @@
 //! Which expressions end in a point: the last one of a number, or a `..`.
 use crate::generated::lay_out_exprs::flags::both;
 use crate::generated::lay_code::{Boxed, Expr, Path, PathStart};
+use crate::generated::lay_enclose::Enclose;
 use crate::generated::lay_out_pats::is_pointed;
+/// Whether an expression that is a part ends in a point, which it doesn't in parentheses. The flag says that one stands
+/// before it.
+pub fn part_ends_in_point<X: Enclose>(point: bool, node: &Expr) -> bool {
+    if X::on() {
+        return false;
+    }
+    ends_in_point(point, node)
+}
+/// Whether a part that may be left out ends in a point.
+pub fn optional_ends_in_point<
+    X: Enclose,
+>(point: bool, node: &Option<Boxed<Expr>>) -> bool {
+    match node {
+        None => point,
+        Some(node) => part_ends_in_point::<X>(point, node.get()),
+    }
+}
 /// Whether an expression ends in a point. The flag says that one stands before it: what is empty, as nothing is that was
 /// read, leaves that point at the end.
-pub fn ends_in_point(point: bool, node: &Expr) -> bool {
+fn ends_in_point(point: bool, node: &Expr) -> bool {
     match node {
         Expr::Lit { literal } => is_pointed(literal),
         Expr::Path { path } => both(point, is_nothing(path)),
@@ -42,7 +60,7 @@ pub fn ends_in_point(point: bool, node: &Expr) -> bool {
     }
 }
 /// Whether an operand that may be left out ends in a point.
-pub fn operand_ends_in_point(point: bool, operand: &Option<Boxed<Expr>>) -> bool {
+fn operand_ends_in_point(point: bool, operand: &Option<Boxed<Expr>>) -> bool {
     match operand {
         None => point,
         Some(operand) => ends_in_point(point, operand.get()),

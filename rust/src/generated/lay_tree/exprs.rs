@@ -1,6 +1,8 @@
 //! Made by scripts/rust.sh from crates/lay_tree/src/exprs.rt, which is proved: change that.
 //!
-//! Expressions, blocks and items, which hold each other.
+//! Whether a tree is what another becomes: expressions, blocks and items, which hold each other.
+//!
+//! What a tree becomes goes by the type `X`: itself, or itself with each part in parentheses.
 use crate::generated::lay_tree::operators::{same_op, same_params, same_prefixes};
 use crate::generated::lay_code::{
     Arm,
@@ -16,10 +18,11 @@ use crate::generated::lay_code::{
     Step,
     Stmt,
 };
+use crate::generated::lay_enclose::{Enclose, is_body_enclosed};
 use crate::generated::lay_node::Boxed;
 use crate::generated::lay_same_nodes::Same;
-/// Whether two expressions are equal.
-pub fn same_expr(expr: &Expr, other: &Expr) -> bool {
+/// Whether the other expression is what this one becomes, with no parentheses round it.
+pub fn same_whole<X: Enclose>(expr: &Expr, other: &Expr) -> bool {
     match expr {
         Expr::Lit { literal } => {
             matches!(other, Expr::Lit { literal: given } if literal.same(given))
@@ -34,7 +37,7 @@ pub fn same_expr(expr: &Expr, other: &Expr) -> bool {
         Expr::Paren { inner } => {
             matches!(
                 other, Expr::Paren { inner: given } if
-                same_expr(inner.get(), given.get())
+                same_part::<X>(inner.get(), given.get())
             )
         }
         Expr::Continue { label } => {
@@ -43,7 +46,7 @@ pub fn same_expr(expr: &Expr, other: &Expr) -> bool {
         Expr::Tuple { elements } => {
             match other {
                 Expr::Tuple { elements: given } => {
-                    same_exprs(elements.as_slice(), given.as_slice())
+                    same_parts::<X>(elements.as_slice(), given.as_slice())
                 }
                 _ => false,
             }
@@ -51,7 +54,7 @@ pub fn same_expr(expr: &Expr, other: &Expr) -> bool {
         Expr::Array { elements } => {
             match other {
                 Expr::Array { elements: given } => {
-                    same_exprs(elements.as_slice(), given.as_slice())
+                    same_parts::<X>(elements.as_slice(), given.as_slice())
                 }
                 _ => false,
             }
@@ -59,7 +62,7 @@ pub fn same_expr(expr: &Expr, other: &Expr) -> bool {
         Expr::Repeat { element, length } => {
             match other {
                 Expr::Repeat { element: other_element, length: other_length } => {
-                    same_expr(element.get(), other_element.get())
+                    same_part::<X>(element.get(), other_element.get())
                         && length.same(other_length)
                 }
                 _ => false,
@@ -73,8 +76,8 @@ pub fn same_expr(expr: &Expr, other: &Expr) -> bool {
                     base: other_base,
                 } => {
                     path.same(other_path)
-                        && same_fields(fields.as_slice(), other_fields.as_slice())
-                        && same_base(base, other_base)
+                        && same_fields::<X>(fields.as_slice(), other_fields.as_slice())
+                        && same_base::<X>(base, other_base)
                 }
                 _ => false,
             }
@@ -82,8 +85,8 @@ pub fn same_expr(expr: &Expr, other: &Expr) -> bool {
         Expr::Chain { first, rest } => {
             match other {
                 Expr::Chain { first: other_first, rest: other_rest } => {
-                    same_expr(first.get(), other_first.get())
-                        && same_operands(rest.as_slice(), other_rest.as_slice())
+                    same_part::<X>(first.get(), other_first.get())
+                        && same_operands::<X>(rest.as_slice(), other_rest.as_slice())
                 }
                 _ => false,
             }
@@ -91,7 +94,7 @@ pub fn same_expr(expr: &Expr, other: &Expr) -> bool {
         Expr::Cast { operand, types } => {
             match other {
                 Expr::Cast { operand: other_operand, types: other_types } => {
-                    same_expr(operand.get(), other_operand.get())
+                    same_part::<X>(operand.get(), other_operand.get())
                         && types.same(other_types)
                 }
                 _ => false,
@@ -101,7 +104,7 @@ pub fn same_expr(expr: &Expr, other: &Expr) -> bool {
             match other {
                 Expr::Unary { prefixes: other_prefixes, operand: other_operand } => {
                     same_prefixes(prefixes.as_slice(), other_prefixes.as_slice())
-                        && same_expr(operand.get(), other_operand.get())
+                        && same_part::<X>(operand.get(), other_operand.get())
                 }
                 _ => false,
             }
@@ -113,8 +116,9 @@ pub fn same_expr(expr: &Expr, other: &Expr) -> bool {
                     inclusive: other_inclusive,
                     end: other_end,
                 } => {
-                    same_operand(start, other_start) && *inclusive == *other_inclusive
-                        && same_operand(end, other_end)
+                    same_operand::<X>(start, other_start)
+                        && *inclusive == *other_inclusive
+                        && same_operand::<X>(end, other_end)
                 }
                 _ => false,
             }
@@ -122,8 +126,8 @@ pub fn same_expr(expr: &Expr, other: &Expr) -> bool {
         Expr::Assign { targets, value } => {
             match other {
                 Expr::Assign { targets: other_targets, value: other_value } => {
-                    same_targets(targets.as_slice(), other_targets.as_slice())
-                        && same_expr(value.get(), other_value.get())
+                    same_targets::<X>(targets.as_slice(), other_targets.as_slice())
+                        && same_part::<X>(value.get(), other_value.get())
                 }
                 _ => false,
             }
@@ -131,8 +135,8 @@ pub fn same_expr(expr: &Expr, other: &Expr) -> bool {
         Expr::Postfix { base, steps } => {
             match other {
                 Expr::Postfix { base: other_base, steps: other_steps } => {
-                    same_expr(base.get(), other_base.get())
-                        && same_steps(steps.as_slice(), other_steps.as_slice())
+                    same_part::<X>(base.get(), other_base.get())
+                        && same_steps::<X>(steps.as_slice(), other_steps.as_slice())
                 }
                 _ => false,
             }
@@ -140,21 +144,23 @@ pub fn same_expr(expr: &Expr, other: &Expr) -> bool {
         Expr::Block { label, body } => {
             match other {
                 Expr::Block { label: other_label, body: other_body } => {
-                    label.same(other_label) && same_block(body, other_body)
+                    label.same(other_label) && same_block::<X>(body, other_body)
                 }
                 _ => false,
             }
         }
         Expr::Unsafe { body } => {
-            matches!(other, Expr::Unsafe { body: given } if same_block(body, given))
+            matches!(other, Expr::Unsafe { body: given } if same_block::<X>(body, given))
         }
         Expr::ConstBlock { body } => {
-            matches!(other, Expr::ConstBlock { body: given } if same_block(body, given))
+            matches!(
+                other, Expr::ConstBlock { body: given } if same_block::<X>(body, given)
+            )
         }
         Expr::Async { moves, body } => {
             match other {
                 Expr::Async { moves: other_moves, body: other_body } => {
-                    *moves == *other_moves && same_block(body, other_body)
+                    *moves == *other_moves && same_block::<X>(body, other_body)
                 }
                 _ => false,
             }
@@ -162,8 +168,8 @@ pub fn same_expr(expr: &Expr, other: &Expr) -> bool {
         Expr::If { branches, otherwise } => {
             match other {
                 Expr::If { branches: other_branches, otherwise: other_otherwise } => {
-                    same_branches(branches.as_slice(), other_branches.as_slice())
-                        && same_body(otherwise, other_otherwise)
+                    same_branches::<X>(branches.as_slice(), other_branches.as_slice())
+                        && same_body::<X>(otherwise, other_otherwise)
                 }
                 _ => false,
             }
@@ -175,9 +181,9 @@ pub fn same_expr(expr: &Expr, other: &Expr) -> bool {
                     attrs: other_attrs,
                     arms: other_arms,
                 } => {
-                    same_expr(scrutinee.get(), other_scrutinee.get())
+                    same_part::<X>(scrutinee.get(), other_scrutinee.get())
                         && attrs.same(other_attrs)
-                        && same_arms(arms.as_slice(), other_arms.as_slice())
+                        && same_arms::<X>(arms.as_slice(), other_arms.as_slice())
                 }
                 _ => false,
             }
@@ -185,7 +191,7 @@ pub fn same_expr(expr: &Expr, other: &Expr) -> bool {
         Expr::Loop { label, body } => {
             match other {
                 Expr::Loop { label: other_label, body: other_body } => {
-                    label.same(other_label) && same_block(body, other_body)
+                    label.same(other_label) && same_block::<X>(body, other_body)
                 }
                 _ => false,
             }
@@ -197,8 +203,9 @@ pub fn same_expr(expr: &Expr, other: &Expr) -> bool {
                     condition: other_condition,
                     body: other_body,
                 } => {
-                    label.same(other_label) && same_condition(condition, other_condition)
-                        && same_block(body, other_body)
+                    label.same(other_label)
+                        && same_condition::<X>(condition, other_condition)
+                        && same_block::<X>(body, other_body)
                 }
                 _ => false,
             }
@@ -212,8 +219,8 @@ pub fn same_expr(expr: &Expr, other: &Expr) -> bool {
                     body: other_body,
                 } => {
                     label.same(other_label) && pat.same(other_pat)
-                        && same_expr(iterated.get(), other_iterated.get())
-                        && same_block(body, other_body)
+                        && same_part::<X>(iterated.get(), other_iterated.get())
+                        && same_block::<X>(body, other_body)
                 }
                 _ => false,
             }
@@ -228,7 +235,7 @@ pub fn same_expr(expr: &Expr, other: &Expr) -> bool {
                 } => {
                     *is_async == *other_is_async && *moves == *other_moves
                         && same_params(params.as_slice(), other_params.as_slice())
-                        && same_expr(body.get(), other_body.get())
+                        && same_body_part::<X>(body.get(), other_body.get())
                 }
                 _ => false,
             }
@@ -244,86 +251,109 @@ pub fn same_expr(expr: &Expr, other: &Expr) -> bool {
                 } => {
                     *is_async == *other_is_async && *moves == *other_moves
                         && same_params(params.as_slice(), other_params.as_slice())
-                        && output.same(other_output) && same_block(body, other_body)
+                        && output.same(other_output) && same_block::<X>(body, other_body)
                 }
                 _ => false,
             }
         }
         Expr::Return { operand } => {
             matches!(
-                other, Expr::Return { operand: given } if same_operand(operand, given)
+                other, Expr::Return { operand: given } if
+                same_operand::<X>(operand, given)
             )
         }
         Expr::Break { label, operand } => {
             match other {
                 Expr::Break { label: other_label, operand: other_operand } => {
-                    label.same(other_label) && same_operand(operand, other_operand)
+                    label.same(other_label) && same_operand::<X>(operand, other_operand)
                 }
                 _ => false,
             }
         }
     }
 }
-/// Whether two lists of expressions are equal.
-fn same_exprs(exprs: &[Expr], others: &[Expr]) -> bool {
+/// Whether the other expression is what this one becomes as a part.
+pub fn same_part<X: Enclose>(expr: &Expr, other: &Expr) -> bool {
+    if !X::on() {
+        return same_whole::<X>(expr, other);
+    }
+    match other {
+        Expr::Paren { inner } => same_whole::<X>(expr, inner.get()),
+        _ => false,
+    }
+}
+/// Whether the other expression is what this one becomes as the body of an arm or of a closure.
+fn same_body_part<X: Enclose>(body: &Expr, other: &Expr) -> bool {
+    if is_body_enclosed::<X>(body) { same_part::<X>(body, other) } else {
+        same_whole::<X>(body, other)
+    }
+}
+/// Whether the other expressions are what these become as parts.
+fn same_parts<X: Enclose>(exprs: &[Expr], others: &[Expr]) -> bool {
     if exprs.len() != others.len() {
         return false;
     }
     for (expr, other) in exprs.iter().zip(others) {
-        if !same_expr(expr, other) {
+        if !same_part::<X>(expr, other) {
             return false;
         }
     }
     true
 }
-/// Whether two expressions that may be left out are equal.
-fn same_operand(operand: &Option<Boxed<Expr>>, other: &Option<Boxed<Expr>>) -> bool {
+/// Whether the other part, which may be left out, is what this one becomes.
+fn same_operand<
+    X: Enclose,
+>(operand: &Option<Boxed<Expr>>, other: &Option<Boxed<Expr>>) -> bool {
     match operand {
         None => other.is_none(),
         Some(operand) => matches!(
-            other, Some(given) if same_expr(operand.get(), given.get())
+            other, Some(given) if same_part::<X>(operand.get(), given.get())
         ),
     }
 }
-/// Whether the operators and operands of two chains are equal.
-fn same_operands(operands: &[(Op, Boxed<Expr>)], others: &[(Op, Boxed<Expr>)]) -> bool {
+/// Whether a chain's other operators and operands are what these become.
+fn same_operands<
+    X: Enclose,
+>(operands: &[(Op, Boxed<Expr>)], others: &[(Op, Boxed<Expr>)]) -> bool {
     if operands.len() != others.len() {
         return false;
     }
     for ((op, operand), (other_op, other_operand)) in operands.iter().zip(others) {
-        if !same_op(op, other_op) || !same_expr(operand.get(), other_operand.get()) {
+        if !same_op(op, other_op)
+            || !same_part::<X>(operand.get(), other_operand.get()) {
             return false;
         }
     }
     true
 }
-/// Whether the bases of two struct literals are equal, behind a `..` where there is one.
-fn same_base(
-    base: &Option<Option<Boxed<Expr>>>,
-    other: &Option<Option<Boxed<Expr>>>,
-) -> bool {
+/// Whether a struct literal's other base is what this one becomes, behind a `..` where there is one.
+fn same_base<
+    X: Enclose,
+>(base: &Option<Option<Boxed<Expr>>>, other: &Option<Option<Boxed<Expr>>>) -> bool {
     match base {
         None => other.is_none(),
         Some(None) => matches!(other, Some(None)),
         Some(Some(base)) => {
-            matches!(other, Some(Some(given)) if same_expr(base.get(), given.get()))
+            matches!(other, Some(Some(given)) if same_part::<X>(base.get(), given.get()))
         }
     }
 }
-/// Whether the targets of two assignments are equal.
-fn same_targets(targets: &[(Boxed<Expr>, Op)], others: &[(Boxed<Expr>, Op)]) -> bool {
+/// Whether an assignment's other targets are what these become.
+fn same_targets<
+    X: Enclose,
+>(targets: &[(Boxed<Expr>, Op)], others: &[(Boxed<Expr>, Op)]) -> bool {
     if targets.len() != others.len() {
         return false;
     }
     for ((target, op), (other_target, other_op)) in targets.iter().zip(others) {
-        if !same_expr(target.get(), other_target.get()) || !same_op(op, other_op) {
+        if !same_part::<X>(target.get(), other_target.get()) || !same_op(op, other_op) {
             return false;
         }
     }
     true
 }
-/// Whether two fields of struct literals are equal.
-fn same_field(field: &FieldExpr, other: &FieldExpr) -> bool {
+/// Whether a struct literal's other field is what this one becomes.
+fn same_field<X: Enclose>(field: &FieldExpr, other: &FieldExpr) -> bool {
     match field {
         FieldExpr::Named { attrs, name, value } => {
             match other {
@@ -333,7 +363,7 @@ fn same_field(field: &FieldExpr, other: &FieldExpr) -> bool {
                     value: other_value,
                 } => {
                     attrs.same(other_attrs) && name.same(other_name)
-                        && same_expr(value.get(), other_value.get())
+                        && same_part::<X>(value.get(), other_value.get())
                 }
                 _ => false,
             }
@@ -346,7 +376,7 @@ fn same_field(field: &FieldExpr, other: &FieldExpr) -> bool {
                     value: other_value,
                 } => {
                     attrs.same(other_attrs) && index.same(other_index)
-                        && same_expr(value.get(), other_value.get())
+                        && same_part::<X>(value.get(), other_value.get())
                 }
                 _ => false,
             }
@@ -361,20 +391,20 @@ fn same_field(field: &FieldExpr, other: &FieldExpr) -> bool {
         }
     }
 }
-/// Whether the fields of two struct literals are equal.
-fn same_fields(fields: &[FieldExpr], others: &[FieldExpr]) -> bool {
+/// Whether a struct literal's other fields are what these become.
+fn same_fields<X: Enclose>(fields: &[FieldExpr], others: &[FieldExpr]) -> bool {
     if fields.len() != others.len() {
         return false;
     }
     for (field, other) in fields.iter().zip(others) {
-        if !same_field(field, other) {
+        if !same_field::<X>(field, other) {
             return false;
         }
     }
     true
 }
-/// Whether two steps are equal.
-fn same_step(step: &Step, other: &Step) -> bool {
+/// Whether the other step is what this one becomes.
+fn same_step<X: Enclose>(step: &Step, other: &Step) -> bool {
     match step {
         Step::Field { name } => matches!(
             other, Step::Field { name: given } if name.same(given)
@@ -390,7 +420,7 @@ fn same_step(step: &Step, other: &Step) -> bool {
                     args: other_args,
                 } => {
                     name.same(other_name) && generics.same(other_generics)
-                        && same_exprs(args.as_slice(), other_args.as_slice())
+                        && same_parts::<X>(args.as_slice(), other_args.as_slice())
                 }
                 _ => false,
             }
@@ -398,7 +428,7 @@ fn same_step(step: &Step, other: &Step) -> bool {
         Step::Apply { args } => {
             match other {
                 Step::Apply { args: given } => {
-                    same_exprs(args.as_slice(), given.as_slice())
+                    same_parts::<X>(args.as_slice(), given.as_slice())
                 }
                 _ => false,
             }
@@ -406,39 +436,39 @@ fn same_step(step: &Step, other: &Step) -> bool {
         Step::Index { index } => {
             matches!(
                 other, Step::Index { index: given } if
-                same_expr(index.get(), given.get())
+                same_part::<X>(index.get(), given.get())
             )
         }
         Step::Try => matches!(other, Step::Try),
         Step::Await => matches!(other, Step::Await),
     }
 }
-/// Whether the steps behind two expressions are equal.
-fn same_steps(steps: &[Step], others: &[Step]) -> bool {
+/// Whether the other steps are what these become.
+fn same_steps<X: Enclose>(steps: &[Step], others: &[Step]) -> bool {
     if steps.len() != others.len() {
         return false;
     }
     for (step, other) in steps.iter().zip(others) {
-        if !same_step(step, other) {
+        if !same_step::<X>(step, other) {
             return false;
         }
     }
     true
 }
-/// Whether two blocks are equal.
-pub fn same_block(block: &Block, other: &Block) -> bool {
+/// Whether the other block is what this one becomes.
+pub fn same_block<X: Enclose>(block: &Block, other: &Block) -> bool {
     block.attrs.same(&other.attrs)
-        && same_stmts(block.stmts.as_slice(), other.stmts.as_slice())
+        && same_stmts::<X>(block.stmts.as_slice(), other.stmts.as_slice())
 }
-/// Whether two blocks that may be left out are equal.
-fn same_body(body: &Option<Block>, other: &Option<Block>) -> bool {
+/// Whether the other block, which may be left out, is what this one becomes.
+fn same_body<X: Enclose>(body: &Option<Block>, other: &Option<Block>) -> bool {
     match body {
         None => other.is_none(),
-        Some(body) => matches!(other, Some(given) if same_block(body, given)),
+        Some(body) => matches!(other, Some(given) if same_block::<X>(body, given)),
     }
 }
-/// Whether two statements are equal.
-pub fn same_stmt(stmt: &Stmt, other: &Stmt) -> bool {
+/// Whether the other statement is what this one becomes.
+pub fn same_stmt<X: Enclose>(stmt: &Stmt, other: &Stmt) -> bool {
     match stmt {
         Stmt::Let { attrs, pat, ty, value, otherwise } => {
             match other {
@@ -450,15 +480,16 @@ pub fn same_stmt(stmt: &Stmt, other: &Stmt) -> bool {
                     otherwise: other_otherwise,
                 } => {
                     attrs.same(other_attrs) && pat.same(other_pat) && ty.same(other_ty)
-                        && same_operand(value, other_value)
-                        && same_body(otherwise, other_otherwise)
+                        && same_operand::<X>(value, other_value)
+                        && same_body::<X>(otherwise, other_otherwise)
                 }
                 _ => false,
             }
         }
         Stmt::Item { item } => {
             matches!(
-                other, Stmt::Item { item: given } if same_item(item.get(), given.get())
+                other, Stmt::Item { item: given } if
+                same_item::<X>(item.get(), given.get())
             )
         }
         Stmt::Expr { attrs, expr, ended } => {
@@ -468,114 +499,115 @@ pub fn same_stmt(stmt: &Stmt, other: &Stmt) -> bool {
                     expr: other_expr,
                     ended: other_ended,
                 } => {
-                    attrs.same(other_attrs) && same_expr(expr.get(), other_expr.get())
-                        && *ended == *other_ended
+                    attrs.same(other_attrs) && *ended == *other_ended
+                        && same_whole::<X>(expr.get(), other_expr.get())
                 }
                 _ => false,
             }
         }
     }
 }
-/// Whether two lists of statements are equal.
-fn same_stmts(stmts: &[Stmt], others: &[Stmt]) -> bool {
+/// Whether the other statements are what these become.
+fn same_stmts<X: Enclose>(stmts: &[Stmt], others: &[Stmt]) -> bool {
     if stmts.len() != others.len() {
         return false;
     }
     for (stmt, other) in stmts.iter().zip(others) {
-        if !same_stmt(stmt, other) {
+        if !same_stmt::<X>(stmt, other) {
             return false;
         }
     }
     true
 }
-/// Whether two branches are equal.
-fn same_branch(branch: &Branch, other: &Branch) -> bool {
-    same_condition(&branch.condition, &other.condition)
-        && same_block(&branch.body, &other.body)
+/// Whether the other branch is what this one becomes.
+fn same_branch<X: Enclose>(branch: &Branch, other: &Branch) -> bool {
+    same_condition::<X>(&branch.condition, &other.condition)
+        && same_block::<X>(&branch.body, &other.body)
 }
-/// Whether the branches of two expressions are equal.
-fn same_branches(branches: &[Branch], others: &[Branch]) -> bool {
+/// Whether the other branches are what these become.
+fn same_branches<X: Enclose>(branches: &[Branch], others: &[Branch]) -> bool {
     if branches.len() != others.len() {
         return false;
     }
     for (branch, other) in branches.iter().zip(others) {
-        if !same_branch(branch, other) {
+        if !same_branch::<X>(branch, other) {
             return false;
         }
     }
     true
 }
-/// Whether two conditions are equal.
-fn same_condition(condition: &Condition, other: &Condition) -> bool {
-    same_links(condition.links.as_slice(), other.links.as_slice())
+/// Whether the other condition is what this one becomes.
+fn same_condition<X: Enclose>(condition: &Condition, other: &Condition) -> bool {
+    same_links::<X>(condition.links.as_slice(), other.links.as_slice())
 }
-/// Whether two links of conditions are equal.
-fn same_link(link: &Link, other: &Link) -> bool {
+/// Whether a condition's other link is what this one becomes.
+fn same_link<X: Enclose>(link: &Link, other: &Link) -> bool {
     match link {
         Link::Expr { expr } => {
             matches!(
-                other, Link::Expr { expr: given } if same_expr(expr.get(), given.get())
+                other, Link::Expr { expr: given } if
+                same_part::<X>(expr.get(), given.get())
             )
         }
         Link::Let { pat, value } => {
             match other {
                 Link::Let { pat: other_pat, value: other_value } => {
-                    pat.same(other_pat) && same_expr(value.get(), other_value.get())
+                    pat.same(other_pat) && same_part::<X>(value.get(), other_value.get())
                 }
                 _ => false,
             }
         }
     }
 }
-/// Whether the links of two conditions are equal.
-fn same_links(links: &[Link], others: &[Link]) -> bool {
+/// Whether a condition's other links are what these become.
+fn same_links<X: Enclose>(links: &[Link], others: &[Link]) -> bool {
     if links.len() != others.len() {
         return false;
     }
     for (link, other) in links.iter().zip(others) {
-        if !same_link(link, other) {
+        if !same_link::<X>(link, other) {
             return false;
         }
     }
     true
 }
-/// Whether two arms are equal.
-pub fn same_arm(arm: &Arm, other: &Arm) -> bool {
+/// Whether the other arm is what this one becomes.
+pub fn same_arm<X: Enclose>(arm: &Arm, other: &Arm) -> bool {
     arm.attrs.same(&other.attrs) && arm.pat.same(&other.pat)
-        && same_operand(&arm.guard, &other.guard)
-        && same_expr(arm.body.get(), other.body.get())
+        && same_operand::<X>(&arm.guard, &other.guard)
+        && same_body_part::<X>(arm.body.get(), other.body.get())
 }
-/// Whether the arms of two expressions are equal.
-fn same_arms(arms: &[Arm], others: &[Arm]) -> bool {
+/// Whether the other arms are what these become.
+fn same_arms<X: Enclose>(arms: &[Arm], others: &[Arm]) -> bool {
     if arms.len() != others.len() {
         return false;
     }
     for (arm, other) in arms.iter().zip(others) {
-        if !same_arm(arm, other) {
+        if !same_arm::<X>(arm, other) {
             return false;
         }
     }
     true
 }
-/// Whether two items are equal.
-pub fn same_item(item: &Item, other: &Item) -> bool {
+/// Whether the other item is what this one becomes.
+pub fn same_item<X: Enclose>(item: &Item, other: &Item) -> bool {
     item.attrs.same(&other.attrs) && item.vis.same(&other.vis)
-        && same_kind(item.kind.get(), other.kind.get())
+        && same_kind::<X>(item.kind.get(), other.kind.get())
 }
-/// Whether two lists of items are equal.
-pub fn same_items(items: &[Item], others: &[Item]) -> bool {
+/// Whether the other items are what these become.
+pub fn same_items<X: Enclose>(items: &[Item], others: &[Item]) -> bool {
     if items.len() != others.len() {
         return false;
     }
     for (item, other) in items.iter().zip(others) {
-        if !same_item(item, other) {
+        if !same_item::<X>(item, other) {
             return false;
         }
     }
     true
 }
-/// Whether two items without their attributes and visibilities are equal.
-fn same_kind(kind: &ItemKind, other: &ItemKind) -> bool {
+/// Whether the other item is what this one becomes, without their attributes and visibilities.
+fn same_kind<X: Enclose>(kind: &ItemKind, other: &ItemKind) -> bool {
     match kind {
         ItemKind::ExternCrate { item } => {
             matches!(other, ItemKind::ExternCrate { item: given } if item.same(given))
@@ -594,7 +626,7 @@ fn same_kind(kind: &ItemKind, other: &ItemKind) -> bool {
                     items: other_items,
                 } => {
                     name.same(other_name) && attrs.same(other_attrs)
-                        && same_items(items.as_slice(), other_items.as_slice())
+                        && same_items::<X>(items.as_slice(), other_items.as_slice())
                 }
                 _ => false,
             }
@@ -607,7 +639,7 @@ fn same_kind(kind: &ItemKind, other: &ItemKind) -> bool {
                     body: other_body,
                 } => {
                     head.same(other_head) && wheres.same(other_wheres)
-                        && same_body(body, other_body)
+                        && same_body::<X>(body, other_body)
                 }
                 _ => false,
             }
@@ -627,7 +659,7 @@ fn same_kind(kind: &ItemKind, other: &ItemKind) -> bool {
         ItemKind::Value { head, value } => {
             match other {
                 ItemKind::Value { head: other_head, value: other_value } => {
-                    head.same(other_head) && same_operand(value, other_value)
+                    head.same(other_head) && same_operand::<X>(value, other_value)
                 }
                 _ => false,
             }
@@ -642,7 +674,7 @@ fn same_kind(kind: &ItemKind, other: &ItemKind) -> bool {
                 } => {
                     head.same(other_head) && wheres.same(other_wheres)
                         && attrs.same(other_attrs)
-                        && same_items(items.as_slice(), other_items.as_slice())
+                        && same_items::<X>(items.as_slice(), other_items.as_slice())
                 }
                 _ => false,
             }
@@ -657,7 +689,7 @@ fn same_kind(kind: &ItemKind, other: &ItemKind) -> bool {
                 } => {
                     head.same(other_head) && wheres.same(other_wheres)
                         && attrs.same(other_attrs)
-                        && same_items(items.as_slice(), other_items.as_slice())
+                        && same_items::<X>(items.as_slice(), other_items.as_slice())
                 }
                 _ => false,
             }
@@ -672,7 +704,7 @@ fn same_kind(kind: &ItemKind, other: &ItemKind) -> bool {
                 } => {
                     *is_unsafe == *other_is_unsafe && abi.same(other_abi)
                         && attrs.same(other_attrs)
-                        && same_items(items.as_slice(), other_items.as_slice())
+                        && same_items::<X>(items.as_slice(), other_items.as_slice())
                 }
                 _ => false,
             }

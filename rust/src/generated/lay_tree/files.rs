@@ -1,7 +1,7 @@
 //! Made by scripts/rust.sh from crates/lay_tree/src/files.rt, which is proved: change that.
 //!
 //! Files.
-use crate::generated::lay_tree::exprs::same_items;
+use crate::generated::lay_tree::equal::same_items;
 use crate::generated::lay_code::File;
 use crate::generated::lay_same_nodes::Same;
 /// Whether two files are equal: the shebang, the inner attributes, and the items in their order.

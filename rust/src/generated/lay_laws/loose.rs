@@ -1,0 +1,28 @@
+//! Made by scripts/rust.sh from crates/lay_laws/src/loose.rt, which is proved: change that.
+//!
+//! Which trees of expressions lack nothing but parentheses.
+use crate::generated::lay_depth::expr_depth;
+use crate::generated::lay_files::{DEPTH, FileError, enclosed_text_of, read_within};
+use crate::generated::lay_token::NoMemory;
+use crate::generated::lay_tree::{Expr, same_enclosed};
+use crate::shims::Global;
+/// Whether the expression lacks nothing but parentheses: it meets every rule but those of places and slots, each name, word and
+/// literal is a piece of its kind, and it is no deeper than files may be. So `parenthesize` of `lay_paren` makes of it a tree that
+/// can be written.
+///
+/// What can be asked of a text is whether it reads back, and the text of such a tree may read to another one. So the tree is
+/// laid out with each part in parentheses, as the value of a constant: then no place refuses a part, and the text reads back exactly
+/// where nothing else is amiss. This takes time and memory in proportion to that text. It is at most twice as deep as the tree, and
+/// so takes up to twice as many levels of the stack, of which those that are added are parentheses alone.
+pub fn is_loose(alloc: Global, expr: &Expr) -> Result<bool, NoMemory> {
+    let depth = expr_depth(expr);
+    if depth > DEPTH {
+        return Ok(false);
+    }
+    let text = enclosed_text_of(alloc, expr)?;
+    match read_within(alloc, text.as_bytes(), 2 * depth + 2) {
+        Ok(read) => Ok(same_enclosed(expr, &read)),
+        Err(FileError::Refused { .. }) => Ok(false),
+        Err(FileError::NoMemory) => Err(NoMemory),
+    }
+}
