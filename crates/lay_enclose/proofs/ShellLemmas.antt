@@ -57,7 +57,7 @@ base_off = maybe_off (option_map (part false)) part_off
 block_off : (x : Option Block) → option_map (enclose_block false) x ≡ x
 block_off = maybe_off (enclose_block false) (λ x. refl)
 
-items_off : (xs : List Item) → map (enclose_item false) xs ≡ xs
+pub items_off : (xs : List Item) → map (enclose_item false) xs ≡ xs
 items_off = all_off (enclose_item false) (λ x. refl)
 
 operands_off : (xs : List (Op × Expr)) → map (operand_part false) xs ≡ xs

@@ -1,12 +1,11 @@
 -- What is told of a tree is told of what is equal to it, and of a part by what is within its parentheses.
-use Rattle.std.proofs.Common.{◌≡◌, ◌↔◌, IsTrue, Bool, true, false, List, [], ◌∷◌, map, refl, sym, ap, ◌∙◌}
+use Rattle.std.proofs.Common.{◌≡◌, ◌↔◌, IsTrue, Bool, true, false, refl, sym, ap, ◌∙◌}
 use Rattle.lay_code.specs.nodes.Layers.{ExprNode}
 use Rattle.lay_code.specs.declared.blocks.Stmt.TheOpen.{Expr-F}
 use Rattle.lay_code.specs.declared.blocks.Stmt.TheViews as views
 use Rattle.lay_code.specs.declared.exprs.Expr.{Expr}
 use Rattle.lay_code.specs.declared.exprs.Expr.TheVariants as expr
-use Rattle.lay_code.specs.declared.item.Item.{Item}
-use Rattle.lay_enclose.specs.Enclosed.{enclose_item, part, shell}
+use Rattle.lay_enclose.specs.Enclosed.{part, shell}
 use Rattle.lay_enclose.proofs.ShellLemmas.{shell_is}
 
 -- ---- equal trees
@@ -22,11 +21,6 @@ was_not so is by e = differ (sym so ∙ by.1 (is ∙ e))
   where
     differ : false ≡ true → ⊥
     differ q = cc
-
--- Where nothing gets parentheses, items become themselves.
-pub items_off : (xs : List Item) → map (enclose_item false) xs ≡ xs
-items_off [] = refl
-items_off (x ∷ xs) = ap (λ (more : List Item). x ∷ more) (items_off xs)
 
 -- ---- parts
 

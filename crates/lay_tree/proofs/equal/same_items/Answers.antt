@@ -1,4 +1,5 @@
-use Rattle.lay_tree.proofs.PartLemmas.{items_off, told}
+use Rattle.lay_enclose.proofs.ShellLemmas.{items_off}
+use Rattle.lay_tree.proofs.PartLemmas.{told}
 use Rattle.lay_tree.proofs.equal.same_items.Goals as goal
 
 pub returns : goal.returns
