@@ -66,6 +66,7 @@ fn token_of(alloc: Global, kind: Kind, piece: &str, at: usize) -> Result<Token, 
 }
 
 /// The text of a token of this piece.
+#[inline(always)]
 pub fn text_of_piece(kind: Kind, piece: &str) -> &[u8]
     ensures { result.now ≡ encode_utf8_all (text_of_piece kind (chars piece.now)) }
 {

@@ -58,6 +58,7 @@ pub fn piece_law()
 {}
 
 /// The kind of the piece at the front, and what follows it.
+#[inline(always)]
 #[tactic(auto, unfolding(crate::specs::Found::front_of))]
 fn front(index: bool, s: &str) -> Option<(Kind, &str)>
     ensures { Finds (front_of index (chars s.now)) result }
@@ -72,6 +73,7 @@ fn front(index: bool, s: &str) -> Option<(Kind, &str)>
     }
 }
 
+#[inline(always)]
 fn other(c: char, tail: &str) -> Option<(Kind, &str)>
     ensures { Finds (other c (chars tail.now)) result }
 {
@@ -86,6 +88,7 @@ fn other(c: char, tail: &str) -> Option<(Kind, &str)>
     }
 }
 
+#[inline(always)]
 fn single(c: char, tail: &str) -> Option<(Kind, &str)>
     ensures { Finds (single c (chars tail.now)) result }
 {

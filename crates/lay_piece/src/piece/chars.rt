@@ -99,7 +99,7 @@ impl CharSet {
 }
 
 /// Whether the character may begin a word. Most characters are ASCII, and need no table.
-#[inline]
+#[inline(always)]
 #[tactic(auto, unfolding(crate::specs::Chars::starts_word), using(crate::proofs::Ascii::ascii_starts))]
 fn is_word_start(c: char) -> bool
     ensures { result ≡ in_set CharSet.WordStart c }
@@ -112,7 +112,7 @@ fn is_word_start(c: char) -> bool
 }
 
 /// Whether a word may go on with the character.
-#[inline]
+#[inline(always)]
 #[tactic(auto, unfolding(crate::specs::Chars::in_word), using(crate::proofs::Ascii::ascii_in_word))]
 fn is_in_word(c: char) -> bool
     ensures { result ≡ in_set CharSet.Word c }

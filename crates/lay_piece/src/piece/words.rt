@@ -9,6 +9,7 @@ use crate::piece::quoted::{Contents, after_char, after_raw, after_string, begins
 use crate::word::is_path_word;
 
 /// A word behind its first character. Before a quote or a `#` it is the prefix of a literal, or no token.
+#[inline(always)]
 pub fn word(c: char, tail: &str) -> Option<(Kind, &str)>
     ensures { Finds (word c (chars tail.now)) result }
 {
