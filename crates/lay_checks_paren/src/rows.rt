@@ -125,23 +125,28 @@ fn signs(alloc: Global, count: usize) -> Option<Expr> {
     Some(tree)
 }
 
-/// Why the signs get no parentheses.
-fn refusal(alloc: Global, count: usize) -> Option<ParenError> {
-    parenthesize(alloc, signs(alloc, count)?, FREE).err()
+/// Whether so many signs get their parentheses, or why they don't.
+fn answer(alloc: Global, count: usize) -> Option<Result<(), ParenError>> {
+    match parenthesize(alloc, signs(alloc, count)?, FREE) {
+        Ok(_) => Some(Ok(())),
+        Err(why) => Some(Err(why)),
+    }
 }
 
 #[test]
 fn the_depth_of_what_is_made(rt: HostRuntime) -> Result<(), Fail> {
     let alloc = rt.alloc();
-    assert!(rt; matches!(refusal(alloc, 128), None));
-    assert!(rt; matches!(refusal(alloc, 129), Some(ParenError::TooDeep)));
+    assert!(rt; matches!(answer(alloc, 128), Some(Ok(()))));
+    assert!(rt; matches!(answer(alloc, 129), Some(Err(ParenError::TooDeep))));
     Ok(())
 }
 
 #[test]
 fn the_depth_of_what_lacks_them(rt: HostRuntime) -> Result<(), Fail> {
     let alloc = rt.alloc();
-    assert!(rt; matches!(told(alloc, signs(alloc, 255)), Some(true)));
+    for count in [128, 129, 255] {
+        assert!(rt; matches!(told(alloc, signs(alloc, count)), Some(true)));
+    }
     assert!(rt; matches!(told(alloc, signs(alloc, 256)), Some(false)));
     Ok(())
 }

@@ -1,4 +1,5 @@
--- Trees in which each part stands in parentheses, save what is the whole of a statement, of an arm's body or of a closure's.
+-- Trees in which each part stands in parentheses, save the whole of a statement and, as the body of an arm or of a closure, a block without
+-- a label.
 use Rattle.std.specs.Prelude.{Bool, if◌then◌else◌, true, false, map, None, option_map}
 use Rattle.lay_code.specs.nodes.Layers.{ArmNode, BlockNode, BranchNode, ConditionNode, ExprNode, FieldNode, ItemNode, KindNode, LinkNode, StepNode, StmtNode}
 use Rattle.lay_code.specs.declared.blocks.Arm.{Arm}

@@ -8,7 +8,7 @@ ghost use Rattle.lay_enclose.specs.Constant.{constant};
 ghost use Rattle.lay_enclose.specs.Enclosed.{part};
 
 use lay_code::{Expr, File};
-use lay_out_code::{put_enclosed, put_file};
+use lay_out_code::{put_enclosed_constant, put_file};
 use lay_stream::Emit;
 
 /// What is laid out as a file: a file itself, and an expression as the constant of it with each part in parentheses.
@@ -33,6 +33,6 @@ impl Laid for Expr {
     ghost file = { λ x. constant (part true x) };
 
     fn put<E: Emit>(&self, out: &mut E) -> Result<(), E::Fault> {
-        put_enclosed(out, self)
+        put_enclosed_constant(out, self)
     }
 }

@@ -25,12 +25,12 @@ unfoldable pub loose_about : Expr → ExprFacts
 loose_about = fold.fold-Expr StmtFacts LinkFacts ExprFacts Facts StepFacts KindFacts ArmFacts BlockFacts BranchFacts ConditionFacts ItemFacts stmt_facts link_facts shielded_facts field_facts step_facts kind_facts arm_facts block_facts branch_facts condition_facts item_facts
 
 -- The tree meets each rule but those of places and slots.
-abbrev pub is_loose : Expr → Bool
-is_loose x = (loose_about x).within false false
+abbrev pub meets_rules : Expr → Bool
+meets_rules x = (loose_about x).within false false
 
 -- Which trees may be given parentheses: those that meet each rule but those of places and slots, whose names, words and literals
 -- are pieces of their kinds, and which are no deeper than a file may be.
 pub record Loose (x : Expr) : Type 0 where
-  pub rules : IsTrue (is_loose x)
+  pub rules : IsTrue (meets_rules x)
   pub pieces : IsTrue (are_pieces (about_expr x).form)
   pub depth : least_depth (about_expr x).form ≤ 256

@@ -1,5 +1,5 @@
 //! What holds of places and slots.
-ghost use Rattle.std.specs.Prelude.{◌≡◌, ◌≤◌, IsTrue};
+ghost use Rattle.std.specs.Prelude.{◌≤◌, IsTrue};
 ghost use Rattle.lay_code.specs.nodes.Exprs.{ExprFacts, expr_facts};
 ghost use Rattle.lay_code.specs.nodes.Places.{statement};
 ghost use Rattle.lay_code.specs.declared.blocks.Stmt.TheOpen.{Expr-F};

@@ -11,7 +11,7 @@ use Rattle.lay_code.specs.declared.exprs.Expr.{Expr}
 use Rattle.lay_code.proofs.nodes.ExprsLaws.{expr_paren_is}
 use Rattle.lay_enclose.specs.Constant.{constant}
 use Rattle.lay_enclose.specs.Enclosed.{enclosed, part}
-use Rattle.lay_loose.specs.Loose.{Loose, is_loose}
+use Rattle.lay_loose.specs.Loose.{Loose, meets_rules}
 use Rattle.lay_paren.proofs.PiecesFamily.{pieces_same}
 use Rattle.lay_loose_laws.proofs.ConstantLemmas.{constant_depth, constant_written}
 use Rattle.lay_loose_laws.proofs.DepthFamily.{enclosed_deep}
@@ -19,7 +19,7 @@ use Rattle.lay_loose_laws.proofs.DepthParts.{paren_depth}
 use Rattle.lay_loose_laws.proofs.Family.{expr_good}
 use Rattle.lay_loose_laws.proofs.PartLemmas.{free_placed, part_erased}
 
-pub rules : (x : Expr) → is_loose x ≡ placed (about_expr (part true x)) FREE
+pub rules : (x : Expr) → meets_rules x ≡ placed (about_expr (part true x)) FREE
 rules x =
     sym (ap (λ (F : ExprFacts). placed F FREE) (expr_paren_is (enclosed x)) ∙ free_placed (about_expr (enclosed x)) ∙ (expr_good x).within false)
 

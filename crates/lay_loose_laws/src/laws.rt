@@ -10,13 +10,13 @@ ghost use Rattle.lay_code.specs.nodes.Places.{FREE};
 ghost use Rattle.lay_code.specs.declared.exprs.Expr.{Expr};
 ghost use Rattle.lay_enclose.specs.Constant.{constant};
 ghost use Rattle.lay_enclose.specs.Enclosed.{part};
-ghost use Rattle.lay_loose.specs.Loose.{Loose, is_loose};
+ghost use Rattle.lay_loose.specs.Loose.{Loose, meets_rules};
 
 /// A tree meets each rule but those of places and slots exactly where the tree with each part in parentheses stands where anything may
 /// stand, and its tokens are pieces exactly where that tree's are. So it is loose exactly where a constant of which that tree is the
 /// value can be written, if it is no deeper than files may be. That constant is at most twice as deep, and two levels more.
 pub fn enclosed_law()
-    ensures rules { (x : Expr) → is_loose x ≡ placed (about_expr (part true x)) FREE }
+    ensures rules { (x : Expr) → meets_rules x ≡ placed (about_expr (part true x)) FREE }
     ensures pieces { (x : Expr)
         → are_pieces (about_expr (part true x)).form ≡ are_pieces (about_expr x).form }
     ensures written { (x : Expr) → Loose x

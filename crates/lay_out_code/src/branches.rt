@@ -1,6 +1,5 @@
 //! Branches and arms.
 ghost use Rattle.std.specs.Prelude.{Bool, [], ◌∷◌, ◌++◌, map, option_map, codes};
-ghost use Rattle.lay_layout.specs.declared.layout.Tok.TheVariants as tok;
 ghost use Rattle.lay_stream.specs.Fed.{Did};
 ghost use Rattle.lay_form.specs.Form.{Blank};
 ghost use Rattle.lay_form.specs.Notation.{H, body, each};
@@ -17,7 +16,7 @@ ghost use Rattle.lay_out_code.specs.Parts.{arm_told, branch_told, head_end};
 
 use crate::blocks::add_soft;
 use crate::conditions::add_condition;
-use crate::exprs::{add_body, add_expr};
+use crate::exprs::{add_body_part, add_expr};
 use crate::items::add_inner_attrs;
 use lay_code::{Arm, Attr, Block, Boxed, Branch, Expr};
 use lay_enclose::{AsIs, Enclose};
@@ -153,7 +152,7 @@ fn add_arm<E: Emit, X: Enclose>(
     let never = add_break(out, arrow, NEVER_BREAK);
     let braces = arm_body_braces::<X>(arm.body.get());
     let opened = open_arm(out, never, braces);
-    let inner = add_body::<E, X>(out, opened, arm.body.get());
+    let inner = add_body_part::<E, X>(out, opened, arm.body.get());
     close_arm(out, inner, braces)
 }
 

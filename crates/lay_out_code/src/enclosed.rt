@@ -19,7 +19,7 @@ use lay_stream::Emit;
 
 /// Feeds the layout of the file of one constant, `const _: () = (..);`, whose value is an expression in which each part
 /// stands in parentheses. It takes no memory: the tree with the parentheses is never made.
-pub fn put_enclosed<E: Emit>(out: &mut E, expr: &Expr) -> Result<(), E::Fault>
+pub fn put_enclosed_constant<E: Emit>(out: &mut E, expr: &Expr) -> Result<(), E::Fault>
     ensures { Did E.meanings out.old (stream (layout_of_file (constant (part true expr.now))))
         result out.new }
 {

@@ -58,7 +58,7 @@ pub fn add_expr<E: Emit, X: Enclose>(
 
 /// The body of an arm or of a closure, which is a part, unless it gets no parentheses.
 #[cycle(code)]
-pub fn add_body<E: Emit, X: Enclose>(
+pub fn add_body_part<E: Emit, X: Enclose>(
     out: &mut E,
     before: Result<(), E::Fault>,
     body: &Expr,
@@ -338,7 +338,7 @@ fn add_closure_body<E: Emit, X: Enclose>(
 {
     let braces = closure_body_braces::<X>(body);
     let opened = open_closure(out, before, braces);
-    let inner = add_body::<E, X>(out, opened, body);
+    let inner = add_body_part::<E, X>(out, opened, body);
     close_closure(out, inner, braces)
 }
 

@@ -1,5 +1,5 @@
 -- What each node becomes, by its kind, and an expression by what fits.
-use Rattle.std.proofs.Common.{◌≡◌, ℕ, ◌<◌, ◌≤◌, Bool, true, false, ◌&&◌, if◌then◌else◌, List, [], ◌∷◌, map, Option, Some, None, is_some, option_map, refl, sym, ap, ap₂, subst, ◌∙◌, arith}
+use Rattle.std.proofs.Common.{◌≡◌, ℕ, ◌<◌, ◌≤◌, Bool, true, false, ◌&&◌, if◌then◌else◌, List, [], ◌∷◌, map, Option, Some, None, is_some, refl, sym, ap, ap₂, subst, ◌∙◌, arith}
 use Rattle.lay_node.specs.declared.patterns.Pat.{Pat}
 use Rattle.lay_node.specs.declared.attr.Attr.{Attr}
 use Rattle.lay_node.specs.declared.tokens.MacroCall.{MacroCall}
@@ -47,7 +47,7 @@ use Rattle.lay_form.specs.Depth.{least_depth}
 use Rattle.lay_depth_nodes.specs.Depths.{counted}
 use Rattle.lay_paren.specs.Made.{Made, all}
 use Rattle.lay_paren.specs.Nodes.{arm_parts, expr_parts, field_parts, kind_parts, link_parts, step_parts, stmt_parts, made_arm, made_block, made_branch, made_condition, made_field, made_item, made_kind, made_link, made_step, made_stmt}
-use Rattle.lay_paren.specs.Parts.{Linked, Placed, arm_made, field_made, kind_made, link_made, step_made, stmt_made, base_place, base_slot, break_slot, condition_links, expr_made, free_made, level_by, links_made, may_at, operand_at, operands_made, targets_made}
+use Rattle.lay_paren.specs.Parts.{Linked, Placed, arm_made, field_made, kind_made, link_made, step_made, stmt_made, base_place, base_slot, break_slot, condition_links, expr_made, free_made, level_by, links_made, operand_at, operands_made, targets_made}
 use Rattle.lay_code.proofs.nodes.ItemLaws as laws
 use Rattle.lay_paren.proofs.MadeFolds as made
 
@@ -252,11 +252,6 @@ unfolding item_least kind_least
 item_becomes x =
     ap (λ (z : Item). (made_item z).result) (sym (views.roll-out-Item x))
     ∙ ap (λ (m : Made Item). m.result) (made.item_parts_is (views.out-Item x))
-
-guard_is : (x : Option Expr) → (may_at FREE Any (option_map made_of x)).result ≡ operand_least FREE Any x
-unfolding least_in
-guard_is None = refl
-guard_is (Some x) = refl
 
 abbrev arm_in : Arm → Arm
 arm_in x = record { attrs = x.attrs; pat = x.pat; guard = operand_least FREE Any x.guard; body = least_in x.body statement Any }

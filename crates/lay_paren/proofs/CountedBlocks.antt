@@ -3,7 +3,6 @@ use Rattle.std.proofs.Common.{◌≡◌, Bool, true, false, if◌then◌else◌,
 use Rattle.lay_node.specs.declared.attr.Attr.{Attr}
 use Rattle.lay_node.specs.declared.patterns.Pat.{Pat}
 use Rattle.lay_node.specs.declared.vis.Vis.{Vis}
-use Rattle.lay_node.specs.nodes.Types.{is_there}
 use Rattle.lay_code.specs.nodes.Layers.{ArmNode, BlockNode, BranchNode, ConditionNode, FieldNode, ItemNode, KindNode, LinkNode, StepNode, StmtNode}
 use Rattle.lay_code.specs.nodes.Places.{FREE, link_place, plain, statement}
 use Rattle.lay_code.specs.declared.blocks.Arm.{Arm}
@@ -184,15 +183,6 @@ own_links xs = all (links_made (map owns.own_link xs))
 
 abbrev made_links : List Link → Made (List Link)
 made_links xs = all (links_made (map nodes.made_link xs))
-
--- There are as many links as before.
-there_made : (ys : List CountedLink) → is_there (map owns.own_link (made_links (link_trees ys)).result) ≡ is_there (map nodes.made_link (link_trees ys))
-there_made [] = refl
-there_made (y ∷ ys) = refl
-
-there_own : (ys : List CountedLink) → is_there (map owns.own_link (link_trees ys)) ≡ is_there (map nodes.made_link (link_trees ys))
-there_own [] = refl
-there_own (y ∷ ys) = refl
 
 links_counted : (ys : List CountedLink) → (own_links (link_trees ys)).cuts ≡ [] → own_links (made_links (link_trees ys)).result ≡ made_links (link_trees ys)
 links_counted [] h = refl

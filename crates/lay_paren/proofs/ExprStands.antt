@@ -23,7 +23,7 @@ use Rattle.lay_code.specs.declared.exprs.Step.{Step}
 use Rattle.lay_code.specs.declared.operators.Op.{Op}
 use Rattle.lay_code.proofs.nodes.ExprsLaws as laws
 use Rattle.lay_code.proofs.nodes.PlacesTable as table
-use Rattle.lay_loose.specs.Loose.{is_loose, loose_about, shielded_facts}
+use Rattle.lay_loose.specs.Loose.{meets_rules, loose_about, shielded_facts}
 use Rattle.lay_loose.specs.Slots.{Any, BeforeIndex, Optional, Prefixed, Slot, Unlabelled, slot_fits}
 use Rattle.lay_loose.proofs.SlotLemmas.{and_false}
 use Rattle.lay_paren.specs.Least.{least_made, made_of}
@@ -42,12 +42,12 @@ lowest = omega arith
 -- ---- parts
 
 -- What is within a shielded node stands or doesn't, wherever the node is.
-loose_within : (x : Expr) (no_struct first : Bool) → (loose_about x).within no_struct first ≡ is_loose x
+loose_within : (x : Expr) (no_struct first : Bool) → (loose_about x).within no_struct first ≡ meets_rules x
 loose_within x no_struct first =
-    subst (λ (z : Expr). (loose_about z).within no_struct first ≡ is_loose z) (views.roll-out-Expr x)
+    subst (λ (z : Expr). (loose_about z).within no_struct first ≡ meets_rules z) (views.roll-out-Expr x)
     (subst (λ (F : ExprFacts). F.within no_struct first ≡ F.within false false) (sym (expr_shielded_is (views.out-Expr x))) refl)
 
-inner : (x : Expr) (p : Place) → placed (loose_about x) p ≡ true → is_loose x ≡ true
+inner : (x : Expr) (p : Place) → placed (loose_about x) p ≡ true → meets_rules x ≡ true
 inner x p h =
     sym (loose_within x p.no_struct (begins p.start)) ∙ (and_parts (stands (loose_about x) p) ((loose_about x).within p.no_struct (begins p.start)) h).1
 

@@ -6,7 +6,7 @@ ghost use Rattle.lay_code.specs.nodes.Code.{about_expr};
 ghost use Rattle.lay_code.specs.nodes.Exprs.{placed};
 ghost use Rattle.lay_code.specs.declared.exprs.Expr.{Expr};
 ghost use Rattle.lay_code.specs.declared.exprs.Place.{Place};
-ghost use Rattle.lay_loose.specs.Loose.{is_loose};
+ghost use Rattle.lay_loose.specs.Loose.{meets_rules};
 ghost use Rattle.lay_paren.specs.Erased.{erase};
 ghost use Rattle.lay_paren.specs.Least.{cuts, least};
 ghost use Rattle.lay_paren.specs.LeftOut.{left_out};
@@ -15,7 +15,7 @@ ghost use Rattle.lay_paren.specs.LeftOut.{left_out};
 /// result is the tree without its own. Without any one of the pairs that were put in, it doesn't stand there; where the tree has no
 /// pair of its own these are all of the result's. And what stands there as it is gets none.
 pub fn parenthesize_law()
-    ensures stands { (x : Expr) (place : Place) → place.level ≤ 14 → IsTrue (is_loose x) → IsTrue (placed (about_expr (least x place)) place) }
+    ensures stands { (x : Expr) (place : Place) → place.level ≤ 14 → IsTrue (meets_rules x) → IsTrue (placed (about_expr (least x place)) place) }
     ensures pieces { (x : Expr) (place : Place) → are_pieces (about_expr (least x place)).form ≡ are_pieces (about_expr x).form }
     ensures erased { (x : Expr) (place : Place) → erase (least x place) ≡ erase x }
     ensures needed { (x : Expr) (place : Place) → IsTrue (list_all (λ (y : Expr). not (placed (about_expr y) place)) (cuts x place)) }

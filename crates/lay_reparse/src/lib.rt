@@ -43,15 +43,20 @@ ghost use Rattle.lay_text.specs.declared.refusal.Refusal.{Refusal};
 ghost use Rattle.lay_token.specs.declared.token.Token.{Token};
 ghost use Rattle.lay_form.specs.Depth.{least_depth};
 ghost use Rattle.lay_form.specs.Layout.{document};
+ghost use Rattle.lay_form.specs.Pieces.{are_pieces};
 ghost use Rattle.lay_node.specs.declared.token.Listed.{Listed};
 ghost use Rattle.lay_node.specs.tokens.Lexed.{IsTokenList, ReadsTokens, is_token_list};
 ghost use Rattle.lay_node.specs.tokens.Lists.{token_list};
+ghost use Rattle.lay_code.specs.nodes.Code.{about_expr};
+ghost use Rattle.lay_code.specs.nodes.Exprs.{placed};
 ghost use Rattle.lay_code.specs.nodes.File.{form_of_file};
 ghost use Rattle.lay_code.specs.Out.{layout_of_file, out};
 ghost use Rattle.lay_code.specs.Reading.{IsRefusedAt, Reads, ReadsAt, top};
 ghost use Rattle.lay_reparse.specs.Join.{Joinable, Joins};
-ghost use Rattle.lay_reparse.specs.Reparse.{IsSpelled};
+ghost use Rattle.lay_reparse.specs.Reparse.{IsSpelled, IsSpelledExpr};
 ghost use Rattle.lay_code.specs.Written.{Written};
+ghost use Rattle.lay_code.specs.declared.exprs.Expr.{Expr};
+ghost use Rattle.lay_code.specs.declared.exprs.Place.{Place};
 ghost use Rattle.lay_code.specs.declared.file.File.{File};
 
 /// Every text that the layout of a file that is written can give, whatever fits on a line, reads to the file again, at
@@ -59,12 +64,18 @@ ghost use Rattle.lay_code.specs.declared.file.File.{File};
 /// so at the depth of files, if the file is no deeper.
 /// So what bytes read to is laid out as a text that reads to it, and by [`unique_law`] to nothing else: laid out again,
 /// it is the same.
+///
+/// An expression that stands in a place, and whose tokens are pieces, is spelled at the least depth of its form, and so, by
+/// `form_law` of `lay_form`, at each greater one and at no lower one.
 pub fn reparse_law()
     ensures each_text { (file : File) (depth : ℕ) (text : List ℕ)
         → Written file → least_depth (form_of_file file) ≤ depth → Anyway (layout_of_file file) text
         → ReadsAt depth text file }
     ensures attained { (file : File) → Written file
         → IsSpelled file (least_depth (form_of_file file)) }
+    ensures expr_attained { (x : Expr) (place : Place) → IsTrue (placed (about_expr x) place)
+        → IsTrue (are_pieces (about_expr x).form)
+        → IsSpelledExpr x (least_depth (about_expr x).form) }
     ensures own_text { (file : File) → Written file → least_depth (form_of_file file) ≤ top
         → Reads (out file) file }
     ensures again { (bytes : List ℕ) (file : File) → Reads bytes file → Reads (out file) file }

@@ -68,13 +68,13 @@ pub exprs::add_expr-returns : goal.exprs::add_expr-returns
 exprs::add_expr-returns g t c =
     adds c.add_whole.ensures (bare_part g.X.Enclose.on c.args.point c.args.node.now (sym c.on.ensures ∙ c.if-on.false))
 
-pub exprs::add_body-returns-then-is_body_enclosed : goal.exprs::add_body-returns-then-is_body_enclosed
-exprs::add_body-returns-then-is_body_enclosed g t c =
+pub exprs::add_body_part-returns-then-is_body_enclosed : goal.exprs::add_body_part-returns-then-is_body_enclosed
+exprs::add_body_part-returns-then-is_body_enclosed g t c =
     adds c.add_expr.ensures
     (enclosed_body g.X.Enclose.on c.args.body.now (sym c.is_body_enclosed.ensures ∙ c.if-is_body_enclosed.true))
 
-pub exprs::add_body-returns : goal.exprs::add_body-returns
-exprs::add_body-returns g t c =
+pub exprs::add_body_part-returns : goal.exprs::add_body_part-returns
+exprs::add_body_part-returns g t c =
     adds c.add_whole.ensures
     (bare_body_told g.X.Enclose.on c.args.body.now (sym c.is_body_enclosed.ensures ∙ c.if-is_body_enclosed.false))
 
@@ -676,7 +676,7 @@ branches::add_arm-add_end-head-requires g t c =
 pub branches::add_arm-close_arm-requires : goal.branches::add_arm-close_arm-requires
 branches::add_arm-close_arm-requires g t c =
     let d = g.X.Enclose.on in
-    let put = rw c.get-2.ensures at c.add_body-inner.ensures in
+    let put = rw c.get-2.ensures at c.add_body_part-inner.ensures in
     may_close_arm (seen_as c.arm_body_braces-braces.result) (expr_told (body_part d c.args.arm.now.body))
     (adds_on c.open_arm-opened.ensures put)
 
@@ -684,7 +684,7 @@ pub branches::add_arm-returns : goal.branches::add_arm-returns
 branches::add_arm-returns g t c =
     let d = g.X.Enclose.on in
     let braces = rw c.get.ensures at c.arm_body_braces-braces.ensures in
-    let put = rw c.get-2.ensures at c.add_body-inner.ensures in
+    let put = rw c.get-2.ensures at c.add_body_part-inner.ensures in
     adds (adds_on c.add_attrs-attrs.ensures (adds_on c.add_group-group.ensures (adds_on c.add_pat-pat.ensures
     (adds_on c.add_guard-guard.ensures (adds_on c.add_end-head.ensures (adds_on c.add_text-arrow.ensures
     (adds_on c.add_break-never.ensures (adds_on c.open_arm-opened.ensures (adds_on put c.close_arm.ensures)))))))))
@@ -768,12 +768,12 @@ pub exprs::add_closure_body-close_closure-requires : goal.exprs::add_closure_bod
 exprs::add_closure_body-close_closure-requires g t c =
     let d = g.X.Enclose.on in
     branches.may_close_closure (seen_as c.closure_body_braces-braces.result) (expr_told (body_part d c.args.body.now))
-    (adds_on c.open_closure-opened.ensures c.add_body-inner.ensures)
+    (adds_on c.open_closure-opened.ensures c.add_body_part-inner.ensures)
 
 pub exprs::add_closure_body-returns : goal.exprs::add_closure_body-returns
 exprs::add_closure_body-returns g t c =
     let d = g.X.Enclose.on in
-    adds (adds_on c.open_closure-opened.ensures (adds_on c.add_body-inner.ensures c.close_closure.ensures))
+    adds (adds_on c.open_closure-opened.ensures (adds_on c.add_body_part-inner.ensures c.close_closure.ensures))
     (branches.closure_parts (body_part d c.args.body.now) _ c.closure_body_braces-braces.ensures)
 
 pub exprs::add_whole-returns-in-Closure : goal.exprs::add_whole-returns-in-Closure

@@ -17,9 +17,11 @@ use Rattle.lay_text.specs.declared.refusal.Refusal.TheVariants.{NotUtf8}
 use Rattle.lay_piece.proofs.Complete.{behind_true}
 use Rattle.lay_piece.proofs.Fronts.{front-append, after-append}
 use Rattle.lay_form.specs.Form.{Hard}
-use Rattle.lay_form.specs.Layout.{laid_out, break_of}
+use Rattle.lay_form.specs.Layout.{document, laid_out, break_of}
 use Rattle.lay_node.proofs.Scalars.{text_utf8, scalars_append}
 use Rattle.lay_code.specs.Out.{behind_shebang, layout_of_file, out}
+use Rattle.lay_code.specs.nodes.Code.{about_expr}
+use Rattle.lay_code.specs.nodes.Exprs.{placed}
 use Rattle.lay_code.specs.nodes.File.{form_of_file}
 use Rattle.lay_form.specs.Pieces.{are_pieces}
 use Rattle.lay_form.specs.Depth.{least_depth}
@@ -27,15 +29,19 @@ use Rattle.lay_form.specs.Spelled.{Spells}
 use Rattle.lay_code.specs.Reading.{top, Reads, ReadsAt}
 use Rattle.lay_code.specs.Written.{Written, is_good_shebang}
 use Rattle.lay_form.proofs.FormLaws.{least}
+use Rattle.lay_code.specs.declared.exprs.Expr.{Expr}
+use Rattle.lay_code.specs.declared.exprs.Place.{Place}
 use Rattle.lay_code.specs.declared.file.File.{File}
 use Rattle.lay_layout.specs.Anyway.{Leads, Anyway}
-use Rattle.lay_reparse.specs.Reparse.{IsSpelled}
+use Rattle.lay_reparse.specs.Reparse.{IsSpelled, IsSpelledExpr}
 use Rattle.lay_layout.proofs.AnywayLaws.{text_anyway}
 use Rattle.lay_reparse.proofs.texts.Characters.{is_clean, clean_scalars, clean_folded}
 use Rattle.lay_reparse.proofs.forms.Opened.{even}
 use Rattle.lay_reparse.proofs.forms.Passes.{Passes, plain}
 use Rattle.lay_reparse.proofs.forms.Sound.{Laid, reparse}
 use Rattle.lay_reparse.proofs.forms.Balance.{balanced}
+use Rattle.lay_reparse.proofs.file.Code.{expr_passes_at}
+use Rattle.lay_reparse.proofs.file.ExprParts.{begins_plain, ends_expr}
 use Rattle.lay_reparse.proofs.file.Items.{file_passes}
 use Rattle.lay_reparse.proofs.file.Singles.{parts_single}
 use Rattle.lay_reparse.proofs.file.FirstItems.{file_fair}
@@ -252,6 +258,16 @@ pub attained : (file : File) → Written file → IsSpelled file (least_depth (f
 attained file w =
     let r = reparse_at file (least_depth (form_of_file file)) (out file) w (omega arith) (text_anyway (layout_of_file file)) in
     (r.tokens, r.spells.1)
+
+-- An expression is spelled at the least depth of its form too, where a place is told in which it stands.
+pub expr_attained : (x : Expr) (place : Place) → placed (about_expr x) place ≡ true → are_pieces (about_expr x).form ≡ true
+    → IsSpelledExpr x (least_depth (about_expr x).form)
+expr_attained x place stands pieces =
+    let form = (about_expr x).form in
+    let l = text_anyway (document form) in
+    let passes = (expr_passes_at plain begins_plain place x stands pieces).go false in
+    let read = reparse form ends_expr (least_depth form) passes refl (omega arith) outside start l.0 l.1 in
+    (tokens_from 0 read.parts, read.spells 0)
 
 -- The text that is laid out is one of them.
 pub out_reads : (file : File) → Written file → least_depth (form_of_file file) ≤ top → Reads (out file) file

@@ -5,7 +5,7 @@ use Rattle.lay_code.specs.nodes.Code.{about_expr}
 use Rattle.lay_code.specs.nodes.Exprs.{placed}
 use Rattle.lay_code.specs.declared.exprs.Expr.{Expr}
 use Rattle.lay_code.specs.declared.exprs.Place.{Place}
-use Rattle.lay_loose.specs.Loose.{is_loose}
+use Rattle.lay_loose.specs.Loose.{meets_rules}
 use Rattle.lay_loose.specs.Slots.{Any}
 use Rattle.lay_paren.specs.Made.{Made}
 use Rattle.lay_paren.specs.Least.{cuts, least}
@@ -15,7 +15,7 @@ use Rattle.lay_paren.proofs.Family.{expr_good}
 use Rattle.lay_paren.proofs.PiecesFamily.{pieces_same}
 use Rattle.lay_paren.proofs.laws.parenthesize_law.Goals as goal
 
-stands : (x : Expr) (p : Place) → p.level ≤ 14 → is_loose x ≡ true → placed (about_expr (least x p)) p ≡ true
+stands : (x : Expr) (p : Place) → p.level ≤ 14 → meets_rules x ≡ true → placed (about_expr (least x p)) p ≡ true
 stands x p low loose = in_place (about_expr (least x p)) p Any ((expr_good x).stands loose p Any low)
 
 -- Neither tree has other tokens than without parentheses.

@@ -4,7 +4,7 @@ use Rattle.lay_enclose.specs.Enclosed.{part}
 use Rattle.lay_stream.proofs.Calls.{last}
 use Rattle.lay_out_types.proofs.Adding.{adds_on}
 use Rattle.lay_out_code.proofs.EnclosedLemmas.{constant_file, may_end_constant}
-use Rattle.lay_out_code.proofs.enclosed.put_enclosed.Goals as goal
+use Rattle.lay_out_code.proofs.enclosed.put_enclosed_constant.Goals as goal
 
 pub add_end-head-requires : goal.add_end-head-requires
 add_end-head-requires g c =
