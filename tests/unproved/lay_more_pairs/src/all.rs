@@ -7,7 +7,7 @@ use std::alloc::Global;
 use std::process::Abort;
 
 /// Texts of leaves, of nodes with one part, of nodes whose part is the whole of a statement or of a body, and of nodes with two parts.
-const LEAVES: [&str; 5] = ["a", "1", "S{}", "'a:{}", "return"];
+const LEAVES: [&str; 6] = ["a", "1", "S{}", "'a:{}", "return", "{a}"];
 const ONES: [&str; 16] = [
     "-p", "p as T", "p..", "..p", "p.0", "p()", "return p", "break p", "S{..p}", "if p{}",
     "if let b=p&&a{}", "match a{_ if p=>a,}", "p=a", "a<<p<<a", "p<a", "{let b=p else{};}",

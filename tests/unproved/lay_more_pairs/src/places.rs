@@ -3,7 +3,7 @@ use crate::shapes::{boxed, expr, with_part};
 use lay_code::{Expr, Place, Start};
 use lay_files::{read_bytes, text_of};
 use lay_laws::is_written;
-use lay_ops::places::{FREE, STATEMENT, plain};
+use lay_ops::places::{FREE, STATEMENT};
 use lay_token::Text;
 use lay_tree::{File, ItemKind};
 use std::alloc::Global;
