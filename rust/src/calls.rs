@@ -1,12 +1,12 @@
-//! The calls of the crate: from a source to its text, and from a tree to its text.
+//! The calls of the crate: from a source to its text, from a tree to its text, and from an expression to the one with its parentheses.
 use crate::Error;
 use crate::generated::lay_files::{read_bytes, write_file};
 use crate::generated::lay_front::LIMIT;
 use crate::generated::lay_io::{Failed, Sink};
-use crate::generated::lay_laws::is_written;
+use crate::generated::{lay_laws, lay_paren};
 use crate::shims::Global;
 use crate::stack::with_stack;
-use crate::tree::File;
+use crate::tree::{Expr, File, Place};
 use alloc::string::String;
 use alloc::vec::Vec;
 
@@ -21,7 +21,7 @@ pub fn format_bytes(source: &[u8]) -> Result<Vec<u8>, Error> {
     if usize::BITS < 64 && source.len() > LIMIT {
         return Err(Error::TOO_LONG);
     }
-    with_stack(&|| text_of(&read_bytes(Global, source)?)).ok_or(Error::NO_MEMORY)?
+    with_stack(|| text_of(&read_bytes(Global, source)?)).ok_or(Error::NO_MEMORY)?
 }
 
 /// Whether a source is its own laid-out text.
@@ -36,11 +36,70 @@ pub fn check(source: impl AsRef<[u8]>) -> Result<bool, Error> {
 /// A tree is counted before it is looked at, which takes stack for each of its levels, as dropping it does: some ten thousand levels are
 /// too many for both.
 pub fn unparse(file: &File) -> Result<String, Error> {
-    with_stack(&|| match is_written(Global, file)? {
+    with_stack(|| match lay_laws::is_written(Global, file)? {
         true => Ok(string(text_of(file)?)),
         false => Err(Error::NOT_WRITTEN),
     })
     .ok_or(Error::NO_MEMORY)?
+}
+
+/// Whether the expression lacks nothing but parentheses. What [`parenthesize`] makes of such a tree can be written in its place, unless it is too
+/// deep. One with a keyword for a name has another fault, and so has one deeper than files may be.
+///
+/// A tree is counted before it is looked at, as by [`unparse`].
+pub fn is_loose(expr: &Expr) -> Result<bool, Error> {
+    with_stack(|| Ok(lay_laws::is_loose(Global, expr)?)).ok_or(Error::NO_MEMORY)?
+}
+
+/// The expression with parentheses where it lacks them in this place, and nowhere else; those that it has stay. Where it is deeper with them
+/// than files may be, the cause is [`Cause::NotWritten`](crate::Cause::NotWritten). What is refused is gone.
+///
+/// The place of the value of a constant and of an argument is [`FREE`](crate::tree::FREE); that of a whole statement and of the body of an arm
+/// is [`STATEMENT`](crate::tree::STATEMENT). Which place each part of an expression has follows from the place of the whole, so the body of
+/// a function is handed in at once, as an [`Expr::Block`] in `FREE`, which [`Expr::into_block`] opens again.
+///
+/// ```
+/// use froesaffron::tree::*;
+/// use froesaffron::{is_loose, parenthesize, unparse};
+///
+/// fn one<T>(item: T) -> Result<List<T>, NoMemory> {
+///     let mut list = List::new(Global);
+///     list.push(item).map_err(|_| NoMemory)?;
+///     Ok(list)
+/// }
+///
+/// fn path(name: &str) -> Result<Path, NoMemory> {
+///     let word = Word { raw: false, text: Text::from_bytes(Global, name.as_bytes())? };
+///     Ok(Path { start: PathStart::Local, segments: one((word, Args::None))? })
+/// }
+///
+/// fn variable(name: &str) -> Result<Expr, NoMemory> {
+///     Ok(Expr::Path { path: path(name)? })
+/// }
+///
+/// fn binary(first: Expr, op: Op, second: Expr) -> Result<Expr, NoMemory> {
+///     Ok(Expr::Chain { first: Boxed::new(Global, first)?, rest: one((op, Boxed::new(Global, second)?))? })
+/// }
+///
+/// fn constant(name: &str, ty: &str, value: Expr) -> Result<File, NoMemory> {
+///     let name = GivenName::Name(Name { raw: false, text: Text::from_bytes(Global, name.as_bytes())? });
+///     let head = ValueHead::Const { name, ty: Ty::Path { path: path(ty)? } };
+///     let kind = Boxed::new(Global, ItemKind::Value { head, value: Some(Boxed::new(Global, value)?) })?;
+///     let item = Item { attrs: List::new(Global), vis: Vis::Inherited, kind };
+///     Ok(File { shebang: None, attrs: List::new(Global), items: one(item)? })
+/// }
+///
+/// let sum = binary(variable("a")?, Op::Add, variable("b")?)?;
+/// let product = binary(sum, Op::Mul, variable("c")?)?;
+/// assert!(is_loose(&product)?);
+/// let file = constant("AREA", "u64", parenthesize(product, FREE)?)?;
+/// assert_eq!(unparse(&file)?, "const AREA: u64 = (a + b) * c;\n");
+/// # Ok::<(), Box<dyn std::error::Error>>(())
+/// ```
+///
+/// A tree is walked down before it is counted: some ten thousand levels are too many, as they are for [`unparse`].
+pub fn parenthesize(expr: Expr, place: Place) -> Result<Expr, Error> {
+    with_stack(|| Ok(lay_paren::parenthesize(Global, expr, place)?)).ok_or(Error::NO_MEMORY)?
 }
 
 fn text_of(file: &File) -> Result<Vec<u8>, Error> {

@@ -1,9 +1,10 @@
-//! Why there is no text.
+//! Why a call has no answer.
 use crate::generated::lay_files::FileError;
+use crate::generated::lay_paren::ParenError;
 use crate::generated::lay_text::{NoMemory, Refusal};
 use core::fmt;
 
-/// Why there is no text.
+/// Why a call has no answer.
 #[derive(Clone, Copy, Debug, PartialEq, Eq, Hash)]
 #[non_exhaustive]
 pub enum Cause {
@@ -15,7 +16,8 @@ pub enum Cause {
     Unbalanced,
     /// No item that is accepted begins at the place.
     NoItem,
-    /// The tree is one that no source reads to, as one with a keyword for a name. It has no place.
+    /// The tree is one that no source reads to, as one with a keyword for a name, or it is deeper than files may be, by itself or with the
+    /// parentheses that it gets. It has no place.
     NotWritten,
     /// The source has more than 16 MiB, on a system with less than 64 bits. It has no place.
     TooLong,
@@ -23,7 +25,7 @@ pub enum Cause {
     NoMemory,
 }
 
-/// Why there is no text, and at which place of the source.
+/// Why a call has no answer, and at which place of the source.
 #[derive(Clone, Copy, Debug, PartialEq, Eq, Hash)]
 pub struct Error {
     cause: Cause,
@@ -99,6 +101,15 @@ impl core::error::Error for NoMemory {}
 impl From<NoMemory> for Error {
     fn from(_: NoMemory) -> Error {
         Error::NO_MEMORY
+    }
+}
+
+impl From<ParenError> for Error {
+    fn from(error: ParenError) -> Error {
+        match error {
+            ParenError::TooDeep => Error::NOT_WRITTEN,
+            ParenError::NoMemory => Error::NO_MEMORY,
+        }
     }
 }
 

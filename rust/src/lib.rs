@@ -21,7 +21,7 @@
 //! ```
 //!
 //! A generator that writes no text builds a file by the calls of [`build`], or puts a tree together of the types of [`tree`], and prints it
-//! with [`unparse`].
+//! with [`unparse`]. [`parenthesize`] gives an expression of such a tree the parentheses that it lacks.
 //!
 //! # What is trusted
 //!
@@ -33,7 +33,8 @@
 //!
 //! With the feature `std`, which is on by default, each call runs on a thread of its own with 16 MiB of stack, so a caller's thread may
 //! have as little as it likes. Without it a call takes the caller's stack. Of the kinds of nesting that were measured, each at its deepest, the
-//! greatest takes 0.6 MiB where the crate is optimised, and 2.7 where it isn't: more than the 2 MiB of a thread that Rust makes.
+//! greatest takes 0.6 MiB where the crate is optimised, and 2.7 where it isn't (in [`is_loose`] 0.8 and 2.9): more than the 2 MiB of a thread
+//! that Rust makes.
 //!
 //! # Speed
 //!
@@ -56,7 +57,7 @@ mod shims;
 mod stack;
 pub mod tree;
 
-pub use calls::{check, format, format_bytes, unparse};
+pub use calls::{check, format, format_bytes, is_loose, parenthesize, unparse};
 pub use error::{Cause, Error};
 
 /// What the command is made of. It isn't part of what a version of the crate promises.

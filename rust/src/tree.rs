@@ -24,9 +24,13 @@
 //! # Ok::<(), NoMemory>(())
 //! ```
 //!
+//! An expression lacks parentheses where its parts don't fit their places: [`parenthesize`](crate::parenthesize) puts them in.
+//!
 //! Texts, lists and boxes answer want of memory instead of ending the program, and so each call that may take memory is told where from:
 //! [`Global`] is the one place.
+pub use crate::generated::lay_ops::places::{FREE, STATEMENT};
 pub use crate::generated::lay_text::{List, NoMemory, Text};
+pub use crate::generated::lay_token::{Delim, Kind};
 pub use crate::generated::lay_tree::{
     Abi, Alias, Arg, Args, Arm, Attr, Binder, Block, Bound, Boxed, Branch, Capture, ClosureParam,
     Condition, ConstArg, ConstDefault, Constraint, Enum, Expr, ExternCrate, Field, FieldExpr,

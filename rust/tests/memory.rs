@@ -2,10 +2,13 @@
 //! asks for that thread's memory in ways that aren't refused, so this is of the crate without the feature `std`.
 #![cfg(not(feature = "std"))]
 mod refusing;
+mod trees;
 
 use froesaffron::build::*;
-use froesaffron::{Cause, Error, format, unparse};
+use froesaffron::tree::FREE;
+use froesaffron::{Cause, Error, format, is_loose, parenthesize, unparse};
 use refusing::with_refusal;
+use trees::{TREES, constant};
 
 const SOURCE: &str = "//! A file.\nuse a::{b, c};\nimpl<T: Clone> A<T> where T: B { fn f(&self, c: [u8; 2]) -> Option<Vec<u8>> { \
     let d = match c { [a, b] if a > b => vec![a; 3], _ => { return None; } }; Some(d.iter().map(|x| x + 1).collect()) } }";
@@ -29,6 +32,19 @@ fn each_refused_request_is_an_error() {
     assert!(requests > 50);
     let empty = File { shebang: None, attrs: List::new(Global), items: List::new(Global) };
     assert_eq!(each_refused(|| unparse(&empty)).1, "");
+}
+
+#[test]
+fn each_refused_request_of_a_call_over_an_expression_is_an_error() {
+    for (tree, text) in TREES {
+        let (of_tree, lacking) = each_refused(|| Ok(tree()?));
+        let (requests, loose) = each_refused(|| is_loose(&lacking));
+        assert!(loose && requests > 10);
+        let (of_both, made) = each_refused(|| parenthesize(tree()?, FREE));
+        // Each pair that is put in asks once.
+        assert_eq!(of_both - of_tree, text.matches('(').count());
+        assert_eq!(unparse(&constant(made).unwrap()), Ok(format!("const A: T = {text};\n")));
+    }
 }
 
 /// A list of an item.

@@ -51,8 +51,8 @@ def translate(source):
     """What the translator says of a repository of one crate, and what it makes of that."""
     with tempfile.TemporaryDirectory() as top:
         with open(os.path.join(top, 'crates.txt'), 'w', encoding='utf-8') as file:
-            file.write('lay_front: regex smallvec\nlay_laws: lay_front\nlay_build: lay_front\n')
-        for crate in ('lay_front', 'lay_laws', 'lay_build'):
+            file.write('lay_front: regex smallvec\nlay_laws: lay_front\nlay_paren: lay_front\nlay_build: lay_front\n')
+        for crate in ('lay_front', 'lay_laws', 'lay_paren', 'lay_build'):
             os.makedirs(os.path.join(top, 'crates', crate, 'src'))
             with open(os.path.join(top, 'crates', crate, 'src', 'lib.rt'), 'w', encoding='utf-8') as file:
                 file.write(source if crate == 'lay_front' else KNOWN)

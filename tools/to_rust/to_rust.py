@@ -14,7 +14,7 @@ import sys
 from dataclasses import dataclass, replace
 
 # The crates whose calls the cargo crate offers. All crates below them become modules.
-ROOTS = ['lay_front', 'lay_laws', 'lay_build']
+ROOTS = ['lay_front', 'lay_laws', 'lay_paren', 'lay_build']
 # Crates that hold nothing that runs.
 LAWS = {'lay_form', 'lay_loose', 'lay_loose_laws', 'lay_reparse', 'lay_units'}
 # Modules that aren't taken over: what reaches the system, which the cargo crate does by its own standard library, and what only tests use.

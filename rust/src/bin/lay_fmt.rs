@@ -12,7 +12,7 @@ const NO_MEMORY: u8 = 7;
 const NO_TEXTS: u8 = 8;
 
 fn main() -> ExitCode {
-    ExitCode::from(with_stack(&program).unwrap_or(NO_MEMORY))
+    ExitCode::from(with_stack(program).unwrap_or(NO_MEMORY))
 }
 
 /// Runs the command with the program's words, and answers the exit status.

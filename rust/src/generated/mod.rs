@@ -30,6 +30,7 @@ pub mod lay_out_heads;
 pub mod lay_out_pats;
 pub mod lay_out_tokens;
 pub mod lay_out_types;
+pub mod lay_paren;
 pub mod lay_piece;
 pub mod lay_pieces;
 pub mod lay_printer;

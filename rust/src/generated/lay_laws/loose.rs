@@ -7,8 +7,8 @@ use crate::generated::lay_token::NoMemory;
 use crate::generated::lay_tree::{Expr, same_enclosed};
 use crate::shims::Global;
 /// Whether the expression lacks nothing but parentheses: it meets every rule but those of places and slots, each name, word and
-/// literal is a piece of its kind, and it is no deeper than files may be. So `parenthesize` of `lay_paren` makes of it a tree that
-/// can be written.
+/// literal is a piece of its kind, and it is no deeper than files may be. So `parenthesize` of `lay_paren` makes of it a tree
+/// that stands in its place, or tells that it is too deep with its parentheses.
 ///
 /// What can be asked of a text is whether it reads back, and the text of such a tree may read to another one. So the tree is
 /// laid out with each part in parentheses, as the value of a constant: then no place refuses a part, and the text reads back exactly

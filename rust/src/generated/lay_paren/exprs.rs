@@ -1,0 +1,260 @@
+//! Made by scripts/rust.sh from crates/lay_paren/src/exprs.rt, which is proved: change that.
+//!
+//! Expressions, and the fields and steps that they are made of.
+use crate::generated::lay_paren::blocks::{
+    place_arms,
+    place_block,
+    place_block_or_none,
+    place_branches,
+};
+use crate::generated::lay_paren::conditions::place_condition;
+use crate::generated::lay_paren::places::{
+    as_node,
+    base_place,
+    begins,
+    first_place,
+    is_index_first,
+    level_by,
+    operand_place,
+};
+use crate::generated::lay_paren::slots::{Slot, fits};
+use crate::generated::lay_code::{Boxed, Expr, FieldExpr, Lifetime, Op, Place, Step};
+use crate::generated::lay_ops::places::{FREE, before_op, plain};
+use crate::generated::lay_token::{List, NoMemory};
+use crate::shims::Global;
+use core::mem;
+/// Puts an expression into parentheses.
+pub(crate) fn enclose(alloc: Global, expr: &mut Expr) -> Result<(), NoMemory> {
+    let inner = mem::replace(expr, Expr::Underscore);
+    *expr = Expr::Paren { inner: Boxed::new(alloc, inner)? };
+    Ok(())
+}
+/// Gives an expression the parentheses that it lacks in its place and its slot. What it lacks itself is told before its parts
+/// are given theirs, since in parentheses they have other places, and nothing is ever taken out.
+pub(crate) fn place_expr(
+    alloc: Global,
+    expr: &mut Expr,
+    place: Place,
+    slot: Slot,
+) -> Result<(), NoMemory> {
+    if fits(expr, place, slot) {
+        return place_parts(alloc, expr, place);
+    }
+    place_parts(alloc, expr, FREE)?;
+    enclose(alloc, expr)
+}
+/// Gives the parts of an expression the parentheses that they lack, where it stands in this place.
+pub(crate) fn place_parts(
+    alloc: Global,
+    expr: &mut Expr,
+    place: Place,
+) -> Result<(), NoMemory> {
+    match expr {
+        Expr::Lit { .. } | Expr::Path { .. } | Expr::Underscore | Expr::Call { .. }
+        | Expr::Continue { .. } => Ok(()),
+        Expr::Paren { inner } => place_expr(alloc, inner.get_mut(), FREE, Slot::Any),
+        Expr::Tuple { elements } => place_exprs(alloc, elements),
+        Expr::Array { elements } => place_exprs(alloc, elements),
+        Expr::Repeat { element, .. } => {
+            place_expr(alloc, element.get_mut(), FREE, Slot::Any)
+        }
+        Expr::Struct { fields, base, .. } => {
+            place_fields(alloc, fields)?;
+            place_base(alloc, base)
+        }
+        Expr::Chain { first, rest } => {
+            let level = level_by(rest.as_slice());
+            let at = first_place(rest.as_slice(), place);
+            place_expr(alloc, first.get_mut(), at, Slot::Any)?;
+            place_operands(alloc, rest, level, place)
+        }
+        Expr::Cast { operand, .. } => {
+            let at = before_op(12, place.no_struct, begins(place.start), false);
+            place_expr(alloc, operand.get_mut(), at, Slot::Any)
+        }
+        Expr::Unary { operand, .. } => {
+            place_expr(alloc, operand.get_mut(), as_node(place, 12), Slot::Prefixed)
+        }
+        Expr::Range { start, end, .. } => {
+            let at = before_op(2, place.no_struct, begins(place.start), false);
+            place_operand(alloc, start, at, Slot::Any)?;
+            place_operand(alloc, end, as_node(place, 2), Slot::Optional)
+        }
+        Expr::Assign { targets, value } => {
+            place_targets(alloc, targets, place)?;
+            place_expr(alloc, value.get_mut(), as_node(place, 1), Slot::Any)
+        }
+        Expr::Postfix { base, steps } => {
+            place_steps(alloc, steps)?;
+            let at = base_place(steps.as_slice(), place);
+            let slot = base_slot(steps.as_slice());
+            place_expr(alloc, base.get_mut(), at, slot)
+        }
+        Expr::Block { body, .. } => place_block(alloc, body),
+        Expr::Unsafe { body } => place_block(alloc, body),
+        Expr::ConstBlock { body } => place_block(alloc, body),
+        Expr::Async { body, .. } => place_block(alloc, body),
+        Expr::Loop { body, .. } => place_block(alloc, body),
+        Expr::TypedClosure { body, .. } => place_block(alloc, body),
+        Expr::If { branches, otherwise } => {
+            place_branches(alloc, branches)?;
+            place_block_or_none(alloc, otherwise)
+        }
+        Expr::Match { scrutinee, arms, .. } => {
+            place_expr(alloc, scrutinee.get_mut(), plain(0, true), Slot::Any)?;
+            place_arms(alloc, arms)
+        }
+        Expr::While { condition, body, .. } => {
+            place_condition(alloc, condition)?;
+            place_block(alloc, body)
+        }
+        Expr::For { iterated, body, .. } => {
+            place_expr(alloc, iterated.get_mut(), plain(0, true), Slot::Any)?;
+            place_block(alloc, body)
+        }
+        Expr::Closure { body, .. } => {
+            place_expr(alloc, body.get_mut(), plain(0, place.no_struct), Slot::Any)
+        }
+        Expr::Return { operand } => {
+            place_operand(alloc, operand, plain(0, place.no_struct), Slot::Optional)
+        }
+        Expr::Break { label, operand } => {
+            let slot = break_slot(label);
+            place_operand(alloc, operand, plain(0, place.no_struct), slot)
+        }
+    }
+}
+/// The slot of what stands before these steps.
+fn base_slot(steps: &[Step]) -> Slot {
+    if is_index_first(steps) { Slot::BeforeIndex } else { Slot::Any }
+}
+/// The slot of the operand of a `break` with this label, or without one.
+fn break_slot(label: &Option<Lifetime>) -> Slot {
+    match label {
+        Some(_) => Slot::Optional,
+        None => Slot::Unlabelled,
+    }
+}
+/// Gives each of the expressions its parentheses, within delimiters.
+fn place_exprs(alloc: Global, exprs: &mut List<Expr>) -> Result<(), NoMemory> {
+    place_each_expr(alloc, exprs.as_mut_slice())
+}
+/// The same of each of these.
+fn place_each_expr(alloc: Global, exprs: &mut [Expr]) -> Result<(), NoMemory> {
+    for expr in exprs.iter_mut() {
+        place_expr(alloc, expr, FREE, Slot::Any)?;
+    }
+    Ok(())
+}
+/// The same of an operand that may be left out.
+pub(crate) fn place_operand(
+    alloc: Global,
+    operand: &mut Option<Boxed<Expr>>,
+    place: Place,
+    slot: Slot,
+) -> Result<(), NoMemory> {
+    match operand {
+        Some(operand) => place_expr(alloc, operand.get_mut(), place, slot),
+        None => Ok(()),
+    }
+}
+/// The same of the operands behind operators of this level.
+fn place_operands(
+    alloc: Global,
+    operands: &mut List<(Op, Boxed<Expr>)>,
+    level: u8,
+    place: Place,
+) -> Result<(), NoMemory> {
+    place_each_operand(alloc, operands.as_mut_slice(), level, place)
+}
+/// The same of each of these.
+fn place_each_operand(
+    alloc: Global,
+    operands: &mut [(Op, Boxed<Expr>)],
+    level: u8,
+    place: Place,
+) -> Result<(), NoMemory> {
+    let count = operands.len();
+    for index in 0..count {
+        let next = if index + 1 < count { Some(operands[index + 1].0) } else { None };
+        let at = operand_place(next, level, place);
+        let operand = &mut operands[index];
+        place_expr(alloc, operand.1.get_mut(), at, Slot::Any)?;
+    }
+    Ok(())
+}
+/// The same of the targets of an assignment.
+fn place_targets(
+    alloc: Global,
+    targets: &mut List<(Boxed<Expr>, Op)>,
+    place: Place,
+) -> Result<(), NoMemory> {
+    place_each_target(alloc, targets.as_mut_slice(), place)
+}
+/// The same of each of these.
+fn place_each_target(
+    alloc: Global,
+    targets: &mut [(Boxed<Expr>, Op)],
+    place: Place,
+) -> Result<(), NoMemory> {
+    let mut first = begins(place.start);
+    for (target, _) in targets.iter_mut() {
+        let at = before_op(1, place.no_struct, first, false);
+        place_expr(alloc, target.get_mut(), at, Slot::Any)?;
+        first = false;
+    }
+    Ok(())
+}
+/// The same of the fields of a struct literal.
+fn place_fields(alloc: Global, fields: &mut List<FieldExpr>) -> Result<(), NoMemory> {
+    place_each_field(alloc, fields.as_mut_slice())
+}
+/// The same of each of these.
+fn place_each_field(alloc: Global, fields: &mut [FieldExpr]) -> Result<(), NoMemory> {
+    for field in fields.iter_mut() {
+        place_field(alloc, field)?;
+    }
+    Ok(())
+}
+/// The same of a field of a struct literal.
+fn place_field(alloc: Global, field: &mut FieldExpr) -> Result<(), NoMemory> {
+    match field {
+        FieldExpr::Named { value, .. } => {
+            place_expr(alloc, value.get_mut(), FREE, Slot::Any)
+        }
+        FieldExpr::Numbered { value, .. } => {
+            place_expr(alloc, value.get_mut(), FREE, Slot::Any)
+        }
+        FieldExpr::Short { .. } => Ok(()),
+    }
+}
+/// The same of the base of a struct literal, if there is one.
+fn place_base(
+    alloc: Global,
+    base: &mut Option<Option<Boxed<Expr>>>,
+) -> Result<(), NoMemory> {
+    match base {
+        Some(Some(base)) => place_expr(alloc, base.get_mut(), FREE, Slot::Any),
+        _ => Ok(()),
+    }
+}
+/// The same of what stands in steps.
+fn place_steps(alloc: Global, steps: &mut List<Step>) -> Result<(), NoMemory> {
+    place_each_step(alloc, steps.as_mut_slice())
+}
+/// The same of each of these.
+fn place_each_step(alloc: Global, steps: &mut [Step]) -> Result<(), NoMemory> {
+    for step in steps.iter_mut() {
+        place_step(alloc, step)?;
+    }
+    Ok(())
+}
+/// The same of what stands in a step.
+fn place_step(alloc: Global, step: &mut Step) -> Result<(), NoMemory> {
+    match step {
+        Step::Field { .. } | Step::TupleIndex { .. } | Step::Try | Step::Await => Ok(()),
+        Step::Method { args, .. } => place_exprs(alloc, args),
+        Step::Apply { args } => place_exprs(alloc, args),
+        Step::Index { index } => place_expr(alloc, index.get_mut(), FREE, Slot::Any),
+    }
+}
