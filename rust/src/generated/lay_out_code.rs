@@ -4,7 +4,7 @@
 //!
 //! [`put_file`] appends exactly the stream of the layout that `lay_code` gives to a file, [`put_shebang`] that of its first
 //! line, and [`put_item`], [`put_block`], [`put_stmt`], [`put_arm`] and [`put_expr`] the streams of the forms of their
-//! nodes, or they stop where the `Emit` does. [`put_enclosed`] appends the stream of a file of one constant, whose value
+//! nodes, or they stop where the `Emit` does. [`put_enclosed_constant`] appends the stream of a file of one constant, whose value
 //! is an expression in which each part stands in parentheses.
 //!
 //! A function whose name begins with `add` is told how the calls before it came out, as in [`lay_out_heads`]. Expressions
@@ -24,7 +24,7 @@ mod macros;
 mod operands;
 pub use blocks::{put_block, put_stmt};
 pub use branches::put_arm;
-pub use enclosed::put_enclosed;
+pub use enclosed::put_enclosed_constant;
 pub use exprs::put_expr;
 pub use files::{put_file, put_shebang};
 pub use items::put_item;

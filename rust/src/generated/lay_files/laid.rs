@@ -2,7 +2,7 @@
 //!
 //! What is laid out as a file.
 use crate::generated::lay_code::{Expr, File};
-use crate::generated::lay_out_code::{put_enclosed, put_file};
+use crate::generated::lay_out_code::{put_enclosed_constant, put_file};
 use crate::generated::lay_stream::Emit;
 /// What is laid out as a file: a file itself, and an expression as the constant of it with each part in parentheses.
 pub(crate) trait Laid {
@@ -16,6 +16,6 @@ impl Laid for File {
 }
 impl Laid for Expr {
     fn put<E: Emit>(&self, out: &mut E) -> Result<(), E::Fault> {
-        put_enclosed(out, self)
+        put_enclosed_constant(out, self)
     }
 }

@@ -12,8 +12,8 @@ use crate::shims::Global;
 ///
 /// What can be asked of a text is whether it reads back, and the text of such a tree may read to another one. So the tree is
 /// laid out with each part in parentheses, as the value of a constant: then no place refuses a part, and the text reads back exactly
-/// where nothing else is amiss. This takes time and memory in proportion to that text. It is at most twice as deep as the tree, and
-/// so takes up to twice as many levels of the stack, of which those that are added are parentheses alone.
+/// where nothing else is amiss. This takes time and memory in proportion to that text, which may have two levels more than twice
+/// those of the tree, and stack for them; the levels that are added are the constant and parentheses.
 pub fn is_loose(alloc: Global, expr: &Expr) -> Result<bool, NoMemory> {
     let depth = expr_depth(expr);
     if depth > DEPTH {

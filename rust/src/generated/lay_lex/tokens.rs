@@ -48,6 +48,7 @@ fn token_of(
     Ok(Token { kind, text, joint: false, at, len: piece.len() })
 }
 /// The text of a token of this piece.
+#[inline(always)]
 pub fn text_of_piece(kind: Kind, piece: &str) -> &[u8] {
     match kind {
         Kind::RawIdent => behind_first(behind_first(piece)).as_bytes(),

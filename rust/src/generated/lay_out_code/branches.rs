@@ -3,7 +3,7 @@
 //! Branches and arms.
 use crate::generated::lay_out_code::blocks::add_soft;
 use crate::generated::lay_out_code::conditions::add_condition;
-use crate::generated::lay_out_code::exprs::{add_body, add_expr};
+use crate::generated::lay_out_code::exprs::{add_body_part, add_expr};
 use crate::generated::lay_out_code::items::add_inner_attrs;
 use crate::generated::lay_code::{Arm, Attr, Block, Boxed, Branch, Expr};
 use crate::generated::lay_enclose::{AsIs, Enclose};
@@ -109,7 +109,7 @@ fn add_arm<
     let never = add_break(out, arrow, NEVER_BREAK);
     let braces = arm_body_braces::<X>(arm.body.get());
     let opened = open_arm(out, never, braces);
-    let inner = add_body::<E, X>(out, opened, arm.body.get());
+    let inner = add_body_part::<E, X>(out, opened, arm.body.get());
     close_arm(out, inner, braces)
 }
 /// The guard of an arm, if it has one, behind its `if`.

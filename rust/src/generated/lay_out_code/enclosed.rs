@@ -13,7 +13,7 @@ use crate::generated::lay_out_types::lists::add_end;
 use crate::generated::lay_stream::Emit;
 /// Feeds the layout of the file of one constant, `const _: () = (..);`, whose value is an expression in which each part
 /// stands in parentheses. It takes no memory: the tree with the parentheses is never made.
-pub fn put_enclosed<E: Emit>(out: &mut E, expr: &Expr) -> Result<(), E::Fault> {
+pub fn put_enclosed_constant<E: Emit>(out: &mut E, expr: &Expr) -> Result<(), E::Fault> {
     let group = add_group(out, Ok(()));
     let word = add_text(out, group, b"const ");
     let name = add_text(out, word, b"_");

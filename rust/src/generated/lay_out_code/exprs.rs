@@ -75,7 +75,7 @@ pub fn add_expr<
     add_whole::<E, X>(out, before, point, node)
 }
 /// The body of an arm or of a closure, which is a part, unless it gets no parentheses.
-pub fn add_body<
+pub fn add_body_part<
     E: Emit,
     X: Enclose,
 >(out: &mut E, before: Result<(), E::Fault>, body: &Expr) -> Result<(), E::Fault> {
@@ -308,7 +308,7 @@ fn add_closure_body<
 >(out: &mut E, before: Result<(), E::Fault>, body: &Expr) -> Result<(), E::Fault> {
     let braces = closure_body_braces::<X>(body);
     let opened = open_closure(out, before, braces);
-    let inner = add_body::<E, X>(out, opened, body);
+    let inner = add_body_part::<E, X>(out, opened, body);
     close_closure(out, inner, braces)
 }
 /// The operand of a `return` or a `break` behind its blank, if there is one.

@@ -23,12 +23,14 @@ pub fn piece_at(rest: &str, index: bool) -> Option<Piece> {
     Some(Piece { kind, len: rest.len() - tail.len() })
 }
 /// The kind of the piece at the front, and what follows it.
+#[inline(always)]
 fn front(index: bool, s: &str) -> Option<(Kind, &str)> {
     let (c, tail) = first(s)?;
     if CharSet::WordStart.contains(c) {
         words::word(c, tail)
     } else if c.is_ascii_digit() { numbers::number(index, s) } else { other(c, tail) }
 }
+#[inline(always)]
 fn other(c: char, tail: &str) -> Option<(Kind, &str)> {
     match c {
         '"' => {
@@ -40,6 +42,7 @@ fn other(c: char, tail: &str) -> Option<(Kind, &str)> {
         _ => single(c, tail),
     }
 }
+#[inline(always)]
 fn single(c: char, tail: &str) -> Option<(Kind, &str)> {
     match c {
         '(' => Some((Kind::Opener(Delim::Paren), tail)),

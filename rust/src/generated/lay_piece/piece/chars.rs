@@ -80,14 +80,14 @@ impl CharSet {
     }
 }
 /// Whether the character may begin a word. Most characters are ASCII, and need no table.
-#[inline]
+#[inline(always)]
 fn is_word_start(c: char) -> bool {
     if c.is_ascii() { c.is_ascii_alphabetic() || c == '_' } else {
         crate::generated::identifiers::is_xid_start(c)
     }
 }
 /// Whether a word may go on with the character.
-#[inline]
+#[inline(always)]
 fn is_in_word(c: char) -> bool {
     if c.is_ascii() { c.is_ascii_alphabetic() || c.is_ascii_digit() || c == '_' } else {
         crate::generated::identifiers::is_xid_continue(c)

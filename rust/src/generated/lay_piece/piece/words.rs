@@ -13,6 +13,7 @@ use crate::generated::lay_piece::piece::quoted::{
 };
 use crate::generated::lay_piece::word::is_path_word;
 /// A word behind its first character. Before a quote or a `#` it is the prefix of a literal, or no token.
+#[inline(always)]
 pub fn word(c: char, tail: &str) -> Option<(Kind, &str)> {
     let rest = CharSet::Word.after(tail);
     if CharSet::Mark.begins(rest) {
