@@ -26,6 +26,7 @@ def formatted(command, data):
 
 
 TOKEN = re.compile(rb'''"(?:\\.|[^"\\])*"|'(?:\\[^']*|[^'\\])'|//(?![/!])[^\n]*|/\*(?![*!]).*?\*/|\w+|=>|[^\s\w]''', re.S)
+LINE_OF_DOCUMENTATION = re.compile(rb'^([ \t]*)//([/!])(?!/)(.*)$', re.M)
 
 
 def without_braces(tokens):
@@ -45,10 +46,18 @@ def without_braces(tokens):
     return out
 
 
+def as_attribute(line):
+    """Documentation of one line as the attribute that it is: rustc prints each as it was written."""
+    mark = b'#!' if line[2] == b'!' else b'#'
+    said = line[3].replace(b'\\', b'\\\\').replace(b'"', b'\\"')
+    return line[1] + mark + b'[doc = "' + said + b'"]'
+
+
 def representation(path):
     """What rustc makes of a file, token by token, and how many errors it names."""
     ran = subprocess.run([*RUSTC, '-Zunpretty=hir', path], capture_output=True, env={**os.environ, 'RUSTC_BOOTSTRAP': '1'})
-    tokens = [token for token in TOKEN.findall(ran.stdout) if not re.match(rb'//(?![/!])|/\*(?![*!])', token)]
+    printed = LINE_OF_DOCUMENTATION.sub(as_attribute, ran.stdout)
+    tokens = [token for token in TOKEN.findall(printed) if not re.match(rb'//(?![/!])|/\*(?![*!])', token)]
     return without_braces(tokens), len(re.findall(rb'^error', ran.stderr, flags=re.M))
 
 
