@@ -25,8 +25,8 @@ use Rattle.lay_code.specs.declared.blocks.Stmt.{Stmt}
 use Rattle.lay_code.specs.declared.blocks.Stmt.TheVariants as stmt
 use Rattle.lay_code.specs.declared.exprs.Expr.{Expr}
 use Rattle.lay_code.proofs.nodes.BlocksLaws as laws
-use Rattle.lay_depth_nodes.specs.Depths.{greatest, type_if}
-use Rattle.lay_depth_nodes.proofs.Forms.{both_are, leaf_is}
+use Rattle.lay_depth.specs.nodes.Depths.{greatest, type_if}
+use Rattle.lay_depth.proofs.nodes_lemmas.Forms.{both_are, leaf_is}
 use Rattle.lay_depth.proofs.BlockLemmas as depths
 use Rattle.lay_build_types.specs.Answers.{IsKept, IsMade, need_if}
 use Rattle.lay_build_types.specs.Kinds.{IsBlock, IsName, IsStmt, form_of_block, form_of_expr, form_of_name, form_of_stmt, form_of_type}

@@ -14,7 +14,7 @@ use Rattle.lay_code.specs.nodes.Code.{about_item}
 use Rattle.lay_code.specs.nodes.File.{form_of_file}
 use Rattle.lay_code.specs.declared.file.File.{File}
 use Rattle.lay_code.specs.declared.item.Item.{Item}
-use Rattle.lay_depth_nodes.specs.Depths.{greatest}
+use Rattle.lay_depth.specs.nodes.Depths.{greatest}
 use Rattle.lay_depth.proofs.ItemLemmas.{file_is}
 use Rattle.lay_build_types.specs.Answers.{IsKept}
 use Rattle.lay_build_types.specs.Kinds.{IsItem, form_of_item}

@@ -37,8 +37,8 @@ use Rattle.lay_code.specs.declared.item.Item.{Item}
 use Rattle.lay_code.specs.declared.item.ItemKind.{ItemKind}
 use Rattle.lay_code.specs.declared.item.ItemKind.TheVariants as item
 use Rattle.lay_code.proofs.nodes.ItemLaws as laws
-use Rattle.lay_depth_nodes.specs.Depths.{greatest, type_if}
-use Rattle.lay_depth_nodes.proofs.Forms.{fields_are, leaf_is, list_is}
+use Rattle.lay_depth.specs.nodes.Depths.{greatest, type_if}
+use Rattle.lay_depth.proofs.nodes_lemmas.Forms.{fields_are, leaf_is, list_is}
 use Rattle.lay_depth.proofs.ItemLemmas as depths
 use Rattle.lay_build_types.specs.Answers.{IsKept, IsMade, need_if}
 use Rattle.lay_build_types.specs.Kinds as kinds

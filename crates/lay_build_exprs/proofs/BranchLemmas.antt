@@ -33,8 +33,8 @@ use Rattle.lay_code.specs.declared.exprs.Expr.TheVariants as expr
 use Rattle.lay_code.proofs.nodes.BlocksLaws as blocks
 use Rattle.lay_code.proofs.nodes.ExprsLaws as laws
 use Rattle.lay_code.proofs.nodes.Layers.{expr_told}
-use Rattle.lay_depth_nodes.specs.Depths.{greatest}
-use Rattle.lay_depth_nodes.proofs.Forms.{leaf_is}
+use Rattle.lay_depth.specs.nodes.Depths.{greatest}
+use Rattle.lay_depth.proofs.nodes_lemmas.Forms.{leaf_is}
 use Rattle.lay_depth.specs.Parts.{block_if}
 use Rattle.lay_depth.proofs.BlockLemmas as block_depths
 use Rattle.lay_depth.proofs.ExprLemmas as depths

@@ -21,7 +21,7 @@ use Rattle.lay_code.specs.declared.operators.Op.{Op}
 use Rattle.lay_code.proofs.nodes.ExprsLaws as laws
 use Rattle.lay_code.proofs.nodes.ExprsLaws.{behind_op}
 use Rattle.lay_code.proofs.nodes.Layers.{expr_is, expr_told}
-use Rattle.lay_depth_nodes.specs.Depths.{greatest}
+use Rattle.lay_depth.specs.nodes.Depths.{greatest}
 use Rattle.lay_depth.proofs.ExprLemmas as depths
 use Rattle.lay_build_types.specs.Answers.{IsKept, IsMade}
 use Rattle.lay_build_types.specs.Kinds.{IsExpr, StandsFree, form_of_expr}

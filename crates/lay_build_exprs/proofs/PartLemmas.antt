@@ -9,7 +9,7 @@ use Rattle.lay_code.specs.declared.blocks.Block.{Block}
 use Rattle.lay_code.specs.declared.exprs.Expr.{Expr}
 use Rattle.lay_code.specs.declared.exprs.Expr.TheVariants as expr
 use Rattle.lay_code.specs.declared.operators.Op.{Op}
-use Rattle.lay_depth_nodes.specs.Depths.{greatest}
+use Rattle.lay_depth.specs.nodes.Depths.{greatest}
 use Rattle.lay_build_types.specs.Answers.{Gives, IsMade, IsPart, need_if}
 use Rattle.lay_build_types.specs.Kinds.{IsExpr, form_of_block, form_of_expr}
 use Rattle.lay_build_types.specs.declared.built.BuildError.{BuildError}

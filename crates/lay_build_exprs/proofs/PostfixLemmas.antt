@@ -23,8 +23,8 @@ use Rattle.lay_code.specs.declared.exprs.Step.{Step}
 use Rattle.lay_code.specs.declared.exprs.Step.TheVariants as step
 use Rattle.lay_code.proofs.nodes.ExprsLaws as laws
 use Rattle.lay_code.proofs.nodes.Layers.{expr_told, step_is, step_told}
-use Rattle.lay_depth_nodes.specs.Depths.{greatest}
-use Rattle.lay_depth_nodes.proofs.Forms.{both_are}
+use Rattle.lay_depth.specs.nodes.Depths.{greatest}
+use Rattle.lay_depth.proofs.nodes_lemmas.Forms.{both_are}
 use Rattle.lay_depth.specs.Parts.{step_form}
 use Rattle.lay_depth.proofs.ExprLemmas as depths
 use Rattle.lay_build_types.specs.Answers.{IsMade}

@@ -9,8 +9,8 @@ use Rattle.lay_code.specs.declared.exprs.Expr.{Expr}
 use Rattle.lay_code.specs.declared.exprs.Step.{Step}
 use Rattle.lay_code.specs.declared.exprs.Step.TheVariants as step
 use Rattle.lay_code.proofs.nodes.ExprsLaws as laws
-use Rattle.lay_depth_nodes.specs.Depths.{greatest}
-use Rattle.lay_depth_nodes.proofs.Forms.{leaf_is}
+use Rattle.lay_depth.specs.nodes.Depths.{greatest}
+use Rattle.lay_depth.proofs.nodes_lemmas.Forms.{leaf_is}
 use Rattle.lay_depth.proofs.ExprLemmas as depths
 use Rattle.lay_form.specs.Form.{Done}
 use Rattle.lay_build_types.specs.Answers.{IsMade}

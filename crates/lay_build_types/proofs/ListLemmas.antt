@@ -4,8 +4,8 @@ use Rattle.std.specs.List.{AllByRecursion}
 use Rattle.std.proofs.lemmas.List.{map-append, reverse-append}
 use Rattle.lay_form.specs.Depth.{least_depth}
 use Rattle.lay_form.specs.Form.{Form}
-use Rattle.lay_depth_nodes.specs.Depths.{greatest}
-use Rattle.lay_depth_nodes.proofs.Forms.{both_are}
+use Rattle.lay_depth.specs.nodes.Depths.{greatest}
+use Rattle.lay_depth.proofs.nodes_lemmas.Forms.{both_are}
 use Rattle.lay_build_types.specs.Answers.{IsKept}
 use Rattle.lay_build_types.proofs.PieceLemmas.{all_behind}
 

@@ -24,8 +24,8 @@ use Rattle.lay_node.specs.declared.types.PathStart.TheVariants as start
 use Rattle.lay_node.proofs.nodes.TypesLaws as laws
 use Rattle.lay_node.proofs.nodes.TypesLaws.{about_segment}
 use Rattle.lay_code.specs.nodes.Exprs.{lacks_args}
-use Rattle.lay_depth_nodes.specs.Depths.{greatest, segment_args}
-use Rattle.lay_depth_nodes.proofs.PathLemmas as depths
+use Rattle.lay_depth.specs.nodes.Depths.{greatest, segment_args}
+use Rattle.lay_depth.proofs.nodes_lemmas.PathLemmas as depths
 use Rattle.lay_build_types.specs.Answers.{IsKept}
 use Rattle.lay_build_types.specs.Kinds.{IsName, form_of_name}
 use Rattle.lay_build_types.specs.Nodes as node

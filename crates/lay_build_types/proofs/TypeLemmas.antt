@@ -27,8 +27,8 @@ use Rattle.lay_node.specs.declared.types.PathStyle.TheVariants.{Kind}
 use Rattle.lay_node.specs.declared.types.Ty.{Ty}
 use Rattle.lay_node.specs.declared.types.TypePlace.TheVariants.{Bounds, NoBounds}
 use Rattle.lay_node.proofs.nodes.TypesLaws as laws
-use Rattle.lay_depth_nodes.specs.Depths.{greatest}
-use Rattle.lay_depth_nodes.proofs.Forms.{list_is, when_is}
+use Rattle.lay_depth.specs.nodes.Depths.{greatest}
+use Rattle.lay_depth.proofs.nodes_lemmas.Forms.{list_is, when_is}
 use Rattle.lay_build_types.specs.Answers.{IsKept, IsMade}
 use Rattle.lay_build_types.specs.Kinds.{IsType, form_of_type}
 use Rattle.lay_build_types.specs.Nodes as node

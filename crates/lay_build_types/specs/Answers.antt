@@ -5,7 +5,7 @@ use Rattle.lay_form.specs.Depth.{least_depth}
 use Rattle.lay_form.specs.Form.{Form}
 use Rattle.lay_form.specs.Pieces.{are_pieces}
 use Rattle.lay_code.specs.Reading.{top}
-use Rattle.lay_depth_nodes.specs.Depths.{greatest}
+use Rattle.lay_depth.specs.nodes.Depths.{greatest}
 use Rattle.lay_build_types.specs.declared.built.BuildError.{BuildError}
 use Rattle.lay_build_types.specs.declared.built.BuildError.TheVariants as error
 

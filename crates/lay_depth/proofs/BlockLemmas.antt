@@ -25,8 +25,8 @@ use Rattle.lay_code.specs.declared.conditions.Link.TheVariants as link
 use Rattle.lay_code.specs.declared.exprs.Expr.{Expr}
 use Rattle.lay_code.specs.declared.item.Item.{Item}
 use Rattle.lay_code.proofs.nodes.BlocksLaws as laws
-use Rattle.lay_depth_nodes.specs.Depths.{greatest, type_if}
-use Rattle.lay_depth_nodes.proofs.Forms.{attrs_are, behind_attrs_is, body_is, both_are}
+use Rattle.lay_depth.specs.nodes.Depths.{greatest, type_if}
+use Rattle.lay_depth.proofs.nodes_lemmas.Forms.{attrs_are, behind_attrs_is, body_is, both_are}
 use Rattle.lay_depth.specs.Parts.{arm_form, block_if, branch_form, expr_if, link_form}
 
 -- ---- blocks

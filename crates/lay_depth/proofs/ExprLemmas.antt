@@ -37,9 +37,9 @@ use Rattle.lay_code.specs.declared.operators.Op.{Op}
 use Rattle.lay_code.specs.declared.operators.Prefix.{Prefix}
 use Rattle.lay_code.proofs.nodes.ExprsLaws as laws
 use Rattle.lay_code.proofs.nodes.ExprsLaws.{before_op, behind_op}
-use Rattle.lay_depth_nodes.specs.Depths.{counted, greatest, type_if}
-use Rattle.lay_depth_nodes.proofs.Forms.{attrs_are, behind_attrs_is, body_is, both_are, braces_are, call_is, leaf_is, list_is, param_attrs_are, tokens_are, when_is}
-use Rattle.lay_depth_nodes.proofs.PathLemmas.{style_is}
+use Rattle.lay_depth.specs.nodes.Depths.{counted, greatest, type_if}
+use Rattle.lay_depth.proofs.nodes_lemmas.Forms.{attrs_are, behind_attrs_is, body_is, both_are, braces_are, call_is, leaf_is, list_is, param_attrs_are, tokens_are, when_is}
+use Rattle.lay_depth.proofs.nodes_lemmas.PathLemmas.{style_is}
 use Rattle.lay_depth.specs.Parts as parts
 use Rattle.lay_depth.specs.Parts.{arm_form, block_if, branch_form, expr_if, step_form, target_form}
 use Rattle.lay_depth.proofs.BlockLemmas.{arms_are, block_form_is, branches_are, else_branch_is, soft_is}

@@ -44,9 +44,9 @@ use Rattle.lay_code.specs.declared.item.Item.{Item}
 use Rattle.lay_code.specs.declared.item.ItemKind.{ItemKind}
 use Rattle.lay_code.specs.declared.item.ItemKind.TheVariants as item
 use Rattle.lay_code.proofs.nodes.ItemLaws as laws
-use Rattle.lay_depth_nodes.specs.Depths.{counted, greatest, head_depth}
-use Rattle.lay_depth_nodes.proofs.UseLemmas.{rename_is}
-use Rattle.lay_depth_nodes.proofs.Forms.{attrs_are, behind_attrs_is, body_is, both_are, call_is, group_is, leaf_is, lines_are, predicates_are, simple_path_is, when_is}
+use Rattle.lay_depth.specs.nodes.Depths.{counted, greatest, head_depth}
+use Rattle.lay_depth.proofs.nodes_lemmas.UseLemmas.{rename_is}
+use Rattle.lay_depth.proofs.nodes_lemmas.Forms.{attrs_are, behind_attrs_is, body_is, both_are, call_is, group_is, leaf_is, lines_are, predicates_are, simple_path_is, when_is}
 use Rattle.lay_depth.specs.Parts.{block_if, expr_if, head_if, kind_need}
 use Rattle.lay_depth.proofs.BlockLemmas.{block_form_is, value_is}
 

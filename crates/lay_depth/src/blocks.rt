@@ -2,14 +2,14 @@
 ghost use Rattle.std.specs.Prelude.{◌≡◌, map, true};
 ghost use Rattle.lay_form.specs.Depth.{least_depth};
 ghost use Rattle.lay_code.specs.nodes.Code.{about_block, about_stmt};
-ghost use Rattle.lay_depth_nodes.specs.Depths.{counted, greatest};
+ghost use Rattle.lay_depth.specs.nodes.Depths.{counted, greatest};
 ghost use Rattle.lay_depth.specs.Parts.{arm_form, block_if, branch_form};
 
 use crate::conditions::condition_depth;
 use crate::exprs::{expr_depth, operand_depth};
 use crate::items::item_depth;
+use crate::nodes::{deeper, pat_depth, type_or_none_depth};
 use lay_code::{Arm, Block, Branch, Stmt};
-use lay_depth_nodes::{deeper, pat_depth, type_or_none_depth};
 
 /// The depth of a block: that of its deepest statement.
 #[cycle(code)]

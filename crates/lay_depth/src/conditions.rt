@@ -2,12 +2,12 @@
 ghost use Rattle.std.specs.Prelude.{◌≡◌, map};
 ghost use Rattle.lay_form.specs.Depth.{least_depth};
 ghost use Rattle.lay_code.specs.nodes.Code.{about_condition, about_link};
-ghost use Rattle.lay_depth_nodes.specs.Depths.{counted, greatest};
+ghost use Rattle.lay_depth.specs.nodes.Depths.{counted, greatest};
 ghost use Rattle.lay_depth.specs.Parts.{link_form};
 
 use crate::exprs::expr_depth;
+use crate::nodes::pat_depth;
 use lay_code::{Condition, Link};
-use lay_depth_nodes::pat_depth;
 
 /// The depth of a condition: that of its deepest link.
 #[cycle(code)]

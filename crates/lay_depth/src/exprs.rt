@@ -4,15 +4,15 @@ ghost use Rattle.lay_form.specs.Depth.{least_depth};
 ghost use Rattle.lay_node.specs.nodes.Facts.{forms};
 ghost use Rattle.lay_code.specs.nodes.Code.{about_expr, about_field_expr, about_step};
 ghost use Rattle.lay_code.specs.nodes.Exprs.{base_form, closure_param, expr_forms};
-ghost use Rattle.lay_depth_nodes.specs.Depths.{counted, greatest};
+ghost use Rattle.lay_depth.specs.nodes.Depths.{counted, greatest};
 ghost use Rattle.lay_depth.specs.Parts.{expr_if, operand_form, step_form, target_form};
 
 use crate::blocks::{arms_depth, block_depth, block_or_none_depth, branches_depth};
 use crate::conditions::condition_depth;
-use lay_code::{ClosureParam, Expr, FieldExpr, Op, Step};
-use lay_depth_nodes::{
+use crate::nodes::{
     arguments_depth, deeper, pat_depth, path_depth, type_depth, type_or_none_depth, types_depth,
 };
+use lay_code::{ClosureParam, Expr, FieldExpr, Op, Step};
 use lay_node::Boxed;
 
 /// The depth of an expression, counted up to the greatest number of 32 bits. The body of a closure stands one level deeper.

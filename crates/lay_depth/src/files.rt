@@ -2,7 +2,7 @@
 ghost use Rattle.std.specs.Prelude.{◌≡◌};
 ghost use Rattle.lay_form.specs.Depth.{least_depth};
 ghost use Rattle.lay_code.specs.nodes.File.{form_of_file};
-ghost use Rattle.lay_depth_nodes.specs.Depths.{counted};
+ghost use Rattle.lay_depth.specs.nodes.Depths.{counted};
 
 use crate::items::items_depth;
 use lay_code::File;

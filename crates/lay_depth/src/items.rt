@@ -2,16 +2,16 @@
 ghost use Rattle.std.specs.Prelude.{◌≡◌, map};
 ghost use Rattle.lay_form.specs.Depth.{least_depth};
 ghost use Rattle.lay_code.specs.nodes.Code.{form_of_item};
-ghost use Rattle.lay_depth_nodes.specs.Depths.{counted, greatest};
+ghost use Rattle.lay_depth.specs.nodes.Depths.{counted, greatest};
 ghost use Rattle.lay_depth.specs.Parts.{kind_need};
 
 use crate::blocks::block_or_none_depth;
 use crate::exprs::operand_depth;
-use lay_code::{Item, ItemKind};
-use lay_depth_nodes::{
+use crate::nodes::{
     alias_depth, deeper, enum_depth, fn_head_depth, impl_head_depth, struct_depth,
     trait_head_depth, union_depth, use_depth, value_head_depth, wheres_depth,
 };
+use lay_code::{Item, ItemKind};
 
 /// The depth of an item.
 #[cycle(code)]

@@ -1,3 +1,5 @@
 pub mod Keeping
 pub mod Places
 pub mod Readings
+pub mod streamed
+pub mod windows

@@ -8,7 +8,7 @@ use Rattle.lay_token.specs.Source.{Source, source}
 use Rattle.lay_code.specs.Out.{out}
 use Rattle.lay_code.specs.Reading.{IsRefusedAt, ReadsAt, top}
 use Rattle.lay_code.specs.declared.file.File.{File}
-use Rattle.lay_windows.specs.Bodies.{FileAs}
+use Rattle.lay_files.specs.windows.Bodies.{FileAs}
 use Rattle.lay_files.specs.Places.{number_of, place_in}
 use Rattle.lay_files.specs.declared.reading.FileError.{FileError}
 use Rattle.lay_files.specs.declared.reading.FileError.TheVariants.{Refused, NoMemory}

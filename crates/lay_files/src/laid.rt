@@ -4,8 +4,8 @@ ghost use Rattle.lay_layout.specs.Document.{stream};
 ghost use Rattle.lay_stream.specs.Fed.{Did};
 ghost use Rattle.lay_code.specs.Out.{layout_of_file};
 ghost use Rattle.lay_code.specs.declared.file.File.{File};
-ghost use Rattle.lay_enclose.specs.Constant.{constant};
-ghost use Rattle.lay_enclose.specs.Enclosed.{part};
+ghost use Rattle.lay_paren_defs.specs.Constant.{constant};
+ghost use Rattle.lay_paren_defs.specs.Enclosed.{part};
 
 use lay_code::{Expr, File};
 use lay_out_code::{put_enclosed_constant, put_file};

@@ -7,12 +7,12 @@ ghost use Rattle.lay_code.specs.Written.{is_good_shebang};
 ghost use Rattle.lay_files.specs.Places.{number_of, place_in};
 ghost use Rattle.lay_files.specs.Readings.{ReadAs, ReadsAs, placed_in};
 
+use crate::windows::read_source;
 use lay_code::File;
 use lay_lex::{Source, lex, normalise};
 use lay_nest::nest;
 use lay_read_tokens::ReadNone;
 use lay_token::{FormatError, NoMemory, Place2, Refusal, place_of};
-use lay_windows::read_source;
 use std::alloc::Global;
 
 /// Why bytes read to no file.

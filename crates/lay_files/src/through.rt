@@ -8,13 +8,13 @@ ghost use Rattle.lay_files.specs.Readings.{FormatsAs, FormatsSource, FormattedAs
 
 use crate::keep::Keeper;
 use crate::reading::{DEPTH, FileError, placed, read_tokens};
+use crate::streamed::{NotPut, put_source, told};
 use crate::writing::bytes_of;
 use lay_io::Sink;
 use lay_lex::{Source, normalise};
 use lay_out_code::put_shebang;
 use lay_printer::{Core, Press, PrintError};
 use lay_read_tokens::ReadNone;
-use lay_through::{NotPut, put_source, told};
 use lay_token::{List, NoMemory};
 use std::alloc::Global;
 

@@ -3,8 +3,8 @@ ghost use Rattle.std.specs.Prelude.{◌≡◌, ◌≤◌, IfOk, OnOk, OnErr, IsE
 ghost use Rattle.lay_io.specs.Faults.{Rose, SameLoan};
 ghost use Rattle.lay_io.specs.Told.{GrewBy, GrewByPrefix};
 ghost use Rattle.lay_code.specs.Out.{out as text_of_file};
-ghost use Rattle.lay_enclose.specs.Constant.{constant};
-ghost use Rattle.lay_enclose.specs.Enclosed.{part};
+ghost use Rattle.lay_paren_defs.specs.Constant.{constant};
+ghost use Rattle.lay_paren_defs.specs.Enclosed.{part};
 
 use crate::keep::Keeper;
 use crate::laid::Laid;

@@ -3,16 +3,16 @@ use Rattle.std.proofs.Common.{◌≡◌, ◌<◌, ◌≤◌, ◌⊎◌, inl, inr
 use Rattle.lay_io.specs.Faults.{Rose}
 use Rattle.lay_io.specs.Told.{TellsAs, GrewBy, GrewByPrefix}
 use Rattle.lay_io.specs.declared.outside.Which.{Which}
-use Rattle.lay_line.specs.declared.lines.Line.{Line}
-use Rattle.lay_line.specs.declared.lines.Line.TheVariants as line
+use Rattle.lay_args.specs.declared.lines.Line.{Line}
+use Rattle.lay_args.specs.declared.lines.Line.TheVariants as line
 use Rattle.lay_text.specs.declared.refusal.Refusal.{Refusal}
 use Rattle.lay_code.specs.Out.{out}
 use Rattle.lay_code.specs.Reading.{Reads, IsRefused, top}
 use Rattle.lay_code.specs.declared.file.File.{File}
 use Rattle.lay_reparse.proofs.file.OneAnswer.{one_refusal, never_both}
 use Rattle.lay_front.proofs.OutcomeLemmas.{wrote, told_as, complete_refused}
-use Rattle.lay_mapping.specs.Maps.{IsMap, WroteMap, WroteMapPart}
-use Rattle.lay_mapping.proofs.MapLemmas.{one_map}
+use Rattle.lay_map_lines.specs.Maps.{IsMap, WroteMap, WroteMapPart}
+use Rattle.lay_map_lines.proofs.MapLemmas.{one_map}
 use Rattle.lay_sample.specs.Sample.{sample_text}
 use Rattle.lay_front.specs.Inputs.{InputAs, IsPlaced, input_of}
 use Rattle.lay_front.specs.Messages.{RefusedIn, Says, line_of_end, message, refusal_line}

@@ -3,8 +3,8 @@ use Rattle.std.specs.Prelude.{ℕ, ◌≡◌, ◌≢◌, ◌<◌, List, length, 
 use Rattle.lay_io.specs.Faults.{Rose}
 use Rattle.lay_io.specs.Told.{IsEnd, TellsAs}
 use Rattle.lay_io.specs.declared.outside.Which.{Which}
-use Rattle.lay_line.specs.declared.lines.Line.{Line}
-use Rattle.lay_line.specs.declared.lines.Line.TheVariants as line
+use Rattle.lay_args.specs.declared.lines.Line.{Line}
+use Rattle.lay_args.specs.declared.lines.Line.TheVariants as line
 use Rattle.lay_sample.specs.Sample.{sample_text}
 use Rattle.lay_code.specs.Reading.{IsRefused}
 use Rattle.lay_code.specs.declared.file.File.{File}

@@ -3,14 +3,14 @@ use Rattle.std.specs.Prelude.{ℕ, ◌≡◌, ◌≢◌, ◌<◌, ◌≤◌, ◌
 use Rattle.lay_io.specs.Told.{TellsAs, GrewBy, GrewByPrefix}
 use Rattle.lay_io.specs.Faults.{Rose}
 use Rattle.lay_io.specs.declared.outside.Which.{Which}
-use Rattle.lay_line.specs.declared.lines.Line.{Line}
-use Rattle.lay_line.specs.declared.lines.Line.TheVariants as line
+use Rattle.lay_args.specs.declared.lines.Line.{Line}
+use Rattle.lay_args.specs.declared.lines.Line.TheVariants as line
 use Rattle.lay_text.specs.declared.refusal.FormatError.{FormatError}
 use Rattle.lay_text.specs.declared.refusal.FormatError.TheVariants as error
 use Rattle.lay_sample.specs.Sample.{sample_text}
 use Rattle.lay_code.specs.Reading.{IsRefused}
 use Rattle.lay_files.specs.Readings.{ReadsOnlyTo}
-use Rattle.lay_mapping.specs.Maps.{WroteMap, WroteMapPart}
+use Rattle.lay_map_lines.specs.Maps.{WroteMap, WroteMapPart}
 use Rattle.lay_front.specs.Summary.{summary}
 use Rattle.lay_code.specs.Out.{out}
 use Rattle.lay_code.specs.declared.file.File.{File}

@@ -1,7 +1,7 @@
 -- The line that sums up a sample.
 use Rattle.std.specs.Prelude.{ℕ, List, ◌++◌, length, codes}
 use Rattle.std.specs.Fmt.{decimal}
-use Rattle.lay_count.specs.Counting.{lines_of, longest_line}
+use Rattle.lay_sample.specs.counting.Counting.{lines_of, longest_line}
 
 -- So many items were asked for, these bytes are the sample of them, and this is its text.
 abbrev pub summary : ℕ → List ℕ → List ℕ → List ℕ

@@ -1,7 +1,7 @@
 //! Samples: made, formatted, and summed up in one line.
 ghost use Rattle.std.specs.Prelude.{◌≡◌, ◌≤◌, ◌++◌, Some, IfOk, length};
 ghost use Rattle.std.specs.Fmt.{decimal};
-ghost use Rattle.lay_count.specs.Counting.{lines_of, longest_line};
+ghost use Rattle.lay_sample.specs.counting.Counting.{lines_of, longest_line};
 ghost use Rattle.lay_io.specs.Faults.{SameLoan};
 ghost use Rattle.lay_sample.specs.Sample.{sample_text};
 ghost use Rattle.lay_code.specs.Out.{out as text_of_file};
@@ -13,9 +13,9 @@ ghost use Rattle.lay_front.specs.Summary.{summary};
 use crate::stop::Stop;
 use itoa::Buffer;
 use lay_code::File;
-use lay_count::{Counter, Counts};
 use lay_files::{FileError, read_bytes, write_file};
 use lay_io::{Failed, Sink};
+use lay_sample::counting::{Counter, Counts};
 use lay_sample::sample;
 use lay_token::{NoMemory, Text};
 use std::alloc::Global;

@@ -6,8 +6,8 @@ use Rattle.lay_code.specs.declared.file.File.{File}
 use Rattle.lay_code.specs.declared.item.Item.{Item}
 use Rattle.lay_items.specs.Kept.{Keeps}
 use Rattle.lay_items.proofs.ListLemmas.{map_insert, map_put, map_remove}
-use Rattle.lay_lines.specs.Outputs.{head_text, item_text}
-use Rattle.lay_lines.proofs.OutputLemmas.{file_text}
+use Rattle.lay_items.specs.alone.Outputs.{head_text, item_text}
+use Rattle.lay_items.proofs.alone_lemmas.OutputLemmas.{file_text}
 
 concat_map : {X : Type 0} (f : X → List ℕ) (xs : List X) → concat (map f xs) ≡ flat_map f xs
 concat_map f [] = refl

@@ -12,7 +12,7 @@ use Rattle.lay_code.specs.Out.{layout_of_file}
 use Rattle.lay_code.specs.nodes.Code.{form_of_item}
 use Rattle.lay_code.specs.nodes.File.{form_of_file}
 use Rattle.lay_code.specs.declared.item.Item.{Item}
-use Rattle.lay_lines.specs.Outputs.{alone}
+use Rattle.lay_items.specs.alone.Outputs.{alone}
 use Rattle.lay_out_tokens.proofs.StreamParts.{fed_more}
 
 -- The stream of an item and a newline is that of a file with the item alone.

@@ -6,7 +6,7 @@ use Rattle.lay_code.specs.Reading.{IsRefused}
 use Rattle.lay_code.specs.declared.file.File.{File}
 use Rattle.lay_code.specs.declared.item.Item.{Item}
 use Rattle.lay_files.specs.Readings.{ReadsOnlyTo}
-use Rattle.lay_lines.specs.Outputs.{alone, item_text}
+use Rattle.lay_items.specs.alone.Outputs.{alone, item_text}
 use Rattle.lay_items.specs.declared.reading.EditError.{EditError}
 use Rattle.lay_items.specs.declared.reading.EditError.TheVariants as edit
 use Rattle.lay_items.specs.declared.reading.Laid.{Laid}

@@ -3,7 +3,7 @@ use Rattle.std.specs.Prelude.{ℕ, ◌≡◌, ◌++◌, List, map}
 use Rattle.std.specs.List.{concat}
 use Rattle.lay_code.specs.Out.{out}
 use Rattle.lay_code.specs.declared.file.File.{File}
-use Rattle.lay_lines.specs.Outputs.{head_text, item_text}
+use Rattle.lay_items.specs.alone.Outputs.{head_text, item_text}
 
 -- The texts that are kept are that of what stands before the items of the file, and that of each item. So, one after
 -- another, they are the text of the file.

@@ -4,7 +4,7 @@ ghost use Rattle.lay_code.specs.Out.{out};
 ghost use Rattle.lay_files.specs.Readings.{ReadsOnlyTo};
 ghost use Rattle.lay_items.specs.Edits.{Inserts, IsUnread, Replaces, without_item};
 ghost use Rattle.lay_items.specs.Kept.{Keeps};
-ghost use Rattle.lay_lines.specs.Outputs.{head_text, item_text};
+ghost use Rattle.lay_items.specs.alone.Outputs.{head_text, item_text};
 
 use crate::lists::{insert_both, remove_both, replace_both};
 use crate::printing::{head_of, outputs_of, push_all};

@@ -8,6 +8,7 @@
 //! text of the file. It holds of every value, so after every list of calls.
 #![tactic(auto)]
 
+pub mod alone;
 pub mod edits;
 mod lists;
 mod printing;

@@ -5,7 +5,7 @@ ghost use Rattle.lay_io.specs.Told.{GrewBy};
 ghost use Rattle.lay_layout.specs.Document.{stream};
 ghost use Rattle.lay_stream.specs.Fed.{Did};
 ghost use Rattle.lay_code.specs.Out.{layout_of_file, out as text_of_file};
-ghost use Rattle.lay_lines.specs.Outputs.{alone, head_text, item_text};
+ghost use Rattle.lay_items.specs.alone.Outputs.{alone, head_text, item_text};
 
 use lay_code::{File, Item};
 use lay_files::{Keeper, text_of};

@@ -10,13 +10,13 @@ use Rattle.lay_code.specs.nodes.Code.{about_expr}
 use Rattle.lay_code.specs.nodes.File.{form_of_file}
 use Rattle.lay_code.specs.declared.exprs.Expr.{Expr}
 use Rattle.lay_code.specs.declared.file.File.{File}
-use Rattle.lay_enclose.specs.Constant.{constant}
-use Rattle.lay_enclose.specs.Enclosed.{part}
-use Rattle.lay_loose.specs.Loose.{Loose}
-use Rattle.lay_loose_laws.proofs.EnclosedLemmas.{constant_deep, written}
+use Rattle.lay_paren_defs.specs.Constant.{constant}
+use Rattle.lay_paren_defs.specs.Enclosed.{part}
+use Rattle.lay_paren_defs.specs.loose.Loose.{Loose}
+use Rattle.lay_paren.proofs.loose_laws_lemmas.EnclosedLemmas.{constant_deep, written}
 use Rattle.lay_reparse.proofs.file.OneAnswer.{never_both}
 use Rattle.lay_reparse.proofs.file.Reparse.{reparse_at}
-use Rattle.lay_depth_nodes.specs.Depths.{counted}
+use Rattle.lay_depth.specs.nodes.Depths.{counted}
 use Rattle.lay_files.specs.Readings.{ReadsOnlyAt}
 
 never : {P : Type 0} → IsTrue false → P

@@ -1,6 +1,6 @@
 //! Which trees of expressions lack nothing but parentheses.
 ghost use Rattle.std.specs.Prelude.{◌↔◌, IfOk, IsTrue};
-ghost use Rattle.lay_loose.specs.Loose.{Loose};
+ghost use Rattle.lay_paren_defs.specs.loose.Loose.{Loose};
 
 use lay_depth::expr_depth;
 use lay_files::{DEPTH, FileError, enclosed_text_of, read_within};

@@ -8,3 +8,4 @@ pub mod Marks
 pub mod Parts
 pub mod Trims
 pub mod Windows
+pub mod one_by_one_lemmas

@@ -4,3 +4,4 @@ pub mod Lexer
 pub mod Source
 pub mod Tokens
 pub mod Window
+pub mod one_by_one

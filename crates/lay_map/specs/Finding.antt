@@ -1,8 +1,8 @@
 -- What is found where a token is looked for.
 use Rattle.std.specs.Prelude.{◌≡◌, Bool, List, Option}
 use Rattle.lay_token.specs.declared.token.Token.{Token}
-use Rattle.lay_pieces.specs.Ahead.{IsNext}
-use Rattle.lay_pieces.specs.declared.cursor.Lexeme.{Lexeme}
+use Rattle.lay_lex.specs.one_by_one.Ahead.{IsNext}
+use Rattle.lay_lex.specs.declared.one_by_one.cursor.Lexeme.{Lexeme}
 use Rattle.lay_map.specs.Walks.{Place, more_of, sought_from, sought_in, taken_from}
 use Rattle.lay_map.specs.declared.unit.Unit.{Unit}
 use Rattle.lay_map.specs.declared.walk.Sought.{Sought}

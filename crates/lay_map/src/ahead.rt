@@ -1,7 +1,7 @@
 //! The tokens ahead, of a list or of a text.
-ghost use Rattle.lay_pieces.specs.Ahead.{Tells};
+ghost use Rattle.lay_lex.specs.one_by_one.Ahead.{Tells};
 
-use lay_pieces::{Cursor, Lexeme};
+use lay_lex::one_by_one::{Cursor, Lexeme};
 use lay_token::Token;
 
 /// Tokens that are given one by one. It is copied to look ahead.
@@ -14,7 +14,7 @@ pub(crate) enum Ahead<'a> {
 }
 
 impl<'a> Ahead<'a> {
-    ghost use Rattle.lay_pieces.specs.Ahead.{IsNext};
+    ghost use Rattle.lay_lex.specs.one_by_one.Ahead.{IsNext};
     ghost use Rattle.lay_map.specs.Ahead.{tokens_of};
 
     /// Goes past the next token and tells it; or nothing, where there is none.

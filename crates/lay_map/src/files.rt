@@ -12,9 +12,9 @@ use crate::ahead::Ahead;
 use crate::marker::Marker;
 use crate::unit::{Span, Unit, units_of_spans};
 use lay_code::File;
+use lay_lex::one_by_one::Cursor;
 use lay_nest::Nested;
 use lay_out_code::put_file;
-use lay_pieces::Cursor;
 use lay_text::{List, NoMemory};
 use std::alloc::Global;
 

@@ -1,8 +1,8 @@
 //! A walk over tokens, which finds the first one that begins as a word does.
 ghost use Rattle.std.specs.Prelude.{◌≡◌, ◌+◌, ◌++◌, ◌∷◌, [], IfOk, OnOk};
 ghost use Rattle.lay_token.specs.declared.token.Token.{Token as TokenValue};
-ghost use Rattle.lay_units.specs.Choice.{behind_token, openers};
-ghost use Rattle.lay_pieces.specs.Ahead.{Tells};
+ghost use Rattle.lay_map.specs.units.Choice.{behind_token, openers};
+ghost use Rattle.lay_lex.specs.one_by_one.Ahead.{Tells};
 ghost use Rattle.lay_map.specs.Ahead.{tokens_of};
 ghost use Rattle.lay_map.specs.Finding.{Finds, documented_from};
 ghost use Rattle.lay_map.specs.Walks.{IsCount, first_length, is_closing, is_sought, placed, placed_in, sought_from, taken_from, taken_in};
@@ -11,7 +11,7 @@ use crate::ahead::Ahead;
 use crate::flags::Flags;
 use crate::tokens::{closes, is_semicolon, last_of, more_doc, opens, says, unit_from};
 use crate::unit::{Span, Unit};
-use lay_pieces::Lexeme;
+use lay_lex::one_by_one::Lexeme;
 use lay_text::{List, NoMemory};
 use lay_token::Kind;
 use std::alloc::Global;

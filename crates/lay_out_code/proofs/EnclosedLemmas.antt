@@ -22,7 +22,7 @@ use Rattle.lay_code.specs.nodes.Exprs.{value_form}
 use Rattle.lay_code.specs.nodes.Item.{about_value}
 use Rattle.lay_code.specs.declared.exprs.Expr.{Expr}
 use Rattle.lay_code.proofs.nodes.ItemLaws.{value_is}
-use Rattle.lay_enclose.specs.Constant.{constant, constant_item}
+use Rattle.lay_paren_defs.specs.Constant.{constant, constant_item}
 use Rattle.lay_out_types.specs.Calls.{Adds}
 use Rattle.lay_out_types.proofs.Adding.{level_behind, on_ok}
 use Rattle.lay_out_types.proofs.FormRows.{level_form, one_open}

@@ -6,8 +6,8 @@ use Rattle.lay_form.specs.Stream.{fed, stream_of}
 use Rattle.lay_code.specs.nodes.Code.{about_expr}
 use Rattle.lay_code.specs.declared.exprs.Expr.{Expr}
 use Rattle.lay_code.specs.declared.exprs.Expr.TheVariants as expr
-use Rattle.lay_enclose.specs.Enclosed.{body_part, enclose, enclosed, is_bare, part}
-use Rattle.lay_enclose.proofs.KeptLemmas.{body_enclosed, body_whole}
+use Rattle.lay_paren_defs.specs.Enclosed.{body_part, enclose, enclosed, is_bare, part}
+use Rattle.lay_paren_defs.proofs.KeptLemmas.{body_enclosed, body_whole}
 use Rattle.lay_out_exprs.proofs.ExprLemmas.{paren_expr}
 
 -- ---- parts and bodies

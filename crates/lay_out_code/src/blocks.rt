@@ -6,7 +6,7 @@ ghost use Rattle.lay_form.specs.Stream.{stream_of};
 ghost use Rattle.lay_code.specs.nodes.Blocks.{else_form};
 ghost use Rattle.lay_code.specs.nodes.Code.{about_block, about_expr, about_stmt};
 ghost use Rattle.lay_code.specs.nodes.Exprs.{value_form};
-ghost use Rattle.lay_enclose.specs.Enclosed.{enclose_block, enclose_stmt, part};
+ghost use Rattle.lay_paren_defs.specs.Enclosed.{enclose_block, enclose_stmt, part};
 ghost use Rattle.lay_out_types.specs.Calls.{Adds};
 ghost use Rattle.lay_out_types.specs.Rows.{further};
 ghost use Rattle.lay_out_code.specs.Parts.{stmt_told};
@@ -14,7 +14,6 @@ ghost use Rattle.lay_out_code.specs.Parts.{stmt_told};
 use crate::exprs::{add_expr, add_whole};
 use crate::items::{add_inner_attrs, add_item};
 use lay_code::{Block, Boxed, Expr, Stmt};
-use lay_enclose::{AsIs, Enclose};
 use lay_layout::Break;
 use lay_out_exprs::blocks::{close_soft, is_single};
 use lay_out_exprs::flags::both;
@@ -25,6 +24,7 @@ use lay_out_pats::{add_attrs, add_pat};
 use lay_out_tokens::HARD_BREAK;
 use lay_out_tokens::notation::{NEVER_BREAK, SPACE_BREAK};
 use lay_out_types::calls::{add_either, add_if, add_text};
+use lay_paren_defs::{AsIs, Enclose};
 use lay_stream::Emit;
 
 /// Feeds the layout of a block, whose braces have a leading blank or not.

@@ -8,7 +8,7 @@ ghost use Rattle.lay_node.specs.nodes.Attr.{attr_form};
 ghost use Rattle.lay_code.specs.nodes.Blocks.{guard_form};
 ghost use Rattle.lay_code.specs.nodes.Code.{about_arm, about_block, about_expr};
 ghost use Rattle.lay_code.specs.nodes.Exprs.{else_branch_form};
-ghost use Rattle.lay_enclose.specs.Enclosed.{enclose_arm, enclose_block, enclose_branch, part};
+ghost use Rattle.lay_paren_defs.specs.Enclosed.{enclose_arm, enclose_block, enclose_branch, part};
 ghost use Rattle.lay_out_exprs.specs.Blocks.{else_between, lead_row};
 ghost use Rattle.lay_out_types.specs.Calls.{Adds};
 ghost use Rattle.lay_out_types.specs.Rows.{row};
@@ -19,7 +19,6 @@ use crate::conditions::add_condition;
 use crate::exprs::{add_body_part, add_expr};
 use crate::items::add_inner_attrs;
 use lay_code::{Arm, Attr, Block, Boxed, Branch, Expr};
-use lay_enclose::{AsIs, Enclose};
 use lay_out_exprs::blocks::{add_condition_lead, add_else_word};
 use lay_out_exprs::bodies::{arm_body_braces, close_arm, open_arm};
 use lay_out_exprs::flags::both;
@@ -30,6 +29,7 @@ use lay_out_tokens::HARD_BREAK;
 use lay_out_tokens::notation::NEVER_BREAK;
 use lay_out_types::calls::add_text;
 use lay_out_types::lists::add_end;
+use lay_paren_defs::{AsIs, Enclose};
 use lay_stream::Emit;
 
 /// What is matched, behind its word, in a group of its own.

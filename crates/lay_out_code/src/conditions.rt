@@ -3,7 +3,7 @@ ghost use Rattle.std.specs.Prelude.{[], ◌++◌, map};
 ghost use Rattle.lay_form.specs.Stream.{stream_of};
 ghost use Rattle.lay_code.specs.nodes.Code.{about_condition, about_link};
 ghost use Rattle.lay_code.specs.nodes.Conditions.{condition_form};
-ghost use Rattle.lay_enclose.specs.Enclosed.{enclose_condition, enclose_link};
+ghost use Rattle.lay_paren_defs.specs.Enclosed.{enclose_condition, enclose_link};
 ghost use Rattle.lay_out_exprs.specs.Blocks.{lead_row, link_between};
 ghost use Rattle.lay_out_types.specs.Calls.{Adds};
 ghost use Rattle.lay_out_types.specs.Rows.{row};
@@ -11,9 +11,9 @@ ghost use Rattle.lay_out_code.specs.Parts.{head_end, link_told};
 
 use crate::exprs::add_expr;
 use lay_code::{Condition, Link};
-use lay_enclose::Enclose;
 use lay_out_exprs::blocks::{add_condition_lead, add_let_lead, add_link_lead};
 use lay_out_types::lists::{add_begin, add_end};
+use lay_paren_defs::Enclose;
 use lay_stream::Emit;
 
 /// A condition behind its word, in a group of its own.

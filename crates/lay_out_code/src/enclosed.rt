@@ -3,18 +3,18 @@ ghost use Rattle.std.specs.Prelude.{true};
 ghost use Rattle.lay_layout.specs.Document.{stream};
 ghost use Rattle.lay_stream.specs.Fed.{Did};
 ghost use Rattle.lay_code.specs.Out.{layout_of_file};
-ghost use Rattle.lay_enclose.specs.Constant.{constant};
-ghost use Rattle.lay_enclose.specs.Enclosed.{part};
+ghost use Rattle.lay_paren_defs.specs.Constant.{constant};
+ghost use Rattle.lay_paren_defs.specs.Enclosed.{part};
 
 use crate::exprs::add_expr;
 use lay_code::Expr;
-use lay_enclose::Enclosed;
 use lay_out_heads::calls::add_break;
 use lay_out_pats::add_group;
 use lay_out_tokens::HARD_BREAK;
 use lay_out_tokens::notation::NEVER_BREAK;
 use lay_out_types::calls::add_text;
 use lay_out_types::lists::add_end;
+use lay_paren_defs::Enclosed;
 use lay_stream::Emit;
 
 /// Feeds the layout of the file of one constant, `const _: () = (..);`, whose value is an expression in which each part

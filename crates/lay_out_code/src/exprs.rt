@@ -5,7 +5,7 @@ ghost use Rattle.lay_form.specs.Form.{Done};
 ghost use Rattle.lay_form.specs.Stream.{fed, stream_of};
 ghost use Rattle.lay_code.specs.nodes.Code.{about_expr};
 ghost use Rattle.lay_code.specs.nodes.Exprs.{body_braces, closure_body, end_form, operand_form, tuple_form};
-ghost use Rattle.lay_enclose.specs.Enclosed.{body_part, enclose, part};
+ghost use Rattle.lay_paren_defs.specs.Enclosed.{body_part, enclose, part};
 ghost use Rattle.lay_out_exprs.specs.Parts.{expr_told};
 ghost use Rattle.lay_out_types.specs.Calls.{Adds};
 ghost use Rattle.lay_out_types.specs.Rows.{comma_between, list_closed, list_opened, row};
@@ -15,7 +15,6 @@ use crate::branches::{add_arms, add_branches, add_else, add_scrutinee};
 use crate::conditions::add_condition;
 use crate::operands::{add_base, add_fields, add_operands, add_steps, add_targets};
 use lay_code::{Boxed, Expr, PathStyle};
-use lay_enclose::{AsIs, Enclose, is_body_enclosed};
 use lay_out_exprs::add_closure_head;
 use lay_out_exprs::blocks::add_labelled;
 use lay_out_exprs::bodies::{close_closure, closure_body_braces, open_closure};
@@ -27,6 +26,7 @@ use lay_out_pats::{add_closing_brace, add_dots_behind, add_group, add_pat};
 use lay_out_types::calls::{add_call, add_if, add_literal, add_text, add_tokens};
 use lay_out_types::lists::{add_begin, add_close, add_end, add_lead};
 use lay_out_types::{add_path, add_type};
+use lay_paren_defs::{AsIs, Enclose, is_body_enclosed};
 use lay_stream::Emit;
 
 /// Feeds the layout of an expression.

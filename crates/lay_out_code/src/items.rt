@@ -11,7 +11,7 @@ ghost use Rattle.lay_node.specs.nodes.Heads.{value_head_form};
 ghost use Rattle.lay_code.specs.nodes.Code.{about_block, about_expr, form_of_item, told_of_kind};
 ghost use Rattle.lay_code.specs.nodes.Exprs.{value_form};
 ghost use Rattle.lay_code.specs.nodes.Item.{function_tail};
-ghost use Rattle.lay_enclose.specs.Enclosed.{enclose_block, enclose_item, enclose_kind, part};
+ghost use Rattle.lay_paren_defs.specs.Enclosed.{enclose_block, enclose_item, enclose_kind, part};
 ghost use Rattle.lay_out_types.specs.Calls.{Adds};
 ghost use Rattle.lay_out_code.specs.Parts.{head_row, kind_row};
 
@@ -20,7 +20,6 @@ use crate::calls::{add_alias, add_bare_attr, add_enum, add_extern_crate, add_str
 use crate::heads::{Head, add_clause, add_ended, add_ended_clause, add_foreign_head, add_head};
 use crate::macros::{add_call_item, add_macro_rules};
 use lay_code::{Attr, Block, Boxed, Expr, FnHead, Item, ItemKind, ValueHead, Vis, Wheres};
-use lay_enclose::{AsIs, Enclose};
 use lay_out_exprs::flags::both;
 use lay_out_heads::calls::add_break;
 use lay_out_heads::items::{leads, open_head};
@@ -29,6 +28,7 @@ use lay_out_pats::add_attrs;
 use lay_out_tokens::HARD_BREAK;
 use lay_out_types::calls::{add_either, add_text};
 use lay_out_types::lists::add_end;
+use lay_paren_defs::{AsIs, Enclose};
 use lay_stream::Emit;
 
 /// Feeds the layout of an item, with its attributes, each on a line of its own.

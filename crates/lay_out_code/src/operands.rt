@@ -5,7 +5,7 @@ ghost use Rattle.lay_form.specs.Form.{Done};
 ghost use Rattle.lay_form.specs.Stream.{fed, stream_of};
 ghost use Rattle.lay_code.specs.nodes.Code.{about_field_expr, about_step};
 ghost use Rattle.lay_code.specs.nodes.Exprs.{operands_form, steps_form, targets_form};
-ghost use Rattle.lay_enclose.specs.Enclosed.{enclose_field, enclose_step, operand_part, part, target_part};
+ghost use Rattle.lay_paren_defs.specs.Enclosed.{enclose_field, enclose_step, operand_part, part, target_part};
 ghost use Rattle.lay_out_exprs.specs.Parts.{base_told, before_op, behind_op, field_told};
 ghost use Rattle.lay_out_types.specs.Calls.{Adds};
 ghost use Rattle.lay_out_pats.specs.PatternRows.{braces_opened};
@@ -13,7 +13,6 @@ ghost use Rattle.lay_out_types.specs.Rows.{comma_between, row};
 
 use crate::exprs::{add_expr, add_exprs, add_optional};
 use lay_code::{Boxed, Expr, FieldExpr, Op, Step};
-use lay_enclose::Enclose;
 use lay_out_exprs::add_generics;
 use lay_out_exprs::flags::either;
 use lay_out_exprs::operators::{add_assignment, add_operator};
@@ -21,6 +20,7 @@ use lay_out_exprs::steps::{add_step_break, is_method};
 use lay_out_pats::{add_attrs, add_brace};
 use lay_out_types::calls::{add_either, add_text, add_word};
 use lay_out_types::lists::{add_close, add_lead};
+use lay_paren_defs::Enclose;
 use lay_stream::Emit;
 
 /// The fields of a struct literal, behind what opens their braces.

@@ -6,7 +6,7 @@ use Rattle.lay_code.specs.nodes.Code.{about_expr}
 use Rattle.lay_code.specs.nodes.Exprs.{ExprFacts, end_form}
 use Rattle.lay_code.specs.declared.exprs.Expr.{Expr}
 use Rattle.lay_code.proofs.nodes.ExprsLaws.{expr_paren_is}
-use Rattle.lay_enclose.specs.Enclosed.{enclosed, part}
+use Rattle.lay_paren_defs.specs.Enclosed.{enclosed, part}
 
 -- a part in parentheses, and as it is
 pub enclosed_end : (d q : Bool) (x : Expr) → d ≡ true → false ≡ ends_behind_point q (about_expr (part d x)).form

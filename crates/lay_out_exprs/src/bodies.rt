@@ -4,18 +4,18 @@ ghost use Rattle.lay_layout.specs.Machine.{IsNested};
 ghost use Rattle.lay_code.specs.nodes.Bodies.{braces_of};
 ghost use Rattle.lay_code.specs.nodes.Code.{about_expr};
 ghost use Rattle.lay_code.specs.nodes.Exprs.{body_braces};
-ghost use Rattle.lay_enclose.specs.Enclosed.{body_part};
+ghost use Rattle.lay_paren_defs.specs.Enclosed.{body_part};
 ghost use Rattle.lay_out_types.specs.Calls.{Adds};
 ghost use Rattle.lay_out_exprs.specs.Bodies.{arm_closed, arm_opened, closure_closed, closure_opened, seen_as};
 
 use lay_code::Expr;
-use lay_enclose::{Enclose, is_body_enclosed};
 use lay_layout::{Break, Mark};
 use lay_ops::may_wear_braces;
 use lay_out_heads::calls::{add_break, add_inside};
 use lay_out_tokens::notation::{CLOSING_SOFT_BREAK, NEVER_BREAK, SOFT_BREAK};
 use lay_out_types::calls::add_text;
 use lay_out_types::lists::add_end;
+use lay_paren_defs::{Enclose, is_body_enclosed};
 use lay_stream::Emit;
 
 /// How the body of an arm or of a closure is laid out.

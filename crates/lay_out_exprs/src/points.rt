@@ -6,12 +6,12 @@ ghost use Rattle.lay_node.specs.nodes.Types.{about_path};
 ghost use Rattle.lay_node.specs.declared.types.PathStyle.TheVariants.{Code};
 ghost use Rattle.lay_code.specs.nodes.Code.{about_expr};
 ghost use Rattle.lay_code.specs.nodes.Exprs.{end_form};
-ghost use Rattle.lay_enclose.specs.Enclosed.{part};
+ghost use Rattle.lay_paren_defs.specs.Enclosed.{part};
 
 use crate::flags::both;
 use lay_code::{Boxed, Expr, Path, PathStart};
-use lay_enclose::Enclose;
 use lay_out_pats::is_pointed;
+use lay_paren_defs::Enclose;
 
 /// Whether an expression that is a part ends in a point, which it doesn't in parentheses. The flag says that one stands
 /// before it.

@@ -27,8 +27,8 @@ use Rattle.lay_code.specs.declared.conditions.Link.TheVariants as link
 use Rattle.lay_code.specs.declared.exprs.Expr.{Expr}
 use Rattle.lay_code.specs.declared.exprs.Place.{Place}
 use Rattle.lay_code.proofs.nodes.BlocksLaws.{arm_is, branch_is, condition_is, link_expr_is, link_let_is}
-use Rattle.lay_loose.specs.Loose.{loose_about}
-use Rattle.lay_loose.specs.Slots.{Any}
+use Rattle.lay_paren_defs.specs.loose.Loose.{loose_about}
+use Rattle.lay_paren_defs.specs.loose.Slots.{Any}
 use Rattle.lay_paren.specs.Least.{made_of}
 use Rattle.lay_paren.specs.Made.{Made, all, both, kept, one}
 use Rattle.lay_paren.specs.Parts.{arm_made, branch_made, condition_links, condition_made, link_made, links_made}

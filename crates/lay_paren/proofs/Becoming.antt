@@ -40,11 +40,11 @@ use Rattle.lay_code.specs.declared.item.Item.{Item}
 use Rattle.lay_code.specs.declared.item.ItemKind.{ItemKind}
 use Rattle.lay_code.specs.declared.item.ItemKind.TheVariants as kind
 use Rattle.lay_code.specs.declared.operators.Op.{Op}
-use Rattle.lay_loose.specs.Slots.{Any, BeforeElse, Optional, Prefixed, Slot, fits}
+use Rattle.lay_paren_defs.specs.loose.Slots.{Any, BeforeElse, Optional, Prefixed, Slot, fits}
 use Rattle.lay_paren.specs.InPlace.{arm_least, base_least, block_least, block_or_none_least, branch_least, condition_least, exprs_least, field_least, first_place, free_least, item_least, kind_least, least_in, link_least, links_from, links_least, operand_least, operands_least, parts_least, step_least, stmt_least, targets_least, value_slot}
 use Rattle.lay_paren.specs.Least.{chosen, least, made_of, wrapped}
 use Rattle.lay_form.specs.Depth.{least_depth}
-use Rattle.lay_depth_nodes.specs.Depths.{counted}
+use Rattle.lay_depth.specs.nodes.Depths.{counted}
 use Rattle.lay_paren.specs.Made.{Made, all}
 use Rattle.lay_paren.specs.Nodes.{arm_parts, expr_parts, field_parts, kind_parts, link_parts, step_parts, stmt_parts, made_arm, made_block, made_branch, made_condition, made_field, made_item, made_kind, made_link, made_step, made_stmt}
 use Rattle.lay_paren.specs.Parts.{Linked, Placed, arm_made, field_made, kind_made, link_made, step_made, stmt_made, base_place, base_slot, break_slot, condition_links, expr_made, free_made, level_by, links_made, operand_at, operands_made, targets_made}

@@ -23,7 +23,7 @@ use Rattle.lay_code.specs.declared.blocks.Stmt.TheViews as views
 use Rattle.lay_code.specs.declared.exprs.Expr.{Expr}
 use Rattle.lay_code.specs.declared.item.Item.{Item}
 use Rattle.lay_code.proofs.nodes.BlocksLaws.{block_is, stmt_expr_is, stmt_item_is, stmt_let_is}
-use Rattle.lay_loose.specs.Slots.{Any, BeforeElse}
+use Rattle.lay_paren_defs.specs.loose.Slots.{Any, BeforeElse}
 use Rattle.lay_paren.specs.Least.{made_of}
 use Rattle.lay_paren.specs.Made.{Made, all, both, kept, one}
 use Rattle.lay_paren.specs.Parts.{block_made, stmt_made}

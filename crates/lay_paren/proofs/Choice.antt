@@ -12,8 +12,8 @@ use Rattle.lay_code.specs.declared.exprs.Expr.TheVariants as expr
 use Rattle.lay_code.specs.declared.exprs.Place.{Place}
 use Rattle.lay_code.proofs.nodes.ExprsLaws.{expr_paren_is}
 use Rattle.lay_code.proofs.nodes.PlacesTable.{paren_row}
-use Rattle.lay_loose.specs.Slots.{Any, Slot, fits, slot_fits}
-use Rattle.lay_loose.proofs.SlotLemmas.{paren_fits}
+use Rattle.lay_paren_defs.specs.loose.Slots.{Any, Slot, fits, slot_fits}
+use Rattle.lay_paren_defs.proofs.loose_lemmas.SlotLemmas.{paren_fits}
 use Rattle.lay_paren.specs.Least.{chosen, wrapped}
 use Rattle.lay_paren.specs.Made.{Made, all, both, kept, one}
 

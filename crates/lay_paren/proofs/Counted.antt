@@ -15,7 +15,7 @@ use Rattle.lay_code.specs.declared.exprs.Place.{Place}
 use Rattle.lay_code.specs.declared.exprs.Step.{Step}
 use Rattle.lay_code.specs.declared.item.Item.{Item}
 use Rattle.lay_code.specs.declared.item.ItemKind.{ItemKind}
-use Rattle.lay_loose.specs.Slots.{Slot}
+use Rattle.lay_paren_defs.specs.loose.Slots.{Slot}
 use Rattle.lay_paren.specs.LeftOut.{own}
 use Rattle.lay_paren.specs.Least.{made_of}
 use Rattle.lay_paren.specs.Made.{Made}

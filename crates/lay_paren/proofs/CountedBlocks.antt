@@ -23,7 +23,7 @@ use Rattle.lay_code.specs.declared.exprs.Step.TheVariants as step
 use Rattle.lay_code.specs.declared.item.Item.{Item}
 use Rattle.lay_code.specs.declared.item.ItemKind.{ItemKind}
 use Rattle.lay_code.specs.declared.item.ItemKind.TheVariants as kind
-use Rattle.lay_loose.specs.Slots.{Any, BeforeElse}
+use Rattle.lay_paren_defs.specs.loose.Slots.{Any, BeforeElse}
 use Rattle.lay_paren.specs.LeftOut.{own}
 use Rattle.lay_paren.specs.Least.{made_of}
 use Rattle.lay_paren.specs.Made.{Made, all, both, kept, one}

@@ -17,7 +17,7 @@ use Rattle.lay_code.specs.declared.exprs.FieldExpr.{FieldExpr}
 use Rattle.lay_code.specs.declared.exprs.Place.{Place}
 use Rattle.lay_code.specs.declared.exprs.Step.{Step}
 use Rattle.lay_code.specs.declared.operators.Op.{Op}
-use Rattle.lay_loose.specs.Slots.{Any, Optional, Prefixed, Slot, fits}
+use Rattle.lay_paren_defs.specs.loose.Slots.{Any, Optional, Prefixed, Slot, fits}
 use Rattle.lay_paren.specs.LeftOut.{own, own_made}
 use Rattle.lay_paren.specs.Least.{least_made, made_of, wrapped}
 use Rattle.lay_paren.specs.Made.{Made, all, both, kept, one}

@@ -7,7 +7,7 @@ use Rattle.lay_code.specs.declared.blocks.Stmt.TheOpen.{Arm-F, Block-F, Branch-F
 use Rattle.lay_code.specs.declared.blocks.Stmt.TheViews as views
 use Rattle.lay_code.specs.declared.exprs.Expr.{Expr}
 use Rattle.lay_code.specs.declared.exprs.Place.{Place}
-use Rattle.lay_loose.specs.Slots.{Any}
+use Rattle.lay_paren_defs.specs.loose.Slots.{Any}
 use Rattle.lay_paren.specs.LeftOut.{left_out, own_made}
 use Rattle.lay_paren.specs.Least.{cuts, least, made_of}
 use Rattle.lay_paren.specs.Made.{Made}

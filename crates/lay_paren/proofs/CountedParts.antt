@@ -4,7 +4,7 @@ use Rattle.lay_code.specs.nodes.Places.{FREE, before_op}
 use Rattle.lay_code.specs.declared.exprs.Expr.{Expr}
 use Rattle.lay_code.specs.declared.exprs.Place.{Place}
 use Rattle.lay_code.specs.declared.operators.Op.{Op}
-use Rattle.lay_loose.specs.Slots.{Any}
+use Rattle.lay_paren_defs.specs.loose.Slots.{Any}
 use Rattle.lay_paren.specs.LeftOut.{own}
 use Rattle.lay_paren.specs.Least.{made_of}
 use Rattle.lay_paren.specs.Made.{Made, all, both, one}

@@ -11,7 +11,7 @@ use Rattle.lay_code.specs.declared.blocks.Stmt.TheOpen.{Expr-F}
 use Rattle.lay_code.specs.declared.exprs.Expr.{Expr}
 use Rattle.lay_code.specs.declared.exprs.Expr.TheVariants as expr
 use Rattle.lay_code.proofs.nodes.ExprsLaws as laws
-use Rattle.lay_loose.specs.Slots.{Any, BeforeIndex, Optional, Prefixed}
+use Rattle.lay_paren_defs.specs.loose.Slots.{Any, BeforeIndex, Optional, Prefixed}
 use Rattle.lay_paren.specs.Least.{least_made, made_of}
 use Rattle.lay_paren.specs.Parts.{base_place, base_slot, break_slot, operands_made, targets_made}
 use Rattle.lay_paren.proofs.ExprStands.{made_operands, made_steps, made_targets, told_steps}

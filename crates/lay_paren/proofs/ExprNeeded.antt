@@ -22,7 +22,7 @@ use Rattle.lay_code.specs.declared.exprs.Place.{Place}
 use Rattle.lay_code.specs.declared.exprs.Step.{Step}
 use Rattle.lay_code.specs.declared.operators.Op.{Op}
 use Rattle.lay_code.proofs.nodes.ExprsLaws as laws
-use Rattle.lay_loose.specs.Slots.{Any, BeforeIndex, Optional, Prefixed, Slot, slot_fits}
+use Rattle.lay_paren_defs.specs.loose.Slots.{Any, BeforeIndex, Optional, Prefixed, Slot, slot_fits}
 use Rattle.lay_paren.specs.Least.{least_made, made_of}
 use Rattle.lay_paren.specs.Made.{both, kept, Made, one}
 use Rattle.lay_paren.specs.Parts.{base_place, base_slot, break_slot, expr_made, free_made, level_by, operand_at, operands_made, Placed, postfix_made, targets_made}

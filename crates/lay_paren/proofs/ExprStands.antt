@@ -23,9 +23,9 @@ use Rattle.lay_code.specs.declared.exprs.Step.{Step}
 use Rattle.lay_code.specs.declared.operators.Op.{Op}
 use Rattle.lay_code.proofs.nodes.ExprsLaws as laws
 use Rattle.lay_code.proofs.nodes.PlacesTable as table
-use Rattle.lay_loose.specs.Loose.{meets_rules, loose_about, shielded_facts}
-use Rattle.lay_loose.specs.Slots.{Any, BeforeIndex, Optional, Prefixed, Slot, Unlabelled, slot_fits}
-use Rattle.lay_loose.proofs.SlotLemmas.{and_false}
+use Rattle.lay_paren_defs.specs.loose.Loose.{meets_rules, loose_about, shielded_facts}
+use Rattle.lay_paren_defs.specs.loose.Slots.{Any, BeforeIndex, Optional, Prefixed, Slot, Unlabelled, slot_fits}
+use Rattle.lay_paren_defs.proofs.loose_lemmas.SlotLemmas.{and_false}
 use Rattle.lay_paren.specs.Least.{least_made, made_of}
 use Rattle.lay_paren.specs.Made.{Made, all}
 use Rattle.lay_paren.specs.Parts.{base_place, base_slot, expr_made, free_made, operand_at, operands_made, Placed, targets_made}

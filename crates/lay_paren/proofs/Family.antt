@@ -5,7 +5,7 @@ use Rattle.lay_code.specs.declared.blocks.Stmt.TheFolds as fold
 use Rattle.lay_code.specs.declared.blocks.Stmt.TheOpen.{Arm-F, Block-F, Branch-F, Condition-F, Expr-F, FieldExpr-F, Item-F, ItemKind-F, Link-F, Step-F, Stmt-F}
 use Rattle.lay_code.specs.declared.blocks.Stmt.TheViews as views
 use Rattle.lay_code.specs.declared.exprs.Expr.{Expr}
-use Rattle.lay_loose.specs.Loose.{shielded_facts}
+use Rattle.lay_paren_defs.specs.loose.Loose.{shielded_facts}
 use Rattle.lay_paren.specs.Erased.{without_parens}
 use Rattle.lay_paren.specs.Least.{least_made}
 use Rattle.lay_paren.proofs.Arms.{arm_step, branch_step, condition_step, link_step}

@@ -26,7 +26,7 @@ use Rattle.lay_code.specs.declared.item.Item.{Item}
 use Rattle.lay_code.specs.declared.item.ItemKind.{ItemKind}
 use Rattle.lay_code.specs.declared.item.ItemKind.TheVariants as kind
 use Rattle.lay_code.proofs.nodes.ItemLaws as laws
-use Rattle.lay_loose.specs.Slots.{Any}
+use Rattle.lay_paren_defs.specs.loose.Slots.{Any}
 use Rattle.lay_paren.specs.Least.{made_of}
 use Rattle.lay_paren.specs.Made.{Made, all, kept, one}
 use Rattle.lay_paren.specs.Parts.{item_made, kind_made}

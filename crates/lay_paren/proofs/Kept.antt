@@ -23,8 +23,8 @@ use Rattle.lay_code.specs.declared.exprs.Place.{Place}
 use Rattle.lay_code.specs.declared.exprs.Step.{Step}
 use Rattle.lay_code.specs.declared.item.Item.{Item}
 use Rattle.lay_code.specs.declared.item.ItemKind.{ItemKind}
-use Rattle.lay_loose.specs.Loose.{loose_about}
-use Rattle.lay_loose.specs.Slots.{Any, Slot}
+use Rattle.lay_paren_defs.specs.loose.Loose.{loose_about}
+use Rattle.lay_paren_defs.specs.loose.Slots.{Any, Slot}
 use Rattle.lay_paren.specs.Erased.{erase}
 use Rattle.lay_paren.specs.Least.{made_of}
 use Rattle.lay_paren.specs.Made.{Made}

@@ -12,7 +12,7 @@ use Rattle.lay_code.specs.declared.exprs.Expr.{Expr}
 use Rattle.lay_code.specs.declared.exprs.Expr.TheVariants as expr
 use Rattle.lay_code.specs.declared.exprs.Place.{Place}
 use Rattle.lay_code.proofs.nodes.ExprsLaws.{expr_paren_is}
-use Rattle.lay_loose.specs.Slots.{Any, BeforeElse, BeforeIndex, Optional, Prefixed, Slot, Unlabelled, fits, slot_fits}
+use Rattle.lay_paren_defs.specs.loose.Slots.{Any, BeforeElse, BeforeIndex, Optional, Prefixed, Slot, Unlabelled, fits, slot_fits}
 use Rattle.lay_paren.specs.Least.{chosen, least_made, wrapped}
 use Rattle.lay_paren.specs.Made.{Made}
 use Rattle.lay_paren.specs.Parts.{Parts, Placed, expr_made}

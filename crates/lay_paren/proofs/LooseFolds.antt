@@ -21,7 +21,7 @@ use Rattle.lay_code.specs.declared.exprs.FieldExpr.{FieldExpr}
 use Rattle.lay_code.specs.declared.exprs.Step.{Step}
 use Rattle.lay_code.specs.declared.item.Item.{Item}
 use Rattle.lay_code.specs.declared.item.ItemKind.{ItemKind}
-use Rattle.lay_loose.specs.Loose.{loose_about, shielded_facts}
+use Rattle.lay_paren_defs.specs.loose.Loose.{loose_about, shielded_facts}
 
 abbrev pub loose_stmt : Stmt → StmtFacts
 loose_stmt = fold.fold-Stmt StmtFacts LinkFacts ExprFacts Facts StepFacts KindFacts ArmFacts BlockFacts BranchFacts ConditionFacts ItemFacts

@@ -19,7 +19,7 @@ use Rattle.lay_code.specs.declared.operators.Op.{Op}
 use Rattle.lay_code.specs.declared.operators.Prefix.{Prefix}
 use Rattle.lay_code.proofs.nodes.ExprsLaws.{behind_op, expr_assign_is, expr_break_is, expr_cast_is, expr_chain_is, expr_closure_is, expr_postfix_is, expr_range_is, expr_return_is, expr_unary_is}
 use Rattle.lay_code.proofs.nodes.Layers.{expr_is, expr_told}
-use Rattle.lay_loose.specs.Slots.{Any, Optional, Prefixed}
+use Rattle.lay_paren_defs.specs.loose.Slots.{Any, Optional, Prefixed}
 use Rattle.lay_paren.specs.Made.{all}
 use Rattle.lay_paren.proofs.Choice.{refuted}
 use Rattle.lay_paren.specs.Parts.{Parts, angle_next, base_place, base_slot, break_slot, expr_made, level_by, may_at, operands_made, targets_made}

@@ -36,7 +36,7 @@ use Rattle.lay_code.specs.declared.exprs.Step.{Step}
 use Rattle.lay_code.specs.declared.operators.Op.{Op}
 use Rattle.lay_code.specs.declared.operators.Prefix.{Prefix}
 use Rattle.lay_code.proofs.nodes.ExprsLaws as laws
-use Rattle.lay_loose.specs.Slots.{Optional, Prefixed, slot_fits}
+use Rattle.lay_paren_defs.specs.loose.Slots.{Optional, Prefixed, slot_fits}
 use Rattle.lay_code.proofs.nodes.PlacesTable as table
 
 -- Nothing is asked of a root in FREE.

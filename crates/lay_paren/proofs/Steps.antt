@@ -15,7 +15,7 @@ use Rattle.lay_code.specs.declared.exprs.FieldExpr.TheVariants as field
 use Rattle.lay_code.specs.declared.exprs.Step.{Step}
 use Rattle.lay_code.specs.declared.exprs.Step.TheVariants as step
 use Rattle.lay_code.proofs.nodes.ExprsLaws as laws
-use Rattle.lay_loose.specs.Slots.{Any}
+use Rattle.lay_paren_defs.specs.loose.Slots.{Any}
 use Rattle.lay_paren.specs.Erased.{erase}
 use Rattle.lay_paren.specs.Least.{made_of}
 use Rattle.lay_paren.specs.Parts.{field_made, free_made, step_made}

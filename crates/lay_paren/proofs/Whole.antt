@@ -11,9 +11,9 @@ use Rattle.lay_code.specs.declared.exprs.Expr.{Expr}
 use Rattle.lay_code.specs.declared.exprs.Expr.TheVariants as expr
 use Rattle.lay_code.specs.declared.exprs.Place.{Place}
 use Rattle.lay_code.proofs.nodes.ExprsLaws as laws
-use Rattle.lay_loose.specs.Loose.{shielded_facts}
-use Rattle.lay_loose.specs.Slots.{Any, Optional, Prefixed, fits}
-use Rattle.lay_loose.proofs.SlotLemmas.{whole_fits}
+use Rattle.lay_paren_defs.specs.loose.Loose.{shielded_facts}
+use Rattle.lay_paren_defs.specs.loose.Slots.{Any, Optional, Prefixed, fits}
+use Rattle.lay_paren_defs.proofs.loose_lemmas.SlotLemmas.{whole_fits}
 use Rattle.lay_paren.specs.Least.{chosen, least_made, made_of, wrapped}
 use Rattle.lay_paren.specs.Made.{Made}
 use Rattle.lay_paren.specs.Parts.{base_place, base_slot, break_slot, expr_made, free_made, operands_made, targets_made}

@@ -3,7 +3,7 @@ use Rattle.std.specs.Prelude.{Bool, true, false}
 use Rattle.lay_code.specs.Operands as operands
 use Rattle.lay_code.specs.nodes.Code.{about_expr}
 use Rattle.lay_code.specs.declared.exprs.Expr.{Expr}
-use Rattle.lay_loose.specs.Slots.{Any, BeforeIndex, Slot}
+use Rattle.lay_paren_defs.specs.loose.Slots.{Any, BeforeIndex, Slot}
 use Rattle.lay_ops.specs.Leads.{told}
 use Rattle.lay_paren.specs.InPlace.{least_in}
 use Rattle.lay_paren.specs.declared.leads.Edge.{Edge}

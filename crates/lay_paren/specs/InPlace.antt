@@ -18,8 +18,8 @@ use Rattle.lay_code.specs.declared.exprs.Step.{Step}
 use Rattle.lay_code.specs.declared.item.Item.{Item}
 use Rattle.lay_code.specs.declared.item.ItemKind.{ItemKind}
 use Rattle.lay_code.specs.declared.operators.Op.{Op}
-use Rattle.lay_loose.specs.Slots as of
-use Rattle.lay_loose.specs.Slots.{Any}
+use Rattle.lay_paren_defs.specs.loose.Slots as of
+use Rattle.lay_paren_defs.specs.loose.Slots.{Any}
 use Rattle.lay_paren.specs.Least.{made_of}
 use Rattle.lay_paren.specs.Nodes.{expr_parts, made_arm, made_block, made_branch, made_condition, made_field, made_item, made_kind, made_link, made_step, made_stmt}
 use Rattle.lay_paren.specs.Parts.{angle_next, expr_made, level_by, operand_at}

@@ -16,7 +16,7 @@ use Rattle.lay_code.specs.declared.exprs.Place.{Place}
 use Rattle.lay_code.specs.declared.exprs.Step.{Step}
 use Rattle.lay_code.specs.declared.item.Item.{Item}
 use Rattle.lay_code.specs.declared.item.ItemKind.{ItemKind}
-use Rattle.lay_loose.specs.Slots.{Any, Slot, fits}
+use Rattle.lay_paren_defs.specs.loose.Slots.{Any, Slot, fits}
 use Rattle.lay_paren.specs.Made.{Made}
 use Rattle.lay_paren.specs.Parts.{Linked, Parts, Placed, arm_made, block_made, branch_made, condition_made, expr_made, field_made, item_made, kind_made, link_made, step_made, stmt_made}
 

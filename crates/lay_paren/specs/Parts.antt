@@ -27,7 +27,7 @@ use Rattle.lay_code.specs.declared.item.Item.{Item}
 use Rattle.lay_code.specs.declared.item.ItemKind.{ItemKind}
 use Rattle.lay_code.specs.declared.item.ItemKind.TheVariants as kind
 use Rattle.lay_code.specs.declared.operators.Op.{Op}
-use Rattle.lay_loose.specs.Slots.{Any, BeforeElse, BeforeIndex, Optional, Prefixed, Slot, Unlabelled}
+use Rattle.lay_paren_defs.specs.loose.Slots.{Any, BeforeElse, BeforeIndex, Optional, Prefixed, Slot, Unlabelled}
 use Rattle.lay_paren.specs.Made.{Made, all, both, kept, may_be, one}
 
 -- ---- what stands in a node, where this is made of the nodes within it

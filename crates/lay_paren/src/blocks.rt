@@ -1,7 +1,7 @@
 //! Blocks, statements, branches and arms.
 ghost use Rattle.std.specs.Prelude.{◌≡◌, OnOk, map};
 ghost use Rattle.lay_code.specs.nodes.Places.{FREE};
-ghost use Rattle.lay_loose.specs.Slots.{BeforeElse};
+ghost use Rattle.lay_paren_defs.specs.loose.Slots.{BeforeElse};
 ghost use Rattle.lay_paren.specs.InPlace.{arm_least, block_least, block_or_none_least, branch_least, least_in, operand_least, stmt_least, value_slot};
 
 use crate::conditions::place_condition;
@@ -9,8 +9,8 @@ use crate::exprs::{enclose, place_expr, place_operand, place_parts};
 use crate::items::place_item;
 use crate::slots::Slot;
 use lay_code::{Arm, Block, Boxed, Branch, Expr, Stmt};
-use lay_ends::may_precede_else;
 use lay_ops::places::{FREE, STATEMENT};
+use lay_ops_ends::may_precede_else;
 use lay_token::{List, NoMemory};
 use std::alloc::Global;
 

@@ -6,7 +6,7 @@ ghost use Rattle.lay_code.specs.nodes.Code.{about_expr};
 ghost use Rattle.lay_code.specs.nodes.Exprs.{placed};
 ghost use Rattle.lay_code.specs.declared.exprs.Expr.{Expr};
 ghost use Rattle.lay_code.specs.declared.exprs.Place.{Place};
-ghost use Rattle.lay_loose.specs.Loose.{meets_rules};
+ghost use Rattle.lay_paren_defs.specs.loose.Loose.{meets_rules};
 ghost use Rattle.lay_paren.specs.Erased.{erase};
 ghost use Rattle.lay_paren.specs.Least.{cuts, least};
 ghost use Rattle.lay_paren.specs.LeftOut.{left_out};

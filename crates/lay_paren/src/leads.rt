@@ -3,7 +3,7 @@ ghost use Rattle.std.specs.Prelude.{◌≡◌, ◌<◌};
 ghost use Rattle.lay_code.specs.nodes.Code.{about_expr};
 ghost use Rattle.lay_code.specs.nodes.Exprs.{label_or};
 ghost use Rattle.lay_code.specs.declared.exprs.Expr.{size-Expr};
-ghost use Rattle.lay_loose.specs.Slots.{fits};
+ghost use Rattle.lay_paren_defs.specs.loose.Slots.{fits};
 ghost use Rattle.lay_ops.specs.Leads.{told};
 ghost use Rattle.lay_paren.specs.Edges.{IfPart, begun, left_slot};
 ghost use Rattle.lay_paren.specs.InPlace.{parts_least};

@@ -2,7 +2,7 @@
 ghost use Rattle.std.specs.Prelude.{◌≡◌, not, ◌&&◌};
 ghost use Rattle.lay_code.specs.nodes.Code.{about_expr};
 ghost use Rattle.lay_code.specs.nodes.Exprs.{is_prefix_lead, is_brace_lead, is_label_lead};
-ghost use Rattle.lay_loose.specs.Slots.{fits, slot_fits};
+ghost use Rattle.lay_paren_defs.specs.loose.Slots.{fits, slot_fits};
 ghost use Rattle.lay_paren.specs.InPlace.{parts_least, slot_of};
 ghost use Rattle.lay_ops.specs.Leads.{told};
 

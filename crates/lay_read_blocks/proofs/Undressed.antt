@@ -40,7 +40,7 @@ use Rattle.lay_code.proofs.reader.ClosureBodies.{shed_bare, shed_strips}
 use Rattle.lay_code.proofs.reader.Dressed.{IsAlone, Lone, Stays, alone_block, is_alone, same_bare}
 use Rattle.lay_code.proofs.reader.ExprSoundLeads.{code_led}
 use Rattle.lay_read_tokens.proofs.Left.{Leaves, Left, attributes_left, passed_left, Passes}
-use Rattle.lay_ends.specs.Bodies.{IsBare, IsShed}
+use Rattle.lay_ops_ends.specs.Bodies.{IsBare, IsShed}
 use Rattle.lay_read_shared.proofs.BlocksLeft.{LeftCode, in_block_left, semicolons_left}
 use Rattle.lay_read_shared.proofs.Left.{in_left}
 

@@ -34,8 +34,8 @@ use Rattle.lay_code.specs.declared.exprs.Place.{Place}
 use Rattle.lay_code.specs.declared.item.Item.{Item}
 use Rattle.lay_code.specs.declared.operators.Op.{Op}
 use Rattle.lay_code.specs.declared.operators.Op.TheVariants as op
-use Rattle.lay_alone.specs.ArmFronts.{arm_alone, body_begun}
-use Rattle.lay_alone.specs.Fronts.{stmt_alone}
+use Rattle.lay_read_shared.specs.alone.ArmFronts.{arm_alone, body_begun}
+use Rattle.lay_read_shared.specs.alone.Fronts.{stmt_alone}
 use Rattle.lay_ops.specs.declared.operands.ExprLead.{ExprLead}
 use Rattle.lay_ops.specs.declared.operands.ExprLead.TheVariants as lead
 use Rattle.lay_read_tokens.specs.Answers.{IsFound}

@@ -1,6 +1,6 @@
 //! Statements and arms by themselves.
 ghost use Rattle.std.specs.Prelude.{◌≡◌, ◌+◌, ◌≤◌, if◌then◌else◌, Some, None, IfOk};
-ghost use Rattle.lay_alone.specs.ArmFronts.{alone_end};
+ghost use Rattle.lay_read_shared.specs.alone.ArmFronts.{alone_end};
 ghost use Rattle.lay_read_tokens.specs.Answers.{IsFound};
 ghost use Rattle.lay_read_shared.specs.Code.{code_within};
 ghost use Rattle.lay_read_blocks.specs.Answers.{AreCode, deeper_arm, deeper_stmt};

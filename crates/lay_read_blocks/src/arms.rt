@@ -8,17 +8,17 @@ ghost use Rattle.lay_code.specs.nodes.Places.{FREE as free};
 ghost use Rattle.lay_code.specs.reader.Blocks as reader;
 ghost use Rattle.lay_code.specs.reader.Code.{expr_at};
 ghost use Rattle.lay_code.specs.reader.Exprs as exprs;
-ghost use Rattle.lay_alone.specs.ArmFronts.{arm_begun, body_begun};
+ghost use Rattle.lay_read_shared.specs.alone.ArmFronts.{arm_begun, body_begun};
 ghost use Rattle.lay_read_tokens.specs.Answers.{IsFound};
-ghost use Rattle.lay_ends.specs.Bodies.{IsBare};
+ghost use Rattle.lay_ops_ends.specs.Bodies.{IsBare};
 ghost use Rattle.lay_read_shared.specs.Code.{code_within};
 ghost use Rattle.lay_read_blocks.specs.Answers.{AreCode, arm_behind, fits};
 
 use crate::rules::BlockRules;
 use lay_code::{Arm, Attr, Block, Boxed, Expr, Item, Pat, PatPlace, Place, Site, Stmt};
-use lay_ends::undressed;
 use lay_ops::places::{FREE, STATEMENT, plain};
 use lay_ops::{is_free, is_lone_body};
+use lay_ops_ends::undressed;
 use lay_read_parts::joins::{both, refused};
 use lay_read_parts::loops::Part;
 use lay_read_pats::pat_ahead;
@@ -112,7 +112,7 @@ impl<
     }
 
     /// An arm. What is within it is read at the depth of these rules, and it needs one more at the most.
-    #[tactic(auto, using(lay_alone::proofs::ArmBegun::arm_by_is))]
+    #[tactic(auto, using(lay_read_shared::proofs::alone_lemmas::ArmBegun::arm_by_is))]
     #[inline(never)]
     fn arm_by(&self, at: &mut Ahead<'_>, _depth: u32) -> Result<Found<Arm>, ReadNone>
         requires { AreCode self.now.depth (P.pre self.now.exprs) (P.post self.now.exprs)
@@ -130,7 +130,7 @@ impl<
     }
 
     /// An arm up to its comma, and whether it may lack that by its body.
-    #[tactic(auto, unfolding(lay_alone::specs::ArmFronts::arm_begun))]
+    #[tactic(auto, unfolding(lay_read_shared::specs::alone::ArmFronts::arm_begun))]
     #[inline(never)]
     pub fn arm_begun(&self, at: &mut Ahead<'_>) -> Result<Found<(Arm, bool)>, ReadNone>
         requires { AreCode self.now.depth (P.pre self.now.exprs) (P.post self.now.exprs)

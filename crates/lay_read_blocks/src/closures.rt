@@ -6,16 +6,16 @@ ghost use Rattle.lay_code.specs.nodes.Bodies.{sheds};
 ghost use Rattle.lay_code.specs.nodes.Code.{about_expr};
 ghost use Rattle.lay_code.specs.reader.Blocks.{body_need};
 ghost use Rattle.lay_code.specs.reader.Exprs as exprs;
-ghost use Rattle.lay_ends.specs.Bodies.{IsShed};
+ghost use Rattle.lay_ops_ends.specs.Bodies.{IsShed};
 ghost use Rattle.lay_read_tokens.specs.Answers.{AreFound, IsFound, IsHeld};
 ghost use Rattle.lay_read_shared.specs.Code.{code_within};
 ghost use Rattle.lay_read_blocks.specs.Answers.{AreCode, fits, typed_closure};
 
 use crate::rules::BlockRules;
 use lay_code::{Block, Boxed, ClosureParam, Expr, Item, PatPlace, Place, Site, TypePlace};
-use lay_ends::shed;
 use lay_ops::places::plain;
 use lay_ops::sheds;
+use lay_ops_ends::shed;
 use lay_read_parts::joins::{both, refused};
 use lay_read_parts::loops::{Closer, Part, read_elements};
 use lay_read_pats::pat_ahead;

@@ -12,9 +12,9 @@ ghost use Rattle.lay_read_blocks.specs.Answers.{AreCode, let_behind, let_head, l
 use crate::front::begins_item;
 use crate::rules::BlockRules;
 use lay_code::{Attr, Block, Boxed, Expr, Item, Pat, PatPlace, Place, Site, Stmt, Ty};
-use lay_ends::may_precede_else;
 use lay_ops::is_call;
 use lay_ops::places::STATEMENT;
+use lay_ops_ends::may_precede_else;
 use lay_read_parts::joins::{both, refused};
 use lay_read_pats::pat_ahead;
 use lay_read_shared::types::type_if;

@@ -12,8 +12,8 @@ use Rattle.lay_code.specs.declared.blocks.Stmt.{Stmt}
 use Rattle.lay_code.specs.declared.exprs.Expr.{Expr}
 use Rattle.lay_code.specs.declared.exprs.Place.{Place}
 use Rattle.lay_code.proofs.reader.Followed.{followed_deeper}
-use Rattle.lay_alone.specs.ArmFronts.{ArmFront, arm_follows, arm_shape}
-use Rattle.lay_alone.specs.Fronts.{BlockFront, StmtFront, block_told, stmt_told}
+use Rattle.lay_read_shared.specs.alone.ArmFronts.{ArmFront, arm_follows, arm_shape}
+use Rattle.lay_read_shared.specs.alone.Fronts.{BlockFront, StmtFront, block_told, stmt_told}
 use Rattle.lay_read_parts.proofs.AtFront.{front_deeper}
 
 pub expr_lifts : (place : Place) (x : Expr) (ts : Tokens) (n m depth : ℕ) → m ≤ depth → ExprFront place (about_expr x) ts n m

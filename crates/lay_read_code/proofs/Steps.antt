@@ -27,8 +27,8 @@ use Rattle.lay_read_head_rules.proofs.UseSteps.{deeper}
 use Rattle.lay_read_types.proofs.Steps.{above_zero}
 use Rattle.lay_node.specs.reader.Functions.{insides}
 use Rattle.lay_node.specs.reader.Use.{use_at}
-use Rattle.lay_alone.specs.ArmFronts.{alone_arm}
-use Rattle.lay_alone.specs.Fronts.{alone, stmt_alone}
+use Rattle.lay_read_shared.specs.alone.ArmFronts.{alone_arm}
+use Rattle.lay_read_shared.specs.alone.Fronts.{alone, stmt_alone}
 use Rattle.lay_code.specs.reader.Blocks.{block_by}
 use Rattle.lay_read_shared.specs.Code.{code_within}
 use Rattle.lay_read_blocks.specs.Answers.{deeper_arm, deeper_stmt}

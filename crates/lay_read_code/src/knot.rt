@@ -10,7 +10,7 @@ ghost use Rattle.lay_read_code.specs.Begun.{IsBoxed, block_kind, deeper, items_k
 
 use crate::begun::{Begun, read_begun};
 use crate::bodies::{Body, body_of, with_block, with_items, with_value};
-use lay_climb::Climber;
+use crate::climbing::Climber;
 use lay_code::{Attr, Block, Boxed, Expr, Item, ItemKind, Place, Site, Vis};
 use lay_read_blocks::BlockRules;
 use lay_read_exprs::ExprRules;

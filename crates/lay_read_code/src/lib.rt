@@ -14,6 +14,7 @@
 
 mod begun;
 mod bodies;
+pub mod climbing;
 mod file;
 mod knot;
 mod leads;

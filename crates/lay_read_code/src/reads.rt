@@ -4,8 +4,8 @@ ghost use Rattle.lay_code.specs.nodes.Code.{about_expr, about_item};
 ghost use Rattle.lay_code.specs.nodes.Exprs.{ExprFront};
 ghost use Rattle.lay_code.specs.declared.exprs.Expr.{Expr as ExprValue};
 ghost use Rattle.lay_code.specs.declared.item.Item.{Item as ItemValue};
-ghost use Rattle.lay_alone.specs.ArmFronts.{ArmFront, alone_arm};
-ghost use Rattle.lay_alone.specs.Fronts.{BlockFront, StmtFront, alone, stmt_alone};
+ghost use Rattle.lay_read_shared.specs.alone.ArmFronts.{ArmFront, alone_arm};
+ghost use Rattle.lay_read_shared.specs.alone.Fronts.{BlockFront, StmtFront, alone, stmt_alone};
 ghost use Rattle.lay_read_tokens.specs.Answers.{AreLexed, IsFound};
 ghost use Rattle.lay_read_parts.specs.Answers.{IsReadAt};
 

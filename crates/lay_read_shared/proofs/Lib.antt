@@ -5,3 +5,4 @@ pub mod HeadsLeft
 pub mod ItemsLeft
 pub mod Left
 pub mod UseLeft
+pub mod alone_lemmas

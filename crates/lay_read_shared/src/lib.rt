@@ -5,6 +5,7 @@
 //! and a node has a token at least. So each loop of those readers ends.
 #![tactic(auto)]
 
+pub mod alone;
 pub mod boxes;
 pub mod loops;
 pub mod types;

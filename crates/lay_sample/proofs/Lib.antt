@@ -1,2 +1,3 @@
 mod Lines
 mod More
+pub mod counting_lemmas

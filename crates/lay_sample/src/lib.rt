@@ -5,6 +5,7 @@
 //! and a number of items name the same bytes everywhere. It stands on `itoa` for the digits of numbers.
 #![tactic(auto)]
 
+pub mod counting;
 mod draws;
 mod items;
 mod samples;

@@ -5,8 +5,8 @@ use Rattle.lay_code.specs.declared.blocks.Stmt.TheOpen.{Expr-F}
 use Rattle.lay_code.specs.declared.blocks.Stmt.TheViews as views
 use Rattle.lay_code.specs.declared.exprs.Expr.{Expr}
 use Rattle.lay_code.specs.declared.exprs.Expr.TheVariants as expr
-use Rattle.lay_enclose.specs.Enclosed.{part, shell}
-use Rattle.lay_enclose.proofs.ShellLemmas.{shell_is}
+use Rattle.lay_paren_defs.specs.Enclosed.{part, shell}
+use Rattle.lay_paren_defs.proofs.ShellLemmas.{shell_is}
 
 -- ---- equal trees
 

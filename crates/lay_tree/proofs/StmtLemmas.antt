@@ -8,7 +8,7 @@ use Rattle.lay_code.specs.declared.blocks.Stmt.TheVariants as stmt
 use Rattle.lay_code.specs.declared.blocks.Stmt.TheViews as views
 use Rattle.lay_code.specs.declared.exprs.Expr.{Expr}
 use Rattle.lay_code.specs.declared.exprs.Expr.TheVariants as expr
-use Rattle.lay_enclose.specs.Enclosed.{enclose, shell_stmt, stmt_shell}
+use Rattle.lay_paren_defs.specs.Enclosed.{enclose, shell_stmt, stmt_shell}
 
 abbrev whole_of : StmtNode → Expr
 whole_of (Stmt-F.Stmt::Expr attrs x ended) = x

@@ -4,13 +4,13 @@ ghost use Rattle.lay_node.specs.declared.heads.ValueHead.TheVariants as head;
 ghost use Rattle.lay_node.specs.declared.token.GivenName.TheVariants as given;
 ghost use Rattle.lay_node.specs.declared.types.Ty.TheVariants as ty;
 ghost use Rattle.lay_code.specs.declared.item.ItemKind.TheVariants as kind;
-ghost use Rattle.lay_enclose.specs.Constant.{constant, constant_item};
-ghost use Rattle.lay_enclose.specs.Enclosed.{part};
+ghost use Rattle.lay_paren_defs.specs.Constant.{constant, constant_item};
+ghost use Rattle.lay_paren_defs.specs.Enclosed.{part};
 
 use crate::exprs::same_part;
 use lay_code::{Expr, File, GivenName, Item, ItemKind, Ty, ValueHead, Vis};
-use lay_enclose::Enclosed;
 use lay_node::Boxed;
+use lay_paren_defs::Enclosed;
 
 /// Whether the file is the constant `const _: () = e;` alone, where `e` is the expression with each part in parentheses, itself too: all but
 /// what is the whole of a statement and, as the body of an arm or of a closure, a block without a label.

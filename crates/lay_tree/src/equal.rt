@@ -3,7 +3,7 @@ ghost use Rattle.std.specs.Prelude.{◌≡◌, ◌↔◌, IsTrue};
 
 use crate::exprs;
 use lay_code::{Arm, Block, Expr, Item, Stmt};
-use lay_enclose::AsIs;
+use lay_paren_defs::AsIs;
 
 /// Whether two expressions are equal.
 pub fn same_expr(expr: &Expr, other: &Expr) -> bool

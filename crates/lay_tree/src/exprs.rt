@@ -2,14 +2,14 @@
 //!
 //! What a tree becomes goes by the type `X`: itself, or itself with each part in parentheses.
 ghost use Rattle.std.specs.Prelude.{◌≡◌, ◌↔◌, IsTrue, map, option_map};
-ghost use Rattle.lay_enclose.specs.Enclosed.{body_part, enclose_arm, enclose_block, enclose_branch, enclose_condition, enclose_field, enclose_item, enclose_link, enclose_step, enclose_stmt, operand_part, part, shell, shell_field, shell_kind, shell_link, shell_step, shell_stmt, target_part};
+ghost use Rattle.lay_paren_defs.specs.Enclosed.{body_part, enclose_arm, enclose_block, enclose_branch, enclose_condition, enclose_field, enclose_item, enclose_link, enclose_step, enclose_stmt, operand_part, part, shell, shell_field, shell_kind, shell_link, shell_step, shell_stmt, target_part};
 
 use crate::operators::{same_op, same_params, same_prefixes};
 use lay_code::{
     Arm, Block, Branch, Condition, Expr, FieldExpr, Item, ItemKind, Link, Op, Step, Stmt,
 };
-use lay_enclose::{Enclose, is_body_enclosed};
 use lay_node::Boxed;
+use lay_paren_defs::{Enclose, is_body_enclosed};
 use lay_same_nodes::Same;
 
 /// Whether the other expression is what this one becomes, with no parentheses round it.

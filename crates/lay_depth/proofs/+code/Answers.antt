@@ -1,8 +1,8 @@
 use Rattle.std.proofs.Common.{◌≡◌, ◌∙◌, ℕ, ◌+◌, max, true, sym, ap, arith}
 use Rattle.lay_code.specs.nodes.Code.{about_field_expr, form_of_item}
 use Rattle.lay_form.specs.Depth.{least_depth}
-use Rattle.lay_depth_nodes.specs.Depths.{counted, greatest}
-use Rattle.lay_depth_nodes.proofs.Loops.{all_told, all_turns, form_of, turn}
+use Rattle.lay_depth.specs.nodes.Depths.{counted, greatest}
+use Rattle.lay_depth.proofs.nodes_lemmas.Loops.{all_told, all_turns, form_of, turn}
 use Rattle.lay_depth.specs.Parts.{arm_form, block_if, branch_form, expr_if, link_form, operand_form, step_form, target_form}
 use Rattle.lay_depth.proofs.BlockLemmas as blocks
 use Rattle.lay_depth.proofs.BlockLemmas.{stmt_told}

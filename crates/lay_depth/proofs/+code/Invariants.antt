@@ -1,7 +1,7 @@
 use Rattle.std.proofs.Common.{◌≡◌, map, take}
 use Rattle.lay_code.specs.nodes.Code.{about_field_expr, form_of_item}
-use Rattle.lay_depth_nodes.specs.Depths.{counted, greatest}
-use Rattle.lay_depth_nodes.proofs.Loops.{form_of}
+use Rattle.lay_depth.specs.nodes.Depths.{counted, greatest}
+use Rattle.lay_depth.proofs.nodes_lemmas.Loops.{form_of}
 use Rattle.lay_depth.specs.Parts.{arm_form, branch_form, link_form, operand_form, step_form, target_form}
 use Rattle.lay_depth.proofs.BlockLemmas.{stmt_told}
 use Rattle.lay_depth.proofs.ExprLemmas.{expr_told}

@@ -50,10 +50,10 @@ use Rattle.lay_out_code.proofs.BranchLemmas as branches
 use Rattle.lay_code.specs.declared.blocks.Block.{Block}
 use Rattle.lay_code.specs.declared.blocks.Stmt.TheViews as views
 use Rattle.lay_code.specs.declared.conditions.Condition.{Condition}
-use Rattle.lay_enclose.specs.Enclosed.{body_part, enclose, enclose_arm, enclose_block, enclose_branch, enclose_condition, enclose_field, enclose_item, enclose_link, enclose_step, enclose_stmt, operand_part, part, shell_arm, shell_block, shell_branch, shell_condition, shell_item, target_part}
-use Rattle.lay_enclose.proofs.KeptLemmas.{method_kept, methods_kept, single_kept}
-use Rattle.lay_enclose.proofs.ShellLemmas.{shell_arm_is, shell_block_is, shell_branch_is, shell_condition_is, shell_item_is}
-use Rattle.lay_enclose.proofs.WholeLemmas.{whole, whole_field, whole_kind, whole_link, whole_step, whole_stmt}
+use Rattle.lay_paren_defs.specs.Enclosed.{body_part, enclose, enclose_arm, enclose_block, enclose_branch, enclose_condition, enclose_field, enclose_item, enclose_link, enclose_step, enclose_stmt, operand_part, part, shell_arm, shell_block, shell_branch, shell_condition, shell_item, target_part}
+use Rattle.lay_paren_defs.proofs.KeptLemmas.{method_kept, methods_kept, single_kept}
+use Rattle.lay_paren_defs.proofs.ShellLemmas.{shell_arm_is, shell_block_is, shell_branch_is, shell_condition_is, shell_item_is}
+use Rattle.lay_paren_defs.proofs.WholeLemmas.{whole, whole_field, whole_kind, whole_link, whole_step, whole_stmt}
 use Rattle.lay_out_code.proofs.PartLemmas.{bare_body_told, bare_part, enclosed_body, enclosed_part, first_kept, kept_below, kept_least, map_twice, same_none}
 use Rattle.lay_out_code.proofs.+code.Goals as goal
 

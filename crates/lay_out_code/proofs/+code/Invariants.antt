@@ -10,7 +10,7 @@ use Rattle.lay_code.specs.declared.conditions.Link.{Link}
 use Rattle.lay_code.specs.declared.exprs.Expr.{Expr}
 use Rattle.lay_code.specs.declared.exprs.FieldExpr.{FieldExpr}
 use Rattle.lay_code.specs.declared.item.Item.{Item}
-use Rattle.lay_enclose.specs.Enclosed.{enclose_arm, enclose_branch, enclose_field, enclose_item, enclose_link, enclose_step, enclose_stmt, operand_part, part, target_part}
+use Rattle.lay_paren_defs.specs.Enclosed.{enclose_arm, enclose_branch, enclose_field, enclose_item, enclose_link, enclose_step, enclose_stmt, operand_part, part, target_part}
 use Rattle.lay_out_types.specs.Calls.{Adds}
 use Rattle.lay_out_pats.specs.PatternRows.{braces_opened}
 use Rattle.lay_out_types.specs.Rows.{comma_between, list_opened, row}

@@ -1,7 +1,7 @@
 //! Nodes that are read from texts, with parts that are put in.
 use lay_code::{Block, Boxed, Branch, Condition, Expr, ItemKind, Link, Step, Stmt};
 use lay_files::read_bytes;
-use lay_given::repeated;
+use lay_test_rows::repeated;
 use lay_token::Text;
 use std::alloc::Global;
 use std::mem;

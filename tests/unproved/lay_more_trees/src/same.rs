@@ -2,7 +2,7 @@
 //! differ in its length.
 
 use crate::trees::{equal, file_within};
-use lay_given::{BETWEEN, parts};
+use lay_test_rows::{BETWEEN, parts};
 use std::alloc::Global;
 use std::process::Abort;
 

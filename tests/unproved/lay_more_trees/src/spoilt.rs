@@ -1,7 +1,7 @@
 //! Trees that can't be written, each for one reason, and beside each one that can, which differs from it in that alone.
 
 use crate::trees::{equal, written};
-use lay_given::{BETWEEN, parts};
+use lay_test_rows::{BETWEEN, parts};
 use lay_tree::File;
 use std::alloc::Global;
 use std::process::Abort;

@@ -5,7 +5,7 @@ ghost use Rattle.std.specs.Prelude.{◌≡◌, [], IfSome, Some};
 ghost use Rattle.lay_node.specs.tokens.Listing.{turned};
 
 use lay_files::read_bytes;
-use lay_given::repeated;
+use lay_test_rows::repeated;
 use lay_laws::is_written;
 use lay_token::{Delim, Kind, List, Text};
 use lay_tree::{

@@ -1,7 +1,7 @@
 //! What a text reads to can be written: files in which each kind of item, type, pattern, statement and expression stands.
 
 use crate::trees::{file_within, written};
-use lay_given::BETWEEN;
+use lay_test_rows::BETWEEN;
 use std::alloc::Global;
 use std::process::Abort;
 

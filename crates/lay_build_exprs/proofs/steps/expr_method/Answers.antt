@@ -2,7 +2,7 @@ use Rattle.std.proofs.Common.{◌∙◌, ℕ, List, None, sym, ap, subst, arith}
 use Rattle.lay_node.specs.declared.token.Name.{Name}
 use Rattle.lay_code.specs.declared.exprs.Expr.{Expr}
 use Rattle.lay_code.specs.declared.exprs.Step.TheVariants as step
-use Rattle.lay_depth_nodes.specs.Depths.{greatest}
+use Rattle.lay_depth.specs.nodes.Depths.{greatest}
 use Rattle.std.specs.Prelude.{map}
 use Rattle.lay_build_types.specs.Answers.{AreParts, Gives}
 use Rattle.lay_build_types.specs.Kinds.{IsExpr, form_of_expr}

@@ -3,7 +3,7 @@ use Rattle.std.specs.List.{AllByRecursion}
 use Rattle.std.specs.Option.{option_to_list}
 use Rattle.lay_form.specs.Depth.{least_depth}
 use Rattle.lay_code.specs.Reading.{top}
-use Rattle.lay_depth_nodes.specs.Depths.{greatest}
+use Rattle.lay_depth.specs.nodes.Depths.{greatest}
 use Rattle.lay_build_types.specs.Answers.{IsKept}
 use Rattle.lay_build_types.proofs.ListLemmas.{one_deeper, one_kept, turned}
 use Rattle.lay_build_types.proofs.lists.nodes.Goals as goal

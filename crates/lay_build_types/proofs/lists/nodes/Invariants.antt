@@ -1,7 +1,7 @@
 use Rattle.std.proofs.Common.{◌≡◌, ◌≤◌, ◌++◌, length, map, reverse}
 use Rattle.std.specs.List.{AllByRecursion}
 use Rattle.lay_code.specs.Reading.{top}
-use Rattle.lay_depth_nodes.specs.Depths.{greatest}
+use Rattle.lay_depth.specs.nodes.Depths.{greatest}
 use Rattle.lay_build_types.specs.Answers.{IsKept}
 use Rattle.lay_build_types.proofs.lists.nodes.Given as goal
 

@@ -4,7 +4,7 @@ use Rattle.lay_piece.specs.Word.{is_path_word}
 use Rattle.lay_piece.specs.declared.kind.Kind.TheVariants.{Ident}
 use Rattle.lay_form.specs.Form.{Done}
 use Rattle.lay_form.specs.Pieces.{is_text_of}
-use Rattle.lay_depth_nodes.proofs.Forms.{leaf_is}
+use Rattle.lay_depth.proofs.nodes_lemmas.Forms.{leaf_is}
 use Rattle.lay_build_types.specs.Answers.{IsMade}
 use Rattle.lay_build_types.specs.Kinds.{IsName, form_of_name}
 use Rattle.lay_build_types.specs.Nodes as node

@@ -1,5 +1,5 @@
 use Rattle.lay_code.specs.nodes.Exprs.{closure_param}
-use Rattle.lay_depth_nodes.proofs.Loops.{all_turns, turn}
+use Rattle.lay_depth.proofs.nodes_lemmas.Loops.{all_turns, turn}
 use Rattle.lay_depth.proofs.exprs.params_depth.Goals as goal
 
 pub loop-param-preserved : goal.loop-param-preserved

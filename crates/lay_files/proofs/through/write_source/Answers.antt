@@ -5,7 +5,7 @@ use Rattle.lay_stream.proofs.Calls.{then_puts}
 use Rattle.lay_printer.specs.Printers.{lent_core, press_loans, press_meanings}
 use Rattle.lay_printer.proofs.Through.{Begins, printed_finish, level_zero}
 use Rattle.lay_code.specs.Out.{layout_of_file}
-use Rattle.lay_through.proofs.Rows.{all_put, went_well}
+use Rattle.lay_files.proofs.streamed_lemmas.Rows.{all_put, went_well}
 use Rattle.lay_files.specs.Readings.{behind_line}
 use Rattle.lay_files.proofs.WritingLemmas.{behind_first, file_written, told_all}
 use Rattle.lay_files.proofs.through.write_source.Goals as goal

@@ -1,4 +1,4 @@
-use Rattle.lay_line.specs.Line.{line_of}
+use Rattle.lay_args.specs.Line.{line_of}
 use Rattle.lay_front.proofs.RunLemmas.{no_words}
 use Rattle.lay_front.proofs.command.execute.Goals as goal
 

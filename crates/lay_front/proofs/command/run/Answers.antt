@@ -1,4 +1,4 @@
-use Rattle.lay_line.specs.Line.{line_of}
+use Rattle.lay_args.specs.Line.{line_of}
 use Rattle.lay_code.specs.Out.{out}
 use Rattle.lay_reparse.proofs.file.Reparse.{again}
 use Rattle.lay_sample.specs.Sample.{sample_text}

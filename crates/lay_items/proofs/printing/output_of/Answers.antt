@@ -1,6 +1,6 @@
 use Rattle.std.proofs.Common.{◌∙◌}
 use Rattle.lay_files.proofs.KeepingLemmas.{kept}
-use Rattle.lay_lines.proofs.OutputLemmas.{alone_text}
+use Rattle.lay_items.proofs.alone_lemmas.OutputLemmas.{alone_text}
 use Rattle.lay_items.proofs.PrintingLemmas.{told}
 use Rattle.lay_items.proofs.printing.output_of.Goals as goal
 

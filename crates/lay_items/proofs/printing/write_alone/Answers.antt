@@ -5,7 +5,7 @@ use Rattle.lay_printer.specs.Printers.{lent_core, press_loans}
 use Rattle.lay_printer.proofs.Through.{Begins, printed_finish, level_zero}
 use Rattle.lay_code.specs.Out.{layout_of_file}
 use Rattle.lay_files.proofs.WritingLemmas.{file_written}
-use Rattle.lay_lines.specs.Outputs.{alone}
+use Rattle.lay_items.specs.alone.Outputs.{alone}
 use Rattle.lay_items.proofs.printing.write_alone.Goals as goal
 
 pub returns : goal.returns

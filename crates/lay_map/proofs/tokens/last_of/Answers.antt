@@ -1,5 +1,5 @@
 use Rattle.std.proofs.Common.{sym, ◌∙◌, subst}
-use Rattle.lay_pieces.specs.Ahead.{Tells}
+use Rattle.lay_lex.specs.one_by_one.Ahead.{Tells}
 use Rattle.lay_map.specs.Ahead.{tokens_of}
 use Rattle.lay_map.proofs.WalkLemmas.{drop_step, last_none, last_step, last_zero}
 use Rattle.lay_map.proofs.tokens.last_of.Goals as goal

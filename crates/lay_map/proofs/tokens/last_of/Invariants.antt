@@ -1,7 +1,7 @@
 -- The last one from here on is that from the start.
 use Rattle.std.proofs.Common.{◌≡◌, drop}
 use Rattle.lay_token.specs.declared.token.Token.{Token}
-use Rattle.lay_pieces.specs.Ahead.{Tells}
+use Rattle.lay_lex.specs.one_by_one.Ahead.{Tells}
 use Rattle.lay_map.specs.Ahead.{tokens_of}
 use Rattle.lay_map.specs.Walks.{last_of}
 use Rattle.lay_map.proofs.tokens.last_of.Given as goal

@@ -1,6 +1,6 @@
 use Rattle.std.proofs.Common.{true, refl}
 use Rattle.lay_code.specs.nodes.Code.{about_expr}
-use Rattle.lay_enclose.specs.Enclosed.{part}
+use Rattle.lay_paren_defs.specs.Enclosed.{part}
 use Rattle.lay_stream.proofs.Calls.{last}
 use Rattle.lay_out_types.proofs.Adding.{adds_on}
 use Rattle.lay_out_code.proofs.EnclosedLemmas.{constant_file, may_end_constant}

@@ -1,5 +1,5 @@
 use Rattle.std.proofs.Common.{sym, ◌∙◌}
-use Rattle.lay_enclose.proofs.KeptLemmas.{enclosed_braces, whole_braces}
+use Rattle.lay_paren_defs.proofs.KeptLemmas.{enclosed_braces, whole_braces}
 use Rattle.lay_out_exprs.proofs.bodies.arm_body_braces.Goals as goal
 
 pub returns-then-is_body_enclosed : goal.returns-then-is_body_enclosed

@@ -1,5 +1,5 @@
 use Rattle.std.proofs.Common.{sym, ◌∙◌}
-use Rattle.lay_enclose.proofs.KeptLemmas.{enclosed_body, whole_body}
+use Rattle.lay_paren_defs.proofs.KeptLemmas.{enclosed_body, whole_body}
 use Rattle.lay_out_exprs.proofs.bodies.closure_body_braces.Goals as goal
 
 pub returns-then-is_body_enclosed : goal.returns-then-is_body_enclosed

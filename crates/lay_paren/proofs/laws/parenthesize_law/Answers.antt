@@ -5,8 +5,8 @@ use Rattle.lay_code.specs.nodes.Code.{about_expr}
 use Rattle.lay_code.specs.nodes.Exprs.{placed}
 use Rattle.lay_code.specs.declared.exprs.Expr.{Expr}
 use Rattle.lay_code.specs.declared.exprs.Place.{Place}
-use Rattle.lay_loose.specs.Loose.{meets_rules}
-use Rattle.lay_loose.specs.Slots.{Any}
+use Rattle.lay_paren_defs.specs.loose.Loose.{meets_rules}
+use Rattle.lay_paren_defs.specs.loose.Slots.{Any}
 use Rattle.lay_paren.specs.Made.{Made}
 use Rattle.lay_paren.specs.Least.{cuts, least}
 use Rattle.lay_paren.proofs.Choice.{all_weaker, any, in_place, refuted, unwritten, written}

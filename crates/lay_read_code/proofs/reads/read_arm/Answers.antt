@@ -1,7 +1,7 @@
 use Rattle.std.proofs.Common.{◌∙◌}
 use Rattle.std.proofs.lemmas.Result.{err_from_is_err_and}
-use Rattle.lay_alone.specs.ArmFronts.{ArmFront, alone_arm}
-use Rattle.lay_alone.proofs.ArmFronts.{arms_exact}
+use Rattle.lay_read_shared.specs.alone.ArmFronts.{ArmFront, alone_arm}
+use Rattle.lay_read_shared.proofs.alone_lemmas.ArmFronts.{arms_exact}
 use Rattle.lay_read_parts.proofs.AtFront.{node_read, none_read}
 use Rattle.lay_read_code.proofs.Alone.{arm_lifts}
 use Rattle.lay_read_code.proofs.reads.read_arm.Goals as goal

@@ -1,8 +1,8 @@
 use Rattle.std.proofs.Common.{sym, subst, ◌∙◌}
 use Rattle.std.proofs.lemmas.Result.{err_from_is_err_and}
 use Rattle.lay_code.specs.reader.Blocks.{block_by}
-use Rattle.lay_alone.specs.Fronts.{BlockFront, alone}
-use Rattle.lay_alone.proofs.Fronts.{blocks_exact}
+use Rattle.lay_read_shared.specs.alone.Fronts.{BlockFront, alone}
+use Rattle.lay_read_shared.proofs.alone_lemmas.Fronts.{blocks_exact}
 use Rattle.lay_read_tokens.specs.Answers.{Stopped}
 use Rattle.lay_read_parts.proofs.AtFront.{node_read, none_read}
 use Rattle.lay_read_code.proofs.Alone.{block_lifts}

@@ -1,7 +1,7 @@
 use Rattle.std.proofs.Common.{◌∙◌}
 use Rattle.std.proofs.lemmas.Result.{err_from_is_err_and}
-use Rattle.lay_alone.specs.Fronts.{StmtFront, alone, stmt_alone}
-use Rattle.lay_alone.proofs.Fronts.{stmts_exact}
+use Rattle.lay_read_shared.specs.alone.Fronts.{StmtFront, alone, stmt_alone}
+use Rattle.lay_read_shared.proofs.alone_lemmas.Fronts.{stmts_exact}
 use Rattle.lay_read_parts.proofs.AtFront.{node_read, none_read}
 use Rattle.lay_read_code.proofs.Alone.{stmt_lifts}
 use Rattle.lay_read_code.proofs.reads.read_stmt.Goals as goal

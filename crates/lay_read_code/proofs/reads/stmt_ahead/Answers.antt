@@ -1,5 +1,5 @@
 use Rattle.std.proofs.Common.{◌≡◌, ◌-◌, ap, arith}
-use Rattle.lay_alone.specs.Fronts.{alone, stmt_alone}
+use Rattle.lay_read_shared.specs.alone.Fronts.{alone, stmt_alone}
 use Rattle.lay_read_types.proofs.Steps.{found_by}
 use Rattle.lay_read_shared.specs.Code.{code_within}
 use Rattle.lay_read_blocks.specs.Answers.{deeper_stmt}

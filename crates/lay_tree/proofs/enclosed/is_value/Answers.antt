@@ -9,7 +9,7 @@ use Rattle.lay_code.specs.declared.blocks.Stmt.TheViews as views
 use Rattle.lay_code.specs.declared.exprs.Expr.{Expr}
 use Rattle.lay_code.specs.declared.item.ItemKind.{ItemKind}
 use Rattle.lay_code.specs.declared.item.ItemKind.TheVariants as kind
-use Rattle.lay_enclose.specs.Enclosed.{part}
+use Rattle.lay_paren_defs.specs.Enclosed.{part}
 use Rattle.lay_tree.proofs.enclosed.is_value.Goals as goal
 
 abbrev value_of : KindNode → Option Expr

@@ -1,4 +1,4 @@
-use Rattle.lay_enclose.proofs.ShellLemmas.{items_off}
+use Rattle.lay_paren_defs.proofs.ShellLemmas.{items_off}
 use Rattle.lay_tree.proofs.PartLemmas.{told}
 use Rattle.lay_tree.proofs.equal.same_items.Goals as goal
 

@@ -1,8 +1,8 @@
 use Rattle.std.proofs.Common.{rules, length, sym, ◌∙◌}
 use Rattle.std.proofs.lemmas.Slice.Zip.{zip_turn}
-use Rattle.lay_enclose.specs.Enclosed.{enclose_field, enclose_link, enclose_step, enclose_stmt}
-use Rattle.lay_enclose.proofs.KeptLemmas.{body_enclosed, body_whole}
-use Rattle.lay_enclose.proofs.ShellLemmas.{shell_arm_is, shell_block_is, shell_branch_is, shell_condition_is, shell_field_is, shell_is, shell_item_is, shell_kind_is, shell_link_is, shell_step_is, shell_stmt_is}
+use Rattle.lay_paren_defs.specs.Enclosed.{enclose_field, enclose_link, enclose_step, enclose_stmt}
+use Rattle.lay_paren_defs.proofs.KeptLemmas.{body_enclosed, body_whole}
+use Rattle.lay_paren_defs.proofs.ShellLemmas.{shell_arm_is, shell_block_is, shell_branch_is, shell_condition_is, shell_field_is, shell_is, shell_item_is, shell_kind_is, shell_link_is, shell_step_is, shell_stmt_is}
 use Rattle.lay_tree.proofs.PartLemmas.{part_other, part_whole, part_within, told, was, was_not}
 use Rattle.lay_tree.proofs.StmtLemmas.{stmt_whole}
 use Rattle.lay_tree.proofs.TurnLemmas.{turn_more, turn_stops}

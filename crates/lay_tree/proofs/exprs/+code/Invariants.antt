@@ -1,5 +1,5 @@
 use Rattle.std.proofs.Common.{◌≡◌, length, map, take}
-use Rattle.lay_enclose.specs.Enclosed.{enclose_arm, enclose_branch, enclose_field, enclose_item, enclose_link, enclose_step, enclose_stmt, operand_part, part, target_part}
+use Rattle.lay_paren_defs.specs.Enclosed.{enclose_arm, enclose_branch, enclose_field, enclose_item, enclose_link, enclose_step, enclose_stmt, operand_part, part, target_part}
 use Rattle.lay_tree.proofs.exprs.+code.Given as goal
 
 abbrev pub invariant-same_parts-loop-expr : goal.invariant-same_parts-loop-expr

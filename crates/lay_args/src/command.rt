@@ -1,0 +1,58 @@
+//! The command, as `clap` reads it.
+ghost use Rattle.std.specs.Prelude.{◌≡◌, IfOk, false, map};
+ghost use Rattle.clap.specs.Words.{app_of, rule_of};
+ghost use Rattle.lay_args.specs.Command.{Matched, command as the_command, flag_rule, option_rule};
+
+use clap::error::ErrorKind;
+use clap::{Arg, ArgAction, ArgMatches, Command};
+use lay_text::NoMemory;
+use std::alloc::{AllocError, Global};
+
+/// The matches that `clap` has for the words, or none where it finds a fault in them: a word that is no part of the
+/// command, or one that asks for help.
+pub fn matches<'a>(alloc: Global, words: &'a [&'a str]) -> Result<Option<ArgMatches<'a>>, NoMemory>
+    ensures { IfOk result (Matched (map (λ word. word.now) words.entry.now)) }
+{
+    let command: Command<'a> = command(alloc)?;
+    match command.try_get_matches_from(words) {
+        Ok(matches) => Ok(Some(matches)),
+        Err(error) => match error.kind() {
+            ErrorKind::OutOfMemory => Err(NoMemory),
+            _ => Ok(None),
+        },
+    }
+}
+
+/// The flags `--check` and `--map`, the options `--sample` and `--items` and one optional file, of words that don't begin
+/// with the program's name.
+fn command<'a>(alloc: Global) -> Result<Command<'a>, AllocError>
+    ensures { IfOk result (λ command. app_of command ≡ the_command) }
+{
+    let check = flag(alloc, "check");
+    let map = flag(alloc, "map");
+    let sample = option(alloc, "sample");
+    let items = option(alloc, "items");
+    let file = Arg::new(alloc, "file");
+    let bare = Command::new(alloc, "lay_fmt").no_binary_name(true);
+    bare.arg(check)?
+        .arg(map)?
+        .arg(sample)?
+        .arg(items)?
+        .arg(file)
+}
+
+/// A flag of this long name.
+fn flag<'a>(alloc: Global, name: &'a str) -> Arg<'a>
+    ensures rule { rule_of result ≡ flag_rule name.entry.now }
+    ensures local { result.global ≡ false }
+{
+    Arg::new(alloc, name).long(name).action(ArgAction::SetTrue)
+}
+
+/// An option of this long name, which takes one value.
+fn option<'a>(alloc: Global, name: &'a str) -> Arg<'a>
+    ensures rule { rule_of result ≡ option_rule name.entry.now }
+    ensures local { result.global ≡ false }
+{
+    Arg::new(alloc, name).long(name).action(ArgAction::Set)
+}

@@ -1,0 +1,94 @@
+//! From words to a line.
+ghost use Rattle.std.specs.Prelude.{◌≡◌, IfOk, option_map};
+ghost use Rattle.clap.specs.Words.{found_of, rows_of};
+ghost use Rattle.lay_args.specs.Line.{IsBounded, input_of, is_set, line_for, line_of, line_of_matches, sample_for};
+ghost use Rattle.lay_args.specs.Number.{item_count_of, seed_of};
+
+use crate::command::matches;
+use crate::lines::Line;
+use crate::numbers::{item_count, seed};
+use crate::texts::texts;
+use clap::ArgMatches;
+use lay_io::Which;
+use lay_text::{NoMemory, Text};
+use std::alloc::Global;
+
+/// The line that the words make, which stand without the program's name. A word that isn't UTF-8 makes it `Usage`,
+/// and which other words are a line is `clap`'s definition for a command with the flags `--check` and `--map`, the
+/// options `--sample` and `--items` and one optional file, of which the flags don't stand together, and the options stand together
+/// and with nothing else.
+pub fn line(alloc: Global, words: &[Text]) -> Result<Line, NoMemory>
+    ensures asked { IfOk result (λ line. line ≡ line_of words.now) }
+    ensures few { IfOk result IsBounded }
+{
+    let Some(texts) = texts(alloc, words)? else {
+        return Ok(Line::Usage);
+    };
+    match matches(alloc, texts.as_slice())? {
+        Some(matches) => from_matches(alloc, &matches),
+        None => Ok(Line::Usage),
+    }
+}
+
+/// The line that the matches say.
+fn from_matches(alloc: Global, matches: &ArgMatches<'_>) -> Result<Line, NoMemory>
+    ensures { IfOk result (λ line. line ≡ line_of_matches (rows_of (found_of matches.now))) }
+{
+    let check = is_set(matches.get_str("check"));
+    let map = is_set(matches.get_str("map"));
+    let sample = matches.get_str("sample");
+    let items = matches.get_str("items");
+    from_values(alloc, check, map, sample, items, matches.get_str("file"))
+}
+
+/// The line that the flags `--check` and `--map`, the texts of `--sample` and `--items`, and FILE say.
+fn from_values(
+    alloc: Global,
+    check: bool,
+    map: bool,
+    sample: Option<&str>,
+    items: Option<&str>,
+    file: Option<&str>,
+) -> Result<Line, NoMemory>
+    ensures { IfOk result (λ line. line ≡ line_for check map
+        (option_map (λ text. text.now) sample.entry)
+        (option_map (λ text. text.now) items.entry) (option_map (λ name. name.now) file.entry)) }
+{
+    match (check, map, sample, items, file) {
+        (false, false, None, None, file) => Ok(Line::Format(input(alloc, file)?)),
+        (true, false, None, None, file) => Ok(Line::Check(input(alloc, file)?)),
+        (false, true, None, None, file) => Ok(Line::Map(input(alloc, file)?)),
+        (false, false, Some(sample), Some(items), None) => Ok(from_texts(sample, items)),
+        _ => Ok(Line::Usage),
+    }
+}
+
+/// The sample that the texts of `--sample` and `--items` ask for, where both write numbers.
+fn from_texts(sample: &str, items: &str) -> Line
+    ensures { result ≡ sample_for (seed_of sample.now) (item_count_of items.now) }
+{
+    match (seed(sample), item_count(items)) {
+        (Some(seed), Some(items)) => Line::Sample { seed, items },
+        _ => Line::Usage,
+    }
+}
+
+/// The input that is named, or standard input where none is.
+fn input(alloc: Global, file: Option<&str>) -> Result<Which, NoMemory>
+    ensures { IfOk result (λ input. input ≡ input_of (option_map (λ name. name.now) file.entry)) }
+{
+    match file {
+        None => Ok(Which::Stdin),
+        Some(name) => Ok(Which::File(Text::from_bytes(alloc, name.as_bytes())?)),
+    }
+}
+
+/// Whether a flag stands in the words: `clap` gives it the value `true` where it does.
+fn is_set(value: Option<&str>) -> bool
+    ensures { result ≡ is_set (option_map (λ text. text.now) value.entry) }
+{
+    match value {
+        Some(text) => text == "true",
+        None => false,
+    }
+}

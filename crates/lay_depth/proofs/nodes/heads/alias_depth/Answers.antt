@@ -1,0 +1,19 @@
+use Rattle.std.proofs.Common.{arith}
+use Rattle.lay_depth.proofs.nodes_lemmas.HeadLemmas as of
+use Rattle.lay_depth.proofs.nodes.heads.alias_depth.Goals as goal
+
+pub returns : goal.returns
+returns c =
+    let m = of.alias_is c.args.alias.now in
+    let n = rw c.as_slice.ensures at c.bounds_depth.ensures in
+    omega (
+      arith,
+      m,
+      n,
+      c.generics_depth.ensures,
+      c.max.ensures,
+      c.type_or_none_depth.ensures,
+      c.max-2.ensures,
+      c.wheres_depth.ensures,
+      c.max-3.ensures,
+    )

@@ -1,8 +1,0 @@
-use Rattle.std.proofs.Common.{arith}
-use Rattle.lay_depth_nodes.proofs.GenericLemmas as of
-use Rattle.lay_depth_nodes.proofs.generics.generics_depth.Goals as goal
-
-pub returns : goal.returns
-returns c =
-    let m = of.generics_are c.args.generics.now in
-    let n = rw c.as_slice.ensures at c.deepest.ensures in omega (arith, m, n)

@@ -1,7 +1,0 @@
-use Rattle.std.proofs.Common.{arith}
-use Rattle.lay_depth_nodes.proofs.HeadLemmas as of
-use Rattle.lay_depth_nodes.proofs.heads.VariantDeep.depth.Goals as goal
-
-pub returns : goal.returns
-returns c =
-    let m = of.variant_is c.args.self.now in omega (arith, m, c.fields_depth.ensures)

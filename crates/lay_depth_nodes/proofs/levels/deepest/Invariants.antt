@@ -1,6 +1,0 @@
-use Rattle.std.proofs.Common.{◌≡◌, map, take}
-use Rattle.lay_depth_nodes.specs.Depths.{counted, greatest}
-use Rattle.lay_depth_nodes.proofs.levels.deepest.Given as goal
-
-abbrev pub invariant-loop-node : goal.invariant-loop-node
-invariant-loop-node g l = l.most ≡ counted (greatest (map g.T.Deep.form (take l.node-index l.nodes)))

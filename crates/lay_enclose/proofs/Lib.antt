@@ -1,3 +1,0 @@
-pub mod ShellLemmas
-pub mod WholeLemmas
-pub mod KeptLemmas

@@ -1,2 +1,0 @@
-pub mod Enclosed
-pub mod Constant

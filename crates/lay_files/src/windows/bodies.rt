@@ -1,0 +1,101 @@
+//! Files, and the bodies of modules.
+ghost use Rattle.std.specs.Prelude.{◌≡◌, IfOk, IsUtf8, [], None};
+ghost use Rattle.std.specs.Str.{IsCharBoundary};
+ghost use Rattle.lay_files.specs.windows.Bodies.{BodyAs, FileAs, IsEmpty};
+ghost use Rattle.lay_files.specs.windows.Parts.{module_of};
+
+use crate::windows::heads::Head;
+use crate::windows::parts::read_parts;
+use crate::windows::window::read_window;
+use lay_code::{File, Item, ItemKind};
+use lay_lex::{Source, Stop};
+use lay_read_tokens::ReadNone;
+use lay_read_tokens::stop::{boxed, keep};
+use lay_token::List;
+use std::alloc::Global;
+
+/// The file that the tokens of the text spell, without its shebang, where it is read by windows.
+///
+/// The items of the file stand at the depth, and those within another item one lower.
+pub fn read_source(alloc: Global, source: &Source, depth: u32) -> Result<File, ReadNone>
+    requires text { IsUtf8 source.now.text }
+    requires border { IsCharBoundary source.now.text source.now.start }
+    ensures { FileAs depth source.now.text source.now.start result }
+{
+    let mut place = source.start;
+    let mut file = empty(alloc);
+    match read_body(alloc, source.as_str(), &mut place, &mut file, depth) {
+        Ok(false) => Ok(file),
+        Ok(true) => Err(ReadNone::NoReading),
+        Err(error) => Err(error),
+    }
+}
+
+/// A file with nothing in it.
+fn empty(alloc: Global) -> File
+    ensures { IsEmpty result }
+{
+    File {
+        shebang: None,
+        attrs: List::new(alloc),
+        items: List::new(alloc),
+    }
+}
+
+/// Inner attributes and items from a place on, up to the end of the text, or behind the closing brace of the module that
+/// they stand in: whether they end in that.
+#[inline(never)]
+fn read_body(
+    alloc: Global,
+    text: &str,
+    place: &mut usize,
+    file: &mut File,
+    depth: u32,
+) -> Result<bool, ReadNone>
+    requires text { IsUtf8 text.now }
+    requires border { IsCharBoundary text.now place.old }
+    requires empty { IsEmpty file.old }
+    ensures { BodyAs depth text.now place.old place.new file.new result }
+{
+    for _ in 0..usize::MAX {
+        let window = read_window(alloc, text, *place)?;
+        let head = read_parts(alloc, &window.nested, file, depth)?;
+        *place = window.end;
+        match (window.stop, head) {
+            (Stop::More, None) => {}
+            (Stop::Opened, Some(head)) if depth > 0 => {
+                let mut body = empty(alloc);
+                if !read_body(alloc, text, place, &mut body, depth - 1)? {
+                    return Err(ReadNone::NoReading);
+                }
+                let item = module(alloc, head, body)?;
+                keep(&mut file.items, item)?;
+            }
+            (Stop::End, None) => return Ok(false),
+            (Stop::Closed, None) => return Ok(true),
+            _ => return Err(ReadNone::NoReading),
+        }
+    }
+    Err(ReadNone::NoReading)
+}
+
+/// The module of this head, with the attributes and the items of this body.
+fn module(alloc: Global, head: Head, body: File) -> Result<Item, ReadNone>
+    ensures { IfOk result (λ item. item ≡ module_of head body) }
+{
+    let Head { attrs, vis, name } = head;
+    let File {
+        shebang: _,
+        attrs: inner,
+        items,
+    } = body;
+    let kind = boxed(
+        alloc,
+        ItemKind::Module {
+            name,
+            attrs: inner,
+            items,
+        },
+    )?;
+    Ok(Item { attrs, vis, kind })
+}

@@ -1,9 +1,0 @@
--- The words so far are texts, and in order.
-use Rattle.std.proofs.Common.{◌≡◌, true, map, take}
-use Rattle.std.specs.List.{list_all}
-use Rattle.std.specs.Str.{is_utf8}
-use Rattle.lay_line.proofs.texts.texts.Given as goal
-
-abbrev pub invariant-loop-word : goal.invariant-loop-word
-invariant-loop-word l = (map (λ text. text.now) l.texts.items ≡ take l.word-index l.words)
-    × (list_all is_utf8 (take l.word-index l.words) ≡ true)

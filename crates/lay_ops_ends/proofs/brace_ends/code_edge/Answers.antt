@@ -1,0 +1,12 @@
+use Rattle.std.proofs.Common.{◌∙◌}
+use Rattle.lay_node.specs.declared.types.PathStyle.TheVariants.{Code}
+use Rattle.lay_ops_ends.proofs.TypeBraces.{no_path, path_ends}
+use Rattle.lay_ops_ends.proofs.brace_ends.code_edge.Goals as goal
+
+pub returns-in-Some-clause-told : goal.returns-in-Some-clause-told
+returns-in-Some-clause-told c =
+    c.args_edge.ensures.code
+    ∙ path_ends Code c.args.path.now c.as_slice.result.now c.in-Some.field-0.now c.as_slice.ensures c.in-Some.ensures.value
+
+pub returns-in-None-clause-told : goal.returns-in-None-clause-told
+returns-in-None-clause-told c = no_path Code c.args.path.now c.as_slice.result.now c.as_slice.ensures c.in-None.ensures.value

@@ -1,0 +1,4 @@
+pub mod KeptLemmas
+pub mod ShellLemmas
+pub mod WholeLemmas
+pub mod loose_lemmas

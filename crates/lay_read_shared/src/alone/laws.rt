@@ -1,0 +1,27 @@
+//! What holds of every block, statement and arm that stands by itself.
+ghost use Rattle.std.specs.Prelude.{◌≡◌, ℕ, List};
+ghost use Rattle.lay_token.specs.declared.token.Token.{Token};
+ghost use Rattle.lay_node.specs.reader.Exact.{Exact};
+ghost use Rattle.lay_code.specs.reader.Blocks.{block_by};
+ghost use Rattle.lay_code.specs.declared.blocks.Arm.{Arm};
+ghost use Rattle.lay_code.specs.declared.blocks.Block.{Block};
+ghost use Rattle.lay_code.specs.declared.blocks.Stmt.{Stmt};
+ghost use Rattle.lay_read_shared.specs.alone.ArmFronts.{ArmFront, alone_arm};
+ghost use Rattle.lay_read_shared.specs.alone.Fronts.{BlockFront, StmtFront, alone, stmt_alone};
+
+/// The functions that read blocks, statements and arms read exactly what stands at the front of the tokens.
+pub fn alone_law()
+    ensures blocks { Exact (alone block_by) BlockFront }
+    ensures stmts { Exact (alone stmt_alone) StmtFront }
+    ensures arms { Exact alone_arm ArmFront }
+{}
+
+/// At most one block, statement or arm and one count of tokens fit.
+pub fn front_law()
+    ensures one_block { (node other : Block) (ts : List Token) (n m depth : ℕ)
+        → BlockFront node ts n depth → BlockFront other ts m depth → (node ≡ other) × (n ≡ m) }
+    ensures one_stmt { (node other : Stmt) (ts : List Token) (n m depth : ℕ)
+        → StmtFront node ts n depth → StmtFront other ts m depth → (node ≡ other) × (n ≡ m) }
+    ensures one_arm { (node other : Arm) (ts : List Token) (n m depth : ℕ)
+        → ArmFront node ts n depth → ArmFront other ts m depth → (node ≡ other) × (n ≡ m) }
+{}

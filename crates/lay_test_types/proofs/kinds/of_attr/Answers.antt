@@ -1,0 +1,12 @@
+use Rattle.std.proofs.Common.{List, true, ap, ◌∙◌}
+use Rattle.lay_layout.specs.Machine.{opened}
+use Rattle.lay_layout.specs.declared.layout.Tok.{Tok}
+use Rattle.lay_form.specs.Form.{Done}
+use Rattle.lay_node.specs.nodes.Attr.{attr_part}
+use Rattle.lay_out_tokens.proofs.StreamParts.{level_stays}
+use Rattle.lay_test_types.proofs.kinds.of_attr.Goals as goal
+
+pub returns-in-Ok : goal.returns-in-Ok
+returns-in-Ok c =
+    level_stays (attr_part true c.args.attr.now Done) c.in-Ok.ensures
+    ∙ ap (λ (s : List Tok). opened s 0) c.new-stream.ensures
