@@ -18,8 +18,8 @@ use denote.Slice.{shr_slice_vals, shr_slice_Tells}
 use denote.Triple.Entry.{alive}
 use denote.Triple.Walked.{says, Stays, stay_none_ref, stay_none_slice, walk_of, Goes-none_ref, Goes-none_slice, ends_at}
 use Rattle.lay_sample.specs.declared.counting.seen.Seen.{Seen}
-use Rattle.lay_sample.specs.counting.contracts.seen.Seen.{the_row as seen}
-use Rattle.lay_sample.specs.counting.contracts.seen.Seen.and as f
+use Rattle.lay_sample.specs.contracts.counting.seen.Seen.{the_row as seen}
+use Rattle.lay_sample.specs.contracts.counting.seen.Seen.and as f
 use Rattle.lay_sample.proofs.counting.seen.Seen.and.Statement.{statement}
 use Rattle.lay_sample.proofs.counting.seen.Seen.and.Code as code
 

@@ -12,8 +12,8 @@ use denote.Shadow.{pure_i}
 use denote.Signature.{types_at}
 use denote.Triple.Entry.{alive}
 use denote.Triple.Walked.{says, Stays, ends_at}
-use Rattle.lay_sample.specs.counting.contracts.seen.Seen.{the_row as seen}
-use Rattle.lay_sample.specs.counting.contracts.seen.Seen.new as f
+use Rattle.lay_sample.specs.contracts.counting.seen.Seen.{the_row as seen}
+use Rattle.lay_sample.specs.contracts.counting.seen.Seen.new as f
 use Rattle.lay_sample.proofs.counting.seen.Seen.new.Statement.{statement}
 use Rattle.lay_sample.proofs.counting.seen.Seen.new.Code as code
 
