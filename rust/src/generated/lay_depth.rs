@@ -10,5 +10,6 @@ mod conditions;
 mod exprs;
 mod files;
 mod items;
+pub mod nodes;
 pub use exprs::expr_depth;
 pub use files::file_depth;

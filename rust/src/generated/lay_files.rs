@@ -10,7 +10,9 @@
 pub mod keep;
 mod laid;
 pub mod reading;
+pub mod streamed;
 mod through;
+pub mod windows;
 mod writing;
 pub use keep::Keeper;
 pub use reading::{DEPTH, FileError, read_bytes, read_within, refused_at};

@@ -9,6 +9,7 @@ mod border;
 mod ends;
 mod gap;
 mod lexer;
+pub mod one_by_one;
 mod source;
 mod tokens;
 mod window;

@@ -14,6 +14,7 @@ mod marker;
 mod marking;
 mod tokens;
 mod unit;
+pub mod units;
 mod walk;
 pub use files::{units, units_of_text};
 pub use unit::{Pair, Span, Unit, pairs};

@@ -10,7 +10,7 @@
 //! A function whose name begins with `add` is told how the calls before it came out, as in [`lay_out_heads`]. Expressions
 //! hold blocks, blocks hold items, and items hold expressions, so these functions call each other. What stands between
 //! such parts is laid out by `lay_out_exprs` and `lay_out_heads`. A type parameter tells them whether parts get
-//! parentheses, as `lay_enclose` says: so one layout serves both.
+//! parentheses, as `lay_paren_defs` says: so one layout serves both.
 mod blocks;
 mod branches;
 mod calls;

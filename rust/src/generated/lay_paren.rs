@@ -13,6 +13,7 @@ mod exprs;
 mod items;
 mod laws;
 mod leads;
+pub mod loose_laws;
 mod places;
 mod slots;
 pub use calls::{ParenError, parenthesize};

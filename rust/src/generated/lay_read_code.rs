@@ -14,6 +14,7 @@
 //! the frame of each is kept small (docs/DECISIONS.md, "Trees").
 mod begun;
 mod bodies;
+pub mod climbing;
 mod file;
 mod knot;
 mod leads;

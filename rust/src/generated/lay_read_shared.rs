@@ -5,6 +5,7 @@
 //!
 //! Its lemmas say what reading leaves: behind whatever is read, at any depth, stands the rest of the tokens that were ahead,
 //! and a node has a token at least. So each loop of those readers ends.
+pub mod alone;
 pub mod boxes;
 pub mod loops;
 pub mod types;

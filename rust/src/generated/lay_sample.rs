@@ -5,6 +5,7 @@
 //! [`sample`] gives a text of as many items as are asked for, one on each line: structs, imports, functions and constants,
 //! with no blank that the grammar can spare. The crate promises that the text is the one that `specs/Sample` defines, so a seed
 //! and a number of items name the same bytes everywhere. It stands on `itoa` for the digits of numbers.
+pub mod counting;
 mod draws;
 mod items;
 mod samples;

@@ -4,8 +4,8 @@
 use crate::generated::lay_depth::conditions::condition_depth;
 use crate::generated::lay_depth::exprs::{expr_depth, operand_depth};
 use crate::generated::lay_depth::items::item_depth;
+use crate::generated::lay_depth::nodes::{deeper, pat_depth, type_or_none_depth};
 use crate::generated::lay_code::{Arm, Block, Branch, Stmt};
-use crate::generated::lay_depth_nodes::{deeper, pat_depth, type_or_none_depth};
 /// The depth of a block: that of its deepest statement.
 pub(crate) fn block_depth(block: &Block) -> u32 {
     let mut most = 0u32;

@@ -2,8 +2,8 @@
 //!
 //! Conditions and their links.
 use crate::generated::lay_depth::exprs::expr_depth;
+use crate::generated::lay_depth::nodes::pat_depth;
 use crate::generated::lay_code::{Condition, Link};
-use crate::generated::lay_depth_nodes::pat_depth;
 /// The depth of a condition: that of its deepest link.
 pub(crate) fn condition_depth(condition: &Condition) -> u32 {
     links_depth(condition.links.as_slice())

@@ -8,8 +8,7 @@ use crate::generated::lay_depth::blocks::{
     branches_depth,
 };
 use crate::generated::lay_depth::conditions::condition_depth;
-use crate::generated::lay_code::{ClosureParam, Expr, FieldExpr, Op, Step};
-use crate::generated::lay_depth_nodes::{
+use crate::generated::lay_depth::nodes::{
     arguments_depth,
     deeper,
     pat_depth,
@@ -18,6 +17,7 @@ use crate::generated::lay_depth_nodes::{
     type_or_none_depth,
     types_depth,
 };
+use crate::generated::lay_code::{ClosureParam, Expr, FieldExpr, Op, Step};
 use crate::generated::lay_node::Boxed;
 /// The depth of an expression, counted up to the greatest number of 32 bits. The body of a closure stands one level deeper.
 pub fn expr_depth(expr: &Expr) -> u32 {

@@ -3,8 +3,7 @@
 //! Items.
 use crate::generated::lay_depth::blocks::block_or_none_depth;
 use crate::generated::lay_depth::exprs::operand_depth;
-use crate::generated::lay_code::{Item, ItemKind};
-use crate::generated::lay_depth_nodes::{
+use crate::generated::lay_depth::nodes::{
     alias_depth,
     deeper,
     enum_depth,
@@ -17,6 +16,7 @@ use crate::generated::lay_depth_nodes::{
     value_head_depth,
     wheres_depth,
 };
+use crate::generated::lay_code::{Item, ItemKind};
 /// The depth of an item.
 pub(crate) fn item_depth(item: &Item) -> u32 {
     deeper(kind_depth(item.kind.get()))

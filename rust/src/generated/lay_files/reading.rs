@@ -1,12 +1,12 @@
 //! Made by scripts/rust.sh from crates/lay_files/src/reading.rt, which is proved: change that.
 //!
 //! From bytes to the tree of a file.
+use crate::generated::lay_files::windows::read_source;
 use crate::generated::lay_code::File;
 use crate::generated::lay_lex::{Source, lex, normalise};
 use crate::generated::lay_nest::nest;
 use crate::generated::lay_read_tokens::ReadNone;
 use crate::generated::lay_token::{FormatError, NoMemory, Place2, Refusal, place_of};
-use crate::generated::lay_windows::read_source;
 use crate::shims::Global;
 /// Why bytes read to no file.
 #[derive(Clone, Copy, Debug, PartialEq, Eq,)]

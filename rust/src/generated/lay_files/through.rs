@@ -3,13 +3,13 @@
 //! From bytes to the text of their file, where no tree of the file stands in memory.
 use crate::generated::lay_files::keep::Keeper;
 use crate::generated::lay_files::reading::{DEPTH, FileError, placed, read_tokens};
+use crate::generated::lay_files::streamed::{NotPut, put_source, told};
 use crate::generated::lay_files::writing::bytes_of;
 use crate::generated::lay_io::Sink;
 use crate::generated::lay_lex::{Source, normalise};
 use crate::generated::lay_out_code::put_shebang;
 use crate::generated::lay_printer::{Core, Press, PrintError};
 use crate::generated::lay_read_tokens::ReadNone;
-use crate::generated::lay_through::{NotPut, put_source, told};
 use crate::generated::lay_token::{List, NoMemory};
 use crate::shims::Global;
 /// The text of the one file that the bytes read to, or their refusal and its place.

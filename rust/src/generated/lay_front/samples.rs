@@ -4,9 +4,9 @@
 use crate::generated::lay_front::stop::Stop;
 use crate::shims::Buffer;
 use crate::generated::lay_code::File;
-use crate::generated::lay_count::{Counter, Counts};
 use crate::generated::lay_files::{FileError, read_bytes, write_file};
 use crate::generated::lay_io::{Failed, Sink};
+use crate::generated::lay_sample::counting::{Counter, Counts};
 use crate::generated::lay_sample::sample;
 use crate::generated::lay_token::{NoMemory, Text};
 use crate::shims::Global;

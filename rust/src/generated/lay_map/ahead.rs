@@ -1,7 +1,7 @@
 //! Made by scripts/rust.sh from crates/lay_map/src/ahead.rt, which is proved: change that.
 //!
 //! The tokens ahead, of a list or of a text.
-use crate::generated::lay_pieces::{Cursor, Lexeme};
+use crate::generated::lay_lex::one_by_one::{Cursor, Lexeme};
 use crate::generated::lay_token::Token;
 /// Tokens that are given one by one. It is copied to look ahead.
 #[derive(Clone, Copy, Debug,)]

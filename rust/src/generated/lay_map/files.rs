@@ -5,9 +5,9 @@ use crate::generated::lay_map::ahead::Ahead;
 use crate::generated::lay_map::marker::Marker;
 use crate::generated::lay_map::unit::{Span, Unit, units_of_spans};
 use crate::generated::lay_code::File;
+use crate::generated::lay_lex::one_by_one::Cursor;
 use crate::generated::lay_nest::Nested;
 use crate::generated::lay_out_code::put_file;
-use crate::generated::lay_pieces::Cursor;
 use crate::generated::lay_text::{List, NoMemory};
 use crate::shims::Global;
 /// Where the units of the tokens stand that spell the file, in their order: each token that says something of it, and the tokens of one

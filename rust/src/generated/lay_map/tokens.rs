@@ -4,7 +4,7 @@
 use crate::generated::lay_map::ahead::Ahead;
 use crate::generated::lay_map::unit::Unit;
 use crate::generated::lay_map::walk::Sought;
-use crate::generated::lay_pieces::Lexeme;
+use crate::generated::lay_lex::one_by_one::Lexeme;
 use crate::generated::lay_text::NoMemory;
 use crate::generated::lay_token::{Delim, Kind};
 /// Whether a token of this kind is an opening brace.

@@ -13,7 +13,7 @@ use crate::generated::lay_map::tokens::{
     unit_from,
 };
 use crate::generated::lay_map::unit::{Span, Unit};
-use crate::generated::lay_pieces::Lexeme;
+use crate::generated::lay_lex::one_by_one::Lexeme;
 use crate::generated::lay_text::{List, NoMemory};
 use crate::generated::lay_token::Kind;
 use crate::shims::Global;

@@ -4,7 +4,6 @@
 use crate::generated::lay_out_code::exprs::{add_expr, add_whole};
 use crate::generated::lay_out_code::items::{add_inner_attrs, add_item};
 use crate::generated::lay_code::{Block, Boxed, Expr, Stmt};
-use crate::generated::lay_enclose::{AsIs, Enclose};
 use crate::generated::lay_layout::Break;
 use crate::generated::lay_out_exprs::blocks::{close_soft, is_single};
 use crate::generated::lay_out_exprs::flags::both;
@@ -15,6 +14,7 @@ use crate::generated::lay_out_pats::{add_attrs, add_pat};
 use crate::generated::lay_out_tokens::HARD_BREAK;
 use crate::generated::lay_out_tokens::notation::{NEVER_BREAK, SPACE_BREAK};
 use crate::generated::lay_out_types::calls::{add_either, add_if, add_text};
+use crate::generated::lay_paren_defs::{AsIs, Enclose};
 use crate::generated::lay_stream::Emit;
 /// Feeds the layout of a block, whose braces have a leading blank or not.
 pub fn put_block<

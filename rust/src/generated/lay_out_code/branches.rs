@@ -6,7 +6,6 @@ use crate::generated::lay_out_code::conditions::add_condition;
 use crate::generated::lay_out_code::exprs::{add_body_part, add_expr};
 use crate::generated::lay_out_code::items::add_inner_attrs;
 use crate::generated::lay_code::{Arm, Attr, Block, Boxed, Branch, Expr};
-use crate::generated::lay_enclose::{AsIs, Enclose};
 use crate::generated::lay_out_exprs::blocks::{add_condition_lead, add_else_word};
 use crate::generated::lay_out_exprs::bodies::{arm_body_braces, close_arm, open_arm};
 use crate::generated::lay_out_exprs::flags::both;
@@ -17,6 +16,7 @@ use crate::generated::lay_out_tokens::HARD_BREAK;
 use crate::generated::lay_out_tokens::notation::NEVER_BREAK;
 use crate::generated::lay_out_types::calls::add_text;
 use crate::generated::lay_out_types::lists::add_end;
+use crate::generated::lay_paren_defs::{AsIs, Enclose};
 use crate::generated::lay_stream::Emit;
 /// What is matched, behind its word, in a group of its own.
 pub fn add_scrutinee<

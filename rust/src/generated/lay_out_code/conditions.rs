@@ -3,13 +3,13 @@
 //! Conditions and their links.
 use crate::generated::lay_out_code::exprs::add_expr;
 use crate::generated::lay_code::{Condition, Link};
-use crate::generated::lay_enclose::Enclose;
 use crate::generated::lay_out_exprs::blocks::{
     add_condition_lead,
     add_let_lead,
     add_link_lead,
 };
 use crate::generated::lay_out_types::lists::{add_begin, add_end};
+use crate::generated::lay_paren_defs::Enclose;
 use crate::generated::lay_stream::Emit;
 /// A condition behind its word, in a group of its own.
 pub fn add_condition<

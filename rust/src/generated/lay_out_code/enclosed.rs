@@ -3,13 +3,13 @@
 //! An expression with its parts in parentheses, as the value of a constant.
 use crate::generated::lay_out_code::exprs::add_expr;
 use crate::generated::lay_code::Expr;
-use crate::generated::lay_enclose::Enclosed;
 use crate::generated::lay_out_heads::calls::add_break;
 use crate::generated::lay_out_pats::add_group;
 use crate::generated::lay_out_tokens::HARD_BREAK;
 use crate::generated::lay_out_tokens::notation::NEVER_BREAK;
 use crate::generated::lay_out_types::calls::add_text;
 use crate::generated::lay_out_types::lists::add_end;
+use crate::generated::lay_paren_defs::Enclosed;
 use crate::generated::lay_stream::Emit;
 /// Feeds the layout of the file of one constant, `const _: () = (..);`, whose value is an expression in which each part
 /// stands in parentheses. It takes no memory: the tree with the parentheses is never made.

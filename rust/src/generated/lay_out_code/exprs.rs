@@ -17,7 +17,6 @@ use crate::generated::lay_out_code::operands::{
     add_targets,
 };
 use crate::generated::lay_code::{Boxed, Expr, PathStyle};
-use crate::generated::lay_enclose::{AsIs, Enclose, is_body_enclosed};
 use crate::generated::lay_out_exprs::add_closure_head;
 use crate::generated::lay_out_exprs::blocks::add_labelled;
 use crate::generated::lay_out_exprs::bodies::{
@@ -51,6 +50,7 @@ use crate::generated::lay_out_types::calls::{
 };
 use crate::generated::lay_out_types::lists::{add_begin, add_close, add_end, add_lead};
 use crate::generated::lay_out_types::{add_path, add_type};
+use crate::generated::lay_paren_defs::{AsIs, Enclose, is_body_enclosed};
 use crate::generated::lay_stream::Emit;
 /// Feeds the layout of an expression.
 pub fn put_expr<E: Emit>(out: &mut E, node: &Expr) -> Result<(), E::Fault> {

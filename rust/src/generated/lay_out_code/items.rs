@@ -31,7 +31,6 @@ use crate::generated::lay_code::{
     Vis,
     Wheres,
 };
-use crate::generated::lay_enclose::{AsIs, Enclose};
 use crate::generated::lay_out_exprs::flags::both;
 use crate::generated::lay_out_heads::calls::add_break;
 use crate::generated::lay_out_heads::items::{leads, open_head};
@@ -40,6 +39,7 @@ use crate::generated::lay_out_pats::add_attrs;
 use crate::generated::lay_out_tokens::HARD_BREAK;
 use crate::generated::lay_out_types::calls::{add_either, add_text};
 use crate::generated::lay_out_types::lists::add_end;
+use crate::generated::lay_paren_defs::{AsIs, Enclose};
 use crate::generated::lay_stream::Emit;
 /// Feeds the layout of an item, with its attributes, each on a line of its own.
 pub fn put_item<E: Emit>(out: &mut E, item: &Item) -> Result<(), E::Fault> {

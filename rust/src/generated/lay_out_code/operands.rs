@@ -3,7 +3,6 @@
 //! Operands, targets and steps, and the fields of struct literals.
 use crate::generated::lay_out_code::exprs::{add_expr, add_exprs, add_optional};
 use crate::generated::lay_code::{Boxed, Expr, FieldExpr, Op, Step};
-use crate::generated::lay_enclose::Enclose;
 use crate::generated::lay_out_exprs::add_generics;
 use crate::generated::lay_out_exprs::flags::either;
 use crate::generated::lay_out_exprs::operators::{add_assignment, add_operator};
@@ -11,6 +10,7 @@ use crate::generated::lay_out_exprs::steps::{add_step_break, is_method};
 use crate::generated::lay_out_pats::{add_attrs, add_brace};
 use crate::generated::lay_out_types::calls::{add_either, add_text, add_word};
 use crate::generated::lay_out_types::lists::{add_close, add_lead};
+use crate::generated::lay_paren_defs::Enclose;
 use crate::generated::lay_stream::Emit;
 /// The fields of a struct literal, behind what opens their braces.
 pub fn add_fields<

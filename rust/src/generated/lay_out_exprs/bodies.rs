@@ -2,7 +2,6 @@
 //!
 //! What stands round the bodies of arms and of closures.
 use crate::generated::lay_code::Expr;
-use crate::generated::lay_enclose::{Enclose, is_body_enclosed};
 use crate::generated::lay_layout::{Break, Mark};
 use crate::generated::lay_ops::may_wear_braces;
 use crate::generated::lay_out_heads::calls::{add_break, add_inside};
@@ -13,6 +12,7 @@ use crate::generated::lay_out_tokens::notation::{
 };
 use crate::generated::lay_out_types::calls::add_text;
 use crate::generated::lay_out_types::lists::add_end;
+use crate::generated::lay_paren_defs::{Enclose, is_body_enclosed};
 use crate::generated::lay_stream::Emit;
 /// How the body of an arm or of a closure is laid out.
 #[derive(Clone, Copy,)]

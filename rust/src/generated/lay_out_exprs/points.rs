@@ -3,8 +3,8 @@
 //! Which expressions end in a point: the last one of a number, or a `..`.
 use crate::generated::lay_out_exprs::flags::both;
 use crate::generated::lay_code::{Boxed, Expr, Path, PathStart};
-use crate::generated::lay_enclose::Enclose;
 use crate::generated::lay_out_pats::is_pointed;
+use crate::generated::lay_paren_defs::Enclose;
 /// Whether an expression that is a part ends in a point, which it doesn't in parentheses. The flag says that one stands
 /// before it.
 pub fn part_ends_in_point<X: Enclose>(point: bool, node: &Expr) -> bool {

@@ -11,8 +11,8 @@ use crate::generated::lay_paren::exprs::{
 use crate::generated::lay_paren::items::place_item;
 use crate::generated::lay_paren::slots::Slot;
 use crate::generated::lay_code::{Arm, Block, Boxed, Branch, Expr, Stmt};
-use crate::generated::lay_ends::may_precede_else;
 use crate::generated::lay_ops::places::{FREE, STATEMENT};
+use crate::generated::lay_ops_ends::may_precede_else;
 use crate::generated::lay_token::{List, NoMemory};
 use crate::shims::Global;
 /// Gives what stands in a block its parentheses.

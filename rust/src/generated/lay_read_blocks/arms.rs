@@ -15,9 +15,9 @@ use crate::generated::lay_code::{
     Site,
     Stmt,
 };
-use crate::generated::lay_ends::undressed;
 use crate::generated::lay_ops::places::{FREE, STATEMENT, plain};
 use crate::generated::lay_ops::{is_free, is_lone_body};
+use crate::generated::lay_ops_ends::undressed;
 use crate::generated::lay_read_parts::joins::{both, refused};
 use crate::generated::lay_read_parts::loops::Part;
 use crate::generated::lay_read_pats::pat_ahead;

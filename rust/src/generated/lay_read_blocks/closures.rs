@@ -13,9 +13,9 @@ use crate::generated::lay_code::{
     Site,
     TypePlace,
 };
-use crate::generated::lay_ends::shed;
 use crate::generated::lay_ops::places::plain;
 use crate::generated::lay_ops::sheds;
+use crate::generated::lay_ops_ends::shed;
 use crate::generated::lay_read_parts::joins::{both, refused};
 use crate::generated::lay_read_parts::loops::{Closer, Part, read_elements};
 use crate::generated::lay_read_pats::pat_ahead;

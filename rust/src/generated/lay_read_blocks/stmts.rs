@@ -16,9 +16,9 @@ use crate::generated::lay_code::{
     Stmt,
     Ty,
 };
-use crate::generated::lay_ends::may_precede_else;
 use crate::generated::lay_ops::is_call;
 use crate::generated::lay_ops::places::STATEMENT;
+use crate::generated::lay_ops_ends::may_precede_else;
 use crate::generated::lay_read_parts::joins::{both, refused};
 use crate::generated::lay_read_pats::pat_ahead;
 use crate::generated::lay_read_shared::types::type_if;

@@ -9,7 +9,7 @@ use crate::generated::lay_read_code::bodies::{
     with_items,
     with_value,
 };
-use crate::generated::lay_climb::Climber;
+use crate::generated::lay_read_code::climbing::Climber;
 use crate::generated::lay_code::{
     Attr,
     Block,

@@ -12,8 +12,8 @@ use crate::generated::lay_code::{
     ValueHead,
     Vis,
 };
-use crate::generated::lay_enclose::Enclosed;
 use crate::generated::lay_node::Boxed;
+use crate::generated::lay_paren_defs::Enclosed;
 /// Whether the file is the constant `const _: () = e;` alone, where `e` is the expression with each part in parentheses, itself too: all but
 /// what is the whole of a statement and, as the body of an arm or of a closure, a block without a label.
 ///

@@ -3,7 +3,7 @@
 //! Whether two expressions, blocks or items are equal.
 use crate::generated::lay_tree::exprs;
 use crate::generated::lay_code::{Arm, Block, Expr, Item, Stmt};
-use crate::generated::lay_enclose::AsIs;
+use crate::generated::lay_paren_defs::AsIs;
 /// Whether two expressions are equal.
 pub fn same_expr(expr: &Expr, other: &Expr) -> bool {
     exprs::same_whole::<AsIs>(expr, other)

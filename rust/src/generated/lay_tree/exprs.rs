@@ -18,8 +18,8 @@ use crate::generated::lay_code::{
     Step,
     Stmt,
 };
-use crate::generated::lay_enclose::{Enclose, is_body_enclosed};
 use crate::generated::lay_node::Boxed;
+use crate::generated::lay_paren_defs::{Enclose, is_body_enclosed};
 use crate::generated::lay_same_nodes::Same;
 /// Whether the other expression is what this one becomes, with no parentheses round it.
 pub fn same_whole<X: Enclose>(expr: &Expr, other: &Expr) -> bool {

@@ -1,3 +1,0 @@
-//! Made by scripts/rust.sh from crates/lay_alone/src/laws.rt, which is proved: change that.
-//!
-//! What holds of every block, statement and arm that stands by itself.

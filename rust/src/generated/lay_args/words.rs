@@ -1,0 +1,70 @@
+//! Made by scripts/rust.sh from crates/lay_args/src/words.rt, which is proved: change that.
+//!
+//! From words to a line.
+use crate::generated::lay_args::command::matches;
+use crate::generated::lay_args::lines::Line;
+use crate::generated::lay_args::numbers::{item_count, seed};
+use crate::generated::lay_args::texts::texts;
+use crate::shims::ArgMatches;
+use crate::generated::lay_io::Which;
+use crate::generated::lay_text::{NoMemory, Text};
+use crate::shims::Global;
+/// The line that the words make, which stand without the program's name. A word that isn't UTF-8 makes it `Usage`,
+/// and which other words are a line is `clap`'s definition for a command with the flags `--check` and `--map`, the
+/// options `--sample` and `--items` and one optional file, of which the flags don't stand together, and the options stand together
+/// and with nothing else.
+pub fn line(alloc: Global, words: &[Text]) -> Result<Line, NoMemory> {
+    let Some(texts) = texts(alloc, words)? else {
+        return Ok(Line::Usage);
+    };
+    match matches(alloc, texts.as_slice())? {
+        Some(matches) => from_matches(alloc, &matches),
+        None => Ok(Line::Usage),
+    }
+}
+/// The line that the matches say.
+fn from_matches(alloc: Global, matches: &ArgMatches<'_>) -> Result<Line, NoMemory> {
+    let check = is_set(matches.get_str("check"));
+    let map = is_set(matches.get_str("map"));
+    let sample = matches.get_str("sample");
+    let items = matches.get_str("items");
+    from_values(alloc, check, map, sample, items, matches.get_str("file"))
+}
+/// The line that the flags `--check` and `--map`, the texts of `--sample` and `--items`, and FILE say.
+fn from_values(
+    alloc: Global,
+    check: bool,
+    map: bool,
+    sample: Option<&str>,
+    items: Option<&str>,
+    file: Option<&str>,
+) -> Result<Line, NoMemory> {
+    match (check, map, sample, items, file) {
+        (false, false, None, None, file) => Ok(Line::Format(input(alloc, file)?)),
+        (true, false, None, None, file) => Ok(Line::Check(input(alloc, file)?)),
+        (false, true, None, None, file) => Ok(Line::Map(input(alloc, file)?)),
+        (false, false, Some(sample), Some(items), None) => Ok(from_texts(sample, items)),
+        _ => Ok(Line::Usage),
+    }
+}
+/// The sample that the texts of `--sample` and `--items` ask for, where both write numbers.
+fn from_texts(sample: &str, items: &str) -> Line {
+    match (seed(sample), item_count(items)) {
+        (Some(seed), Some(items)) => Line::Sample { seed, items },
+        _ => Line::Usage,
+    }
+}
+/// The input that is named, or standard input where none is.
+fn input(alloc: Global, file: Option<&str>) -> Result<Which, NoMemory> {
+    match file {
+        None => Ok(Which::Stdin),
+        Some(name) => Ok(Which::File(Text::from_bytes(alloc, name.as_bytes())?)),
+    }
+}
+/// Whether a flag stands in the words: `clap` gives it the value `true` where it does.
+fn is_set(value: Option<&str>) -> bool {
+    match value {
+        Some(text) => text == "true",
+        None => false,
+    }
+}

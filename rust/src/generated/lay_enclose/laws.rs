@@ -1,3 +1,0 @@
-//! Made by scripts/rust.sh from crates/lay_enclose/src/laws.rt, which is proved: change that.
-//!
-//! What holds of trees in which parts stand in parentheses.

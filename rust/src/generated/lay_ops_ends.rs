@@ -1,0 +1,8 @@
+//! Made by scripts/rust.sh from crates/lay_ops_ends/src/lib.rt, which is proved: change that.
+//!
+//! What an expression ends in, where an `else` is to stand behind it, and the braces around the bodies of arms and of closures that
+//! aren't in the tree.
+mod bodies;
+mod brace_ends;
+pub use bodies::{shed, undressed};
+pub use brace_ends::may_precede_else;

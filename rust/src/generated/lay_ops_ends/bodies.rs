@@ -1,0 +1,32 @@
+//! Made by scripts/rust.sh from crates/lay_ops_ends/src/bodies.rt, which is proved: change that.
+//!
+//! The braces around the bodies of arms and of closures that aren't in the tree.
+use crate::generated::lay_code::{Boxed, Expr};
+use crate::generated::lay_ops::{is_lone_body, sheds};
+/// The expression within the braces of one that is a block, which is all that stands there.
+fn held(expr: Boxed<Expr>) -> Option<Boxed<Expr>> {
+    expr.into_inner().into_block()?.into_stmts().into_vec().pop()?.into_expr()
+}
+/// The body of an arm, without the braces that aren't in the tree.
+pub fn undressed(expr: Boxed<Expr>) -> Boxed<Expr> {
+    let mut body = expr;
+    while is_lone_body(body.get()) {
+        match held(body) {
+            Some(inner) => body = inner,
+            None => unreachable!(),
+        }
+    }
+    body
+}
+/// The body of a closure, without the braces that aren't in the tree. The flag says that no struct literal may stand there: a
+/// pair whose expression can't stand there by that stays.
+pub fn shed(expr: Boxed<Expr>, no_struct: bool) -> Boxed<Expr> {
+    let mut body = expr;
+    while sheds(body.get(), no_struct) {
+        match held(body) {
+            Some(inner) => body = inner,
+            None => unreachable!(),
+        }
+    }
+    body
+}

@@ -1,0 +1,33 @@
+//! Made by scripts/rust.sh from crates/lay_read_code/src/climbing/block_heads.rt, which is proved: change that.
+//!
+//! What begins an expression that holds blocks, or a closure, as the rules of expressions ask for it.
+use crate::generated::lay_code::{Block, Boxed, Expr, Item, Place, Site};
+use crate::generated::lay_ops::operands::ExprLead;
+use crate::generated::lay_read_blocks::BlockRules;
+use crate::generated::lay_read_tokens::{Ahead, Found, ReadNone};
+use crate::shims::Global;
+/// What reads expressions that begin with a label, with a block or with a word before one, and closures.
+pub trait BlockHeads {
+    /// What begins such an expression, told from what the first token begins, unless it is deeper than may be.
+    fn block_head(
+        &self,
+        at: &mut Ahead<'_>,
+        no_struct: bool,
+        lead: ExprLead,
+    ) -> Result<Found<Boxed<Expr>>, ReadNone>;
+}
+impl<
+    P: Fn(Global, &mut Ahead<'_>, Place, u32) -> Result<Found<Boxed<Expr>>, ReadNone>
+        + Copy,
+    B: Fn(Global, &mut Ahead<'_>, u32) -> Result<Found<Block>, ReadNone>,
+    I: Fn(Global, &mut Ahead<'_>, Site, u32) -> Result<Found<Item>, ReadNone>,
+> BlockHeads for BlockRules<P, B, I> {
+    fn block_head(
+        &self,
+        at: &mut Ahead<'_>,
+        no_struct: bool,
+        lead: ExprLead,
+    ) -> Result<Found<Boxed<Expr>>, ReadNone> {
+        BlockRules::block_head(self, at, no_struct, lead)
+    }
+}

@@ -1,0 +1,32 @@
+//! Made by scripts/rust.sh from crates/lay_read_code/src/climbing/climb.rt, which is proved: change that.
+//!
+//! Expressions: what begins one, and the operators behind it.
+use crate::generated::lay_read_code::climbing::block_heads::BlockHeads;
+use crate::generated::lay_code::{Boxed, Expr, Place};
+use crate::generated::lay_read_exprs::ExprRules;
+use crate::generated::lay_read_exprs::climb::{accepted, is_ended};
+use crate::generated::lay_read_tokens::{Ahead, Found, ReadNone};
+use crate::shims::Global;
+/// The rules of expressions of a level, with what reads those that begin with a block.
+pub struct Climber<P, H> {
+    pub rules: ExprRules<P>,
+    /// What reads expressions that begin with blocks, and closures.
+    pub heads: H,
+}
+impl<
+    P: Fn(Global, &mut Ahead<'_>, Place, u32) -> Result<Found<Boxed<Expr>>, ReadNone>,
+    H: BlockHeads,
+> Climber<P, H> {
+    /// An expression at a place, with what is within it one level deeper.
+    #[inline(never)]
+    pub fn expr_by(
+        &self,
+        at: &mut Ahead<'_>,
+        place: Place,
+    ) -> Result<Found<Boxed<Expr>>, ReadNone> {
+        let head = self.head(at, place.no_struct)?;
+        if is_ended(at, place, head.node.get()) {
+            accepted(at, place, head, self.rules.depth + 1)
+        } else { self.rules.climb(at, place, 14, head) }
+    }
+}

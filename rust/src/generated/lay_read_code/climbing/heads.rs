@@ -1,0 +1,64 @@
+//! Made by scripts/rust.sh from crates/lay_read_code/src/climbing/heads.rt, which is proved: change that.
+//!
+//! What begins an expression.
+use crate::generated::lay_read_code::climbing::block_heads::BlockHeads;
+use crate::generated::lay_read_code::climbing::climb::Climber;
+use crate::generated::lay_code::{Boxed, Expr, Place};
+use crate::generated::lay_ops::ahead::expr_lead_at;
+use crate::generated::lay_ops::operands::ExprLead;
+use crate::generated::lay_read_parts::leads::is_at_literal;
+use crate::generated::lay_read_parts::parts::read_literal;
+use crate::generated::lay_read_shared::boxes::boxed_found;
+use crate::generated::lay_read_tokens::front::pass;
+use crate::generated::lay_read_tokens::{Ahead, Found, ReadNone};
+use crate::shims::Global;
+/// A literal.
+fn literal_expr(
+    alloc: Global,
+    at: &mut Ahead<'_>,
+) -> Result<Found<Boxed<Expr>>, ReadNone> {
+    let passes = is_at_literal(at);
+    let literal = read_literal(alloc, at, passes)?;
+    boxed_found(alloc, Expr::Lit { literal }, 1)
+}
+impl<
+    P: Fn(Global, &mut Ahead<'_>, Place, u32) -> Result<Found<Boxed<Expr>>, ReadNone>,
+    H: BlockHeads,
+> Climber<P, H> {
+    /// What begins an expression, without the operators behind it, unless it is deeper than may be.
+    #[inline(never)]
+    pub fn head(
+        &self,
+        at: &mut Ahead<'_>,
+        no_struct: bool,
+    ) -> Result<Found<Boxed<Expr>>, ReadNone> {
+        match expr_lead_at(at) {
+            Some(lead) => self.head_by(at, no_struct, lead),
+            None => Err(ReadNone::NoReading),
+        }
+    }
+    /// The same, told from what the first token begins.
+    #[inline(never)]
+    fn head_by(
+        &self,
+        at: &mut Ahead<'_>,
+        no_struct: bool,
+        lead: ExprLead,
+    ) -> Result<Found<Boxed<Expr>>, ReadNone> {
+        match lead {
+            ExprLead::Literal => literal_expr(self.rules.alloc, at),
+            ExprLead::Path => self.rules.path_or_call(at, no_struct),
+            ExprLead::Prefix => self.rules.unary_expr(at, no_struct),
+            ExprLead::Label | ExprLead::Brace | ExprLead::BlockWord
+            | ExprLead::Closure => self.heads.block_head(at, no_struct, lead),
+            ExprLead::Range => {
+                let start = Found { node: None, need: 0 };
+                self.rules.range_expr(at, no_struct, start)
+            }
+            _ => {
+                pass(at);
+                self.rules.marked(at, no_struct, lead)
+            }
+        }
+    }
+}
