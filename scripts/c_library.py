@@ -9,44 +9,25 @@ import shutil
 import subprocess
 import sys
 
+import crates
 import usage
 
 TOP = os.path.dirname(os.path.dirname(os.path.abspath(__file__)))
 CRATE = "lay_c"
 
 
-def dependencies():
-    """Of each crate the libraries that it names."""
-    found = {}
-    with open(f"{TOP}/crates.txt") as lines:
-        for line in lines:
-            head, _, names = line.split("#")[0].partition(":")
-            if head.strip():
-                found[head.split()[0]] = names.split()
-    return found
-
-
-def below(name, named, found):
-    """The crates of this repository below one, each behind those that it stands on."""
-    for other in named[name]:
-        if other in named and other not in found:
-            below(other, named, found)
-            found.append(other)
-    return found
-
-
 def main():
     usage.words(__doc__, most=0)
-    named = dependencies()
-    crates = below(CRATE, named, [])
-    rlib = {name: f"{TOP}/crates/{name}/out/rlib/{name}.rlib" for name in crates}
-    if missing := [name for name in crates if not os.path.isdir(rlib[name])]:
+    named = crates.named()
+    lower = crates.lower(CRATE)
+    rlib = {name: f"{TOP}/crates/{name}/out/rlib/{name}.rlib" for name in lower}
+    if missing := [name for name in lower if not os.path.isdir(rlib[name])]:
         sys.exit(f"c_library.py: rt ci makes these, and they aren't there: {' '.join(missing)}")
     kit = os.path.dirname(os.path.dirname(os.path.realpath(shutil.which("rt"))))
     words = ["build", "--crate-name", CRATE, "src/lib.rt", "--crate-type", "staticlib", "-L", f"dependency={kit}/rlibs"]
     for name in ["std", *named[CRATE]]:
         words += ["--extern", f"{name}={rlib.get(name) or f'{kit}/rlibs/{name}.rlib'}"]
-    for name in crates:
+    for name in lower:
         words += ["-L", f"dependency={os.path.dirname(rlib[name])}"]
     words += ["--antt-project", f"{kit}/rattle/logic/antt-project.json", "--logic-built", f"{kit}/logic_built"]
     words += ["--toolchain", f"{kit}/toolchain", "--backend", "llvm", "--links", f"{CRATE}="]

@@ -10,6 +10,7 @@ import pathlib
 import re
 import sys
 
+import crates
 import usage
 
 CRATES = pathlib.Path(__file__).resolve().parent.parent / "crates"
@@ -53,7 +54,7 @@ def main():
     source, = usage.words(__doc__, least=1, most=1)
     if not (CRATES / source).is_file():
         usage.refuse(__doc__, f"not there: crates/{source}")
-    order = [line.split(":")[0] for line in (CRATES.parent / "crates.txt").read_text().splitlines()]
+    order = [*crates.named()]
     paths = [file.relative_to(CRATES) for file in definitions(CRATES / source)]
     for path in sorted(paths, key=lambda path: (order.index(path.parts[0]), path)):
         print(path)

@@ -22,6 +22,7 @@ import subprocess
 import sys
 import tempfile
 
+import crates
 import definitions
 import usage
 
@@ -93,13 +94,13 @@ def wrong_generator():
 
 
 def wrong_numbers():
-    crates = (TOP / "crates.txt").read_text().count(":")
+    rooms = len(crates.named())
     by_file = {path.name: path.read_text().count("\n") for path in (TOP / "tests/cases").glob("*.jsonl")}
     by_hand = by_file["by_hand.jsonl"] + by_file["left_out.jsonl"]
     kinds = len(re.findall(r'^    "', KINDS.search((TOP / "scripts/stack.py").read_text())[1], re.M))
     files, lines = definitions.counts("lay_front/src/command.rt")
     numbers = {
-        r"(\d[\d,]*) crates\b": {crates},
+        r"(\d[\d,]*) crates\b": {rooms},
         r"(\d[\d,]*) cases\b": {sum(by_file.values()), sum(by_file.values()) - by_hand},
         r"(\d[\d,]*)\s+whose answers were worked out by hand": {by_hand},
         r"(\d[\d,]*) kinds of\s+nesting": {kinds},
@@ -124,7 +125,7 @@ def wrong_rows():
     """Each crate has a row of each table, and a place in the graph, and the longest chain is one."""
     architecture, proved = ((TOP / "docs" / name).read_text() for name in ("ARCHITECTURE.md", "PROVED.md"))
     graph = architecture.split("## The graph\n")[1].split("The longest chain")[0]
-    below = {line.split(":")[0]: line.split(":")[1].split() for line in (TOP / "crates.txt").read_text().splitlines()}
+    below = crates.below()
     for crate in below:
         if not re.search(rf"^\| {crate} \|", architecture, re.M):
             yield f"docs/ARCHITECTURE.md: no row for {crate}"
@@ -135,7 +136,7 @@ def wrong_rows():
     length = {}
     for crate, its in below.items():
         length[crate] = 1 + max((length.get(other, 0) for other in its), default=0)
-    tests = [crate for crate in below if "_checks" in crate or crate == "lay_test_rows"]
+    tests = [crate for crate in below if crate.startswith("lay_test")]
     longest = max(length[crate] for crate in below if crate not in tests)
     told, names = re.search(r"The longest chain, of (\d+): ([^.]*)\.", architecture).groups()
     chain = ["lay_" + name for name in re.split(r",\s+", names)]

@@ -9,6 +9,7 @@ import re
 import sys
 
 sys.path.append(os.path.join(os.path.dirname(os.path.abspath(__file__)), os.pardir))
+import crates
 import usage
 
 TOP = pathlib.Path(__file__).resolve().parent.parent.parent
@@ -17,7 +18,7 @@ ROW = re.compile(r"^\| (lay_\w+) \|((?: *[\d,]* *\|)+)$", re.M)
 
 def main():
     changed = usage.words(__doc__, least=1)
-    below = {line.split(":")[0]: line.split(":")[1].split() for line in (TOP / "crates.txt").read_text().splitlines()}
+    below = crates.below()
     if missing := [crate for crate in changed if crate not in below]:
         usage.refuse(__doc__, f"no such crate: {', '.join(missing)}")
     above = []

@@ -11,6 +11,7 @@ last. So the last moment of each process is missing, a percent or two of the who
 import os, subprocess, sys, time
 
 sys.path.append(os.path.join(os.path.dirname(os.path.abspath(__file__)), os.pardir))
+import crates
 import usage
 
 TICK = os.sysconf("SC_CLK_TCK")
@@ -62,9 +63,7 @@ def main():
     table = {}
     for (crate, kind), seconds in used.values():
         table.setdefault(crate, dict.fromkeys(KINDS, 0))[kind] += seconds
-    with open(os.path.join(TOP, "crates.txt")) as file:
-        crates = [line.split(":")[0].split()[0] for line in file if ":" in line]
-    rows = [(crate, table.pop(crate)) for crate in crates if crate in table]
+    rows = [(crate, table.pop(crate)) for crate in crates.named() if crate in table]
     rest = {kind: sum(its[kind] for its in table.values()) for kind in KINDS}
     rows.append(("compilers, tests and programs as they run", rest))
     rows.append(("all", {kind: sum(its[kind] for _, its in rows) for kind in KINDS}))

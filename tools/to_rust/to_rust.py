@@ -16,7 +16,7 @@ from dataclasses import dataclass, replace
 # The crates whose calls the cargo crate offers. All crates below them become modules.
 ROOTS = ['lay_front', 'lay_laws', 'lay_paren', 'lay_build']
 # Crates that hold nothing that runs.
-LAWS = {'lay_form', 'lay_loose', 'lay_loose_laws', 'lay_reparse', 'lay_units'}
+LAWS = {'lay_form', 'lay_reparse'}
 # Modules that aren't taken over: what reaches the system, which the cargo crate does by its own standard library, and what only tests use.
 LEFT_OUT = {
     'lay_io': {'host', 'inputs', 'lent', 'room', 'sinks', 'stored'},
