@@ -1,5 +1,5 @@
 -- A walk over tokens that is told what begins the words, one by one: the first token is taken that begins so, and what stands before
--- it is in no unit. Braces alone need more than that, as `Choice` of lay_units says.
+-- it is in no unit. Braces alone need more than that, as `Choice` of `units` says.
 use Rattle.std.specs.Prelude.{◌≡◌, ◌⊎◌, ℕ, zero, suc, ◌+◌, ◌-◌, min, Bool, true, false, cond, ◌&&◌, ◌==◌, nat_le, List, [], ◌∷◌, ◌++◌, drop, length}
 use Rattle.lay_piece.specs.Characters as char
 use Rattle.lay_piece.specs.declared.kind.Kind.{Kind}
