@@ -10,7 +10,8 @@ usage: documents.py COMMAND
   those `rust generated` in what that prints, output.rs.
 - The numbers of crates, of cases, of kinds of nesting and of lines of definitions are what is there.
 - Each file that a document names between backquotes, or by its path in docs/, is there. The contents of docs/DECISIONS.md are its sections.
-- Each crate has a row in docs/ARCHITECTURE.md and in docs/PROVED.md, and a place in the graph.
+- Each crate has a row in docs/ARCHITECTURE.md and in docs/PROVED.md, and a place in the graph. The table of what a new node costs has the files that
+  node.py lists.
 
 A line tells each fault; the exit status is 0 where there is none.
 """
@@ -24,6 +25,7 @@ import tempfile
 
 import crates
 import definitions
+import node
 import usage
 
 TOP = pathlib.Path(__file__).resolve().parent.parent
@@ -121,6 +123,15 @@ def wrong_names():
                 yield f"{document.relative_to(TOP)}: not there: {name}"
 
 
+def wrong_node():
+    """The table of what a new node costs has a row for each file of crates that scripts/node.py lists of its example."""
+    section = (TOP / "docs/ARCHITECTURE.md").read_text().split("## What a new node costs\n")[1]
+    shown = re.findall(r"^\| ([\w/+.]+\.\w+) \|", section, re.M)
+    found = [str(path) for _, _, path, _ in node.found_in(["Glob"])]
+    if shown != found:
+        yield f"docs/ARCHITECTURE.md: what a new node costs: node.py Glob lists {', '.join(found)}"
+
+
 def wrong_rows():
     """Each crate has a row of each table, and a place in the graph, and the longest chain is one."""
     architecture, proved = ((TOP / "docs" / name).read_text() for name in ("ARCHITECTURE.md", "PROVED.md"))
@@ -157,7 +168,7 @@ def main():
     if not os.access(command, os.X_OK):
         usage.refuse(__doc__, f"not there: {command}")
     command = os.path.abspath(command)
-    found = [*wrong_samples(command), *wrong_refusals(command), *wrong_commands(command), *wrong_clauses(), *wrong_generator(), *wrong_numbers(), *wrong_names(), *wrong_rows(), *wrong_contents()]
+    found = [*wrong_samples(command), *wrong_refusals(command), *wrong_commands(command), *wrong_clauses(), *wrong_generator(), *wrong_numbers(), *wrong_names(), *wrong_node(), *wrong_rows(), *wrong_contents()]
     print(*found, sep="\n", end="\n" if found else "")
     return 1 if found else 0
 
