@@ -1,8 +1,8 @@
 pub mod Forms
-mod GenericLemmas
-mod HeadLemmas
+pub mod GenericLemmas
+pub mod HeadLemmas
 pub mod Loops
 pub mod PathLemmas
-mod PatternLemmas
-mod TypeLemmas
+pub mod PatternLemmas
+pub mod TypeLemmas
 pub mod UseLemmas

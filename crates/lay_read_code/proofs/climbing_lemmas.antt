@@ -1,2 +1,2 @@
 pub mod Budgets
-mod HeadSteps
+pub mod HeadSteps
