@@ -23,14 +23,14 @@ use Rattle.lay_reparse.proofs.borders.Border.{Border, beyond}
 use Rattle.lay_reparse.proofs.borders.Move.{under}
 use Rattle.lay_reparse.proofs.forms.Fields.{type_ends}
 use Rattle.lay_reparse.proofs.forms.Passes.{plain, loosened}
-use Rattle.lay_reparse.proofs.forms.Rules.{tables, From, All, under-refl, wider, ends, simple, fixed, breaks, part, bare_body, unseen_body, body_fits_both, marked_body, list}
+use Rattle.lay_reparse.proofs.forms.Rules.{tables, whenever, From, All, under-refl, wider, ends, simple, fixed, breaks, part, bare_body, unseen_body, body_fits_both, marked_body, list}
 use Rattle.lay_reparse.proofs.file.Nodes.{list_pieces}
 use Rattle.lay_reparse.proofs.file.TypeParts.{ends_type, param_attrs_pass, param_attrs_pieces}
 use Rattle.lay_reparse.proofs.file.TypeKinds.{deep_pieces}
 use Rattle.lay_reparse.proofs.file.Types.{type_passes}
 use Rattle.lay_reparse.proofs.file.PatternParts.{ends_pat}
 use Rattle.lay_reparse.proofs.file.Patterns.{pat_passes_at}
-use Rattle.lay_reparse.proofs.file.ExprParts.{ends_operand, ends_by, ends_wide, always, deep, gap, begins_bars, head_word, BeginsCode}
+use Rattle.lay_reparse.proofs.file.ExprParts.{leads_to, ends_operand, ends_by, ends_wide, always, deep, gap, begins_bars, head_word, BeginsCode}
 use Rattle.lay_reparse.proofs.file.ExprPlaces.{ExprPasses, inner_expr}
 use Rattle.lay_reparse.proofs.file.ExprKinds.{starting}
 use Rattle.lay_reparse.proofs.file.BlockKinds.{BlockPasses}
@@ -87,29 +87,25 @@ bars_pass b h ps g w =
     let es = map closure_param ps in
     list true bar bar es plain ends_pat h (params_pass ps g (list_pieces true bar bar es w))
 
+move_passes : (b : Border) → leads_to b (head_word (codes "move")) plain ≡ true → (moves : Bool) (ps : List ClosureParam) {f : Form} {c : Border}
+    → (From plain (comma_list true bar bar (map closure_param ps)) plain) → From plain f c
+    → From b (form.Part (comma_list true bar bar (map closure_param ps)) f) c → From b (behind_async moves ps f) c
+move_passes b h moves ps bars k j =
+    let m = head_word (codes "move") in
+    let r = and_parts (simple b m) (under (beyond b m) plain) h in
+    whenever moves m r.0 refl (part plain plain r.1 bars k) j
+
 head_passes : (b : Border) → BeginsCode b → (is_async moves : Bool) (ps : List ClosureParam) → list_all is_closure_param ps ≡ true
     → {f : Form} {c : Border} → are_pieces (closure_head is_async moves ps f) ≡ true → From plain f c
     → From b (closure_head is_async moves ps f) c
-head_passes b s true true ps g {f} w k =
+head_passes b s is_async moves ps g {f} w k =
     let a = head_word (codes "async") in
-    let m = head_word (codes "move") in
-    let p = head_pieces true true ps f w in
+    let p = head_pieces is_async moves ps f w in
     let q = and_parts (simple b a) (under (beyond b a) plain) s.by_async_bars in
-    let r = and_parts (simple (beyond b a) m) (under (beyond (beyond b a) m) plain) s.by_async_move_bars in
-    fixed q.0 (fixed r.0 (part plain plain r.1 (bars_pass plain plain_bars ps g p.0) k))
-head_passes b s true false ps g {f} w k =
-    let a = head_word (codes "async") in
-    let p = head_pieces true false ps f w in
-    let q = and_parts (simple b a) (under (beyond b a) plain) s.by_async_bars in
-    fixed q.0 (part plain plain q.1 (bars_pass plain plain_bars ps g p.0) k)
-head_passes b s false true ps g {f} w k =
-    let m = head_word (codes "move") in
-    let p = head_pieces false true ps f w in
-    let q = and_parts (simple b m) (under (beyond b m) plain) s.by_move in
-    fixed q.0 (part plain plain q.1 (bars_pass plain plain_bars ps g p.0) k)
-head_passes b s false false ps g {f} w k =
-    let p = head_pieces false false ps f w in
-    part b plain (under-refl b) (bars_pass b s.bars ps g p.0) k
+    let bars = bars_pass plain plain_bars ps g p.0 in
+    whenever is_async a q.0 refl
+        (move_passes (beyond b a) s.by_async_move_bars moves ps bars k (part plain plain q.1 bars k))
+        (move_passes b s.by_move moves ps bars k (part b plain (under-refl b) (bars_pass b s.bars ps g p.0) k))
 
 -- ---- closures
 

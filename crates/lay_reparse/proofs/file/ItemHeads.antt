@@ -34,10 +34,9 @@ use Rattle.lay_reparse.proofs.file.ExprParts.{ends_expr, opens_block}
 use Rattle.lay_reparse.proofs.file.ExprPlaces.{ExprPasses}
 use Rattle.lay_reparse.proofs.file.BlockKinds.{BlockPasses, value_from}
 use Rattle.lay_reparse.proofs.forms.Passes.{plain}
-use Rattle.lay_reparse.proofs.forms.Rules.{tables, From, All, under-refl, ends, fixed, part, body_fits, braced}
+use Rattle.lay_reparse.proofs.forms.Rules.{same_whenever, tables, From, All, under-refl, ends, fixed, part, body_fits, braced}
 use Rattle.lay_reparse.proofs.file.Nodes.{ends_name, ends_line, ends_use, start_path, behind_word, word, both_pieces, both_all, attrs_pass, use_passes, when_pieces, body_pieces}
 use Rattle.lay_reparse.proofs.file.TypeParts.{ends_type, ends_arg, string_literal_passes}
-use Rattle.lay_reparse.proofs.file.TypeKinds.{unsafe_passes}
 use Rattle.lay_reparse.proofs.file.Generics.{behind_type, ends_predicate}
 use Rattle.lay_reparse.proofs.forms.Functions.{fn_head_passes}
 use Rattle.lay_reparse.proofs.forms.Heads.{HeadPasses, four_parts, body_tail, semicolon_tail, items_fit, value_head_passes, trait_head_passes, impl_head_passes}
@@ -209,7 +208,7 @@ foreign_passes is_unsafe abi attrs items k = record {
   between = ends_arg;
   head = λ g w.
       let p = when_pieces is_unsafe (keyword (codes "unsafe") ∷ Blank ∷ []) _ w in
-      unsafe_passes is_unsafe (fixed refl (foreign_abi_passes abi (parts g).0 p));
+      same_whenever is_unsafe (keyword (codes "unsafe") ∷ Blank ∷ []) refl refl refl (fixed refl (foreign_abi_passes abi (parts g).0 p));
   tail = λ g w. let n = parts g in item_body_passes site.Foreign true attrs items foreign_fits k n.1 n.2 w;
 }
   where

@@ -47,7 +47,7 @@ use Rattle.lay_reparse.proofs.borders.Need.{RawWord, LineDoc, Grow, all}
 use Rattle.lay_reparse.proofs.borders.Border.{Other, Border, At}
 use Rattle.lay_reparse.proofs.borders.Move.{under}
 use Rattle.lay_reparse.proofs.forms.Passes.{plain, leads, fits, doc_passes}
-use Rattle.lay_reparse.proofs.forms.Rules.{tables, On, From, All, ends, fixed, tree_token, part, level, documented, list_fits, list}
+use Rattle.lay_reparse.proofs.forms.Rules.{same_whenever, tables, On, From, All, ends, fixed, tree_token, part, level, documented, list_fits, list}
 use Rattle.lay_reparse.proofs.texts.Laid.{as_block, raw, is_laid, is_leaf_kind}
 use Rattle.lay_reparse.proofs.texts.LaidTokens.{text_laid, doc_laid}
 use Rattle.lay_reparse.proofs.tokens.Rows.{opens_at, list_end}
@@ -120,11 +120,6 @@ simple_words_pass (one ∷ two ∷ more) w =
     (rest_pieces one.raw one.text (Piece colons (simple_words_form (two ∷ more) Done)) w) in
     word one.raw one.text refl w (fixed refl k) (fixed refl k)
 
-when_colons : (global : Bool) {f : Form} {c : Border} → From start_path f c → From start_path (when global colons f) c
-unfolding tables
-when_colons true k = fixed refl k
-when_colons false k = k
-
 pub when_pieces : (is_there : Bool) (p : List Bit) (f : Form) → are_pieces (when is_there p f) ≡ true
     → are_pieces f ≡ true
 when_pieces true p f w = w
@@ -135,7 +130,8 @@ ends_path_name = record { needs = need.Word ∷ RawWord ∷ Grow (codes "::") �
 
 pub simple_path_passes : (path : SimplePath) → are_pieces (simple_path_form path) ≡ true
     → From start_path (simple_path_form path) ends_path_name
-simple_path_passes path w = when_colons path.global (simple_words_pass path.words (when_pieces path.global colons _ w))
+unfolding tables
+simple_path_passes path w = same_whenever path.global colons refl refl refl (simple_words_pass path.words (when_pieces path.global colons _ w))
 
 -- ---- attributes
 
@@ -325,7 +321,7 @@ use_from t k = subst UsePasses (sym (use_is t)) (record {
       let r = when_pieces t.global colons _ (and_parts (are_pieces f) true w).0 in
       let s = (and_parts (are_pieces end) true (steps_pieces t.path _ r)).0 in
       level start_path ends_use refl
-      (when_colons t.global (steps_pass t.path r (part start_path ends_use refl (k.go s) (ends refl)))) (ends refl);
+      (same_whenever t.global colons refl refl refl (steps_pass t.path r (part start_path ends_use refl (k.go s) (ends refl)))) (ends refl);
 })
 
 abbrev KeptUse : Type 0

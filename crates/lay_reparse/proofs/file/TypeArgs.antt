@@ -24,7 +24,7 @@ use Rattle.lay_reparse.proofs.borders.Need.{all}
 use Rattle.lay_reparse.proofs.borders.Border.{Border}
 use Rattle.lay_reparse.proofs.borders.Move.{under}
 use Rattle.lay_reparse.proofs.forms.Passes.{plain, leads}
-use Rattle.lay_reparse.proofs.forms.Rules.{wider, tables, From, All, Leads, ends, fixed, breaks, within, part, level, left_out, list_fits, list}
+use Rattle.lay_reparse.proofs.forms.Rules.{same_whenever, wider, tables, From, All, Leads, ends, fixed, breaks, within, part, level, left_out, list_fits, list}
 use Rattle.lay_reparse.proofs.file.Nodes.{ends_name, start_path, word, rest_pieces, list_pieces}
 use Rattle.lay_reparse.proofs.file.TypeParts.{ends_type, ends_arg, joined_passes, joined_pieces, leaf_passes, binder_passes, binder_pieces, captures_form_passes, const_passes}
 
@@ -158,12 +158,6 @@ bounds_pass xs k g w =
     (all_pass plain ends_type xs k (and_parts (is_there xs) _ g).1 (joined_pieces lead (λ f. refl) (forms xs) p)))
     (ends refl)
 
-maybe_passes : (maybe : Bool) {f : Form} {c : Border} → From plain f c
-    → From plain (when maybe (form.Fixed kind.Punct (codes "?") ∷ []) f) c
-unfolding tables
-maybe_passes true k = fixed refl k
-maybe_passes false k = k
-
 maybe_pieces : (maybe : Bool) (f : Form) → are_pieces (when maybe (form.Fixed kind.Punct (codes "?") ∷ []) f) ≡ true
     → are_pieces f ≡ true
 maybe_pieces true f w = w
@@ -177,7 +171,7 @@ meets_passes maybe binder x k g w =
     let n = and_parts (is_binder binder) _ g in
     let f = form.Part x.form Done in
     let p = maybe_pieces maybe (binder_form binder f) w in
-    maybe_passes maybe (binder_passes binder n.0 p
+    same_whenever maybe (form.Fixed kind.Punct (codes "?") ∷ []) refl refl refl (binder_passes binder n.0 p
     (part plain ends_type refl (k.go n.1 (and_parts (are_pieces x.form) true (binder_pieces binder f p)).0)
     (ends refl)))
 

@@ -25,7 +25,7 @@ use Rattle.lay_reparse.proofs.borders.Need.{RawWord, Grow}
 use Rattle.lay_reparse.proofs.borders.Border.{Border, Clear}
 use Rattle.lay_reparse.proofs.borders.Move.{under}
 use Rattle.lay_reparse.proofs.forms.Passes.{plain}
-use Rattle.lay_reparse.proofs.forms.Rules.{tables, On, From, All, ends, fixed, dotted, part, level, list_fits, list}
+use Rattle.lay_reparse.proofs.forms.Rules.{same_whenever, tables, On, From, All, ends, fixed, dotted, part, level, list_fits, list}
 use Rattle.lay_reparse.proofs.tokens.Rows.{list_end}
 use Rattle.lay_reparse.proofs.tokens.Within.{listed}
 use Rattle.lay_reparse.proofs.file.Nodes.{behind_word, list_pieces, both_pieces, both_all, call_passes, when_pieces}
@@ -124,12 +124,6 @@ pointer_pass mutable x k = record {
       (part plain ends_type refl (k.go (and_parts x.told.good _ g).0 p) (ends refl)));
 }
 
-pub mutable_passes : (mutable : Bool) {f : Form} {c : Border} → From plain f c
-    → From plain (when mutable (keyword (codes "mut") ∷ Blank ∷ []) f) c
-unfolding tables
-mutable_passes true k = fixed refl k
-mutable_passes false k = k
-
 pub borrow_passes : (lifetime : Option Lifetime) {f : Form} {c : Border} → are_pieces (ref_lifetime lifetime f) ≡ true
     → From plain f c → From plain (ref_lifetime lifetime f) c
 unfolding tables
@@ -151,7 +145,7 @@ reference_pass lifetime mutable x k = record {
       let f = when mutable (keyword (codes "mut") ∷ Blank ∷ []) e in
       let p = (and_parts (are_pieces (ref_lifetime lifetime f)) true w).0 in
       let q = when_pieces mutable (keyword (codes "mut") ∷ Blank ∷ []) e (borrow_pieces lifetime f p) in
-      deep refl (fixed refl (borrow_passes lifetime p (mutable_passes mutable
+      deep refl (fixed refl (borrow_passes lifetime p (same_whenever mutable (keyword (codes "mut") ∷ Blank ∷ []) refl refl refl
       (part plain ends_type refl
       (k.go (and_parts x.told.good _ g).0 (and_parts (are_pieces x.told.form) true q).0) (ends refl)))));
 }
@@ -212,12 +206,6 @@ params_pass params variadic k g w =
     (both_all plain ends_param (forms params) (dots variadic) (all_pass plain ends_param params k g p.0)
     (dots_pass variadic))
 
-pub unsafe_passes : (is_unsafe : Bool) {f : Form} {c : Border} → From plain f c
-    → From plain (when is_unsafe (keyword (codes "unsafe") ∷ Blank ∷ []) f) c
-unfolding tables
-unsafe_passes true k = fixed refl k
-unsafe_passes false k = k
-
 pub func_pass : (binder : Option Binder) (is_unsafe : Bool) (abi : Option Abi) (params : List Facts) (variadic : Bool)
     (output : Option TypeFacts) → Each (Passing plain ends_param) params → Any TypePasses output
     → TypePasses (ty_facts (Ty-F.Func binder is_unsafe abi params variadic output))
@@ -234,7 +222,7 @@ func_pass binder is_unsafe abi params variadic output k l = record {
       let w2 = when_pieces is_unsafe (keyword (codes "unsafe") ∷ Blank ∷ []) f (binder_pieces binder h w1) in
       let w3 = and_parts (are_pieces (params_form params variadic)) (are_pieces (output_form output))
       (abi_pieces abi e w2) in
-      deep refl (binder_passes binder n3.0 w1 (unsafe_passes is_unsafe (abi_passes abi n3.1 w2
+      deep refl (binder_passes binder n3.0 w1 (same_whenever is_unsafe (keyword (codes "unsafe") ∷ Blank ∷ []) refl refl refl (abi_passes abi n3.1 w2
       (fixed refl (part behind_word plain refl (params_pass params variadic k n2.1 w3.0)
       (output_passes output l n1.1 w3.1))))));
 }

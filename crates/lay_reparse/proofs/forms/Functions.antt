@@ -26,10 +26,10 @@ use Rattle.lay_node.specs.declared.types.Ty.{Ty}
 use Rattle.lay_node.specs.declared.types.TypePlace.TheVariants.{Bounds}
 use Rattle.lay_reparse.proofs.borders.Border.{Border}
 use Rattle.lay_reparse.proofs.forms.Passes.{plain}
-use Rattle.lay_reparse.proofs.forms.Rules.{tables, From, wider, ends, fixed, dotted, part, list_fits, list}
+use Rattle.lay_reparse.proofs.forms.Rules.{same_whenever, tables, From, wider, ends, fixed, dotted, part, list_fits, list}
 use Rattle.lay_reparse.proofs.file.Nodes.{behind_word, ends_name, word, rest_pieces, when_pieces, list_pieces}
 use Rattle.lay_reparse.proofs.file.TypeParts.{ends_type, param_attrs_pass, param_attrs_pieces, abi_passes, abi_pieces}
-use Rattle.lay_reparse.proofs.file.TypeKinds.{ends_param, mutable_passes, borrow_passes}
+use Rattle.lay_reparse.proofs.file.TypeKinds.{ends_param, borrow_passes}
 use Rattle.lay_reparse.proofs.file.Generics.{generics_pass}
 use Rattle.lay_reparse.proofs.file.PatternParts.{ends_pat}
 use Rattle.lay_reparse.proofs.file.Patterns.{pat_passes_at}
@@ -47,10 +47,10 @@ pub param_kind_passes : (k : ParamKind) → is_param_kind k ≡ true → are_pie
     → From plain (param_kind_form k) ends_param
 unfolding tables
 param_kind_passes (param.RefSelf lifetime mutable) g w =
-    fixed refl (borrow_passes lifetime w (mutable_passes mutable (fixed refl (ends refl))))
+    fixed refl (borrow_passes lifetime w (same_whenever mutable mut_word refl refl refl (fixed refl (ends refl))))
 param_kind_passes (param.OwnSelf mutable x) g w =
     let p = when_pieces mutable mut_word (Piece self_word (self_type x)) w in
-    mutable_passes mutable (fixed refl (self_type_passes x g p))
+    same_whenever mutable mut_word refl refl refl (fixed refl (self_type_passes x g p))
 param_kind_passes (param.Typed p x) g w =
     let n = and_parts (pat_good Single (about_pat p)) (good_at Bounds (about_type x)) g in
     let q = and_parts (are_pieces (pat_form Single (about_pat p))) _ w in
@@ -119,18 +119,6 @@ safety_pieces : (s : Option Safety) (f : Form) → are_pieces (safety_form s f) 
 safety_pieces None f w = w
 safety_pieces (Some s) f w = w
 
-const_word_passes : (is_const : Bool) {f : Form} {c : Border} → From plain f c
-    → From plain (when is_const (keyword (codes "const") ∷ Blank ∷ []) f) c
-unfolding tables
-const_word_passes true k = fixed refl k
-const_word_passes false k = k
-
-async_word_passes : (is_async : Bool) {f : Form} {c : Border} → From plain f c
-    → From plain (when is_async (keyword (codes "async") ∷ Blank ∷ []) f) c
-unfolding tables
-async_word_passes true k = fixed refl k
-async_word_passes false k = k
-
 pub fn_head_passes : (site : Site) (h : FnHead) → is_fn_head site h ≡ true → are_pieces (fn_head_form h) ≡ true
     → From plain (fn_head_form h) ends_type
 unfolding tables
@@ -153,5 +141,6 @@ fn_head_passes site h g w =
     let w2 = when_pieces h.is_async (keyword (codes "async") ∷ Blank ∷ []) s w1 in
     let w3 = safety_pieces h.safety a w2 in
     let w4 = abi_pieces h.abi e w3 in
-    const_word_passes h.is_const (async_word_passes h.is_async (safety_passes h.safety (abi_passes h.abi n5.1 w3
+    same_whenever h.is_const (keyword (codes "const") ∷ Blank ∷ []) refl refl refl
+    (same_whenever h.is_async (keyword (codes "async") ∷ Blank ∷ []) refl refl refl (safety_passes h.safety (abi_passes h.abi n5.1 w3
     (fixed refl (signature_passes h n3.1 n2.1 n1.1 w4)))))

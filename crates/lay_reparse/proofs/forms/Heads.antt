@@ -35,10 +35,9 @@ use Rattle.lay_node.specs.declared.types.TypePlace.TheVariants.{Bounds}
 use Rattle.lay_node.specs.declared.vis.Vis.{Vis}
 use Rattle.lay_reparse.proofs.borders.Border.{Border}
 use Rattle.lay_reparse.proofs.forms.Passes.{plain}
-use Rattle.lay_reparse.proofs.forms.Rules.{tables, From, ends, fixed, within, part, body_fits, where_fits, under-refl}
+use Rattle.lay_reparse.proofs.forms.Rules.{same_whenever, tables, From, ends, fixed, within, part, body_fits, where_fits, under-refl}
 use Rattle.lay_reparse.proofs.file.Nodes.{ends_name, ends_line, ends_use, word, rest_pieces, when_pieces, rename_passes}
 use Rattle.lay_reparse.proofs.file.TypeParts.{ends_type, param_name_passes, param_name_pieces}
-use Rattle.lay_reparse.proofs.file.TypeKinds.{mutable_passes, unsafe_passes}
 use Rattle.lay_reparse.proofs.file.Types.{path_passes}
 use Rattle.lay_reparse.proofs.file.Generics.{bounded_passes, default_passes, generics_pass, ends_predicate, body_wheres_pass, semicolon_wheres_pass, behind_generics, behind_type}
 use Rattle.lay_reparse.proofs.forms.Fields.{type_ends, tuple_fits, tuple_passes, named_passes, variants_pass}
@@ -226,7 +225,7 @@ value_head_passes (value.Static mutable name x) g w =
     let e = of_type x in
     let p = when_pieces mutable mut_word (leaf_of name.raw name.text e) w in
     let z = type_ends x k (rest_pieces name.raw name.text e p) in
-    fixed refl (mutable_passes mutable (word name.raw name.text refl p (fixed refl z) (fixed refl z)))
+    fixed refl (same_whenever mutable mut_word refl refl refl (word name.raw name.text refl p (fixed refl z) (fixed refl z)))
 
 -- ---- traits
 
@@ -240,7 +239,7 @@ trait_head_passes x g w =
     let n1 = and_parts (is_name x.name.raw x.name.text && is_generics x.generics) (are_bounds x.bounds) g in
     let n2 = and_parts (is_name x.name.raw x.name.text) (is_generics x.generics) n1.0 in
     let p = when_pieces x.is_unsafe unsafe_word _ w in
-    unsafe_passes x.is_unsafe (fixed refl (behind_name x.name.raw x.name.text x.generics n2.1 p (λ q.
+    same_whenever x.is_unsafe unsafe_word refl refl refl (fixed refl (behind_name x.name.raw x.name.text x.generics n2.1 p (λ q.
     let r = (and_parts (are_pieces (bounded_form x.bounds)) true q).0 in
     part ends_name ends_type refl (bounded_passes x.bounds n1.1 r) (ends refl))))
 
@@ -273,5 +272,5 @@ impl_head_passes x g w =
     let e = form.Part (about_type x.ty).told.form Done in
     let p = when_pieces x.is_unsafe unsafe_word _ w in
     let q = and_parts (are_pieces (generics_form x.generics)) (are_pieces (trait_ref_form x.of e)) p in
-    unsafe_passes x.is_unsafe (fixed refl (part ends_name ends_name refl (generics_pass x.generics n3.0 q.0)
+    same_whenever x.is_unsafe unsafe_word refl refl refl (fixed refl (part ends_name ends_name refl (generics_pass x.generics n3.0 q.0)
     (fixed refl (trait_ref_passes x.of n3.1 q.1 (type_ends x.ty n2.1)))))

@@ -15,7 +15,7 @@ use Rattle.lay_token.proofs.Deciding.{bytes_same}
 use Rattle.lay_form.specs.Form as form
 use Rattle.lay_form.specs.Form.{Bit, Blank, Semicolons, Space, Soft, Hard, Bare, Unseen, Marked, Nothing, ArmComma, Form, Done, Piece, Leaf, Listed, ListedDoc, Brk, LastComma, Group, Deeper, Optional, Docs, Body, opener, closer, comma}
 use Rattle.lay_form.specs.Spelled.{may_lack}
-use Rattle.lay_form.specs.Notation.{B, H, N, B-, C4, each, comma_gap, last_break, comma_list, body, with_commas, fields, braces, where_body, where_semicolon, where_word, soft, behind_attrs, lines}
+use Rattle.lay_form.specs.Notation.{when, B, H, N, B-, C4, each, comma_gap, last_break, comma_list, body, with_commas, fields, braces, where_body, where_semicolon, where_word, soft, behind_attrs, lines}
 use Rattle.lay_form.specs.Layout.{text_of_bits, led, bits_end_in_point, token_ends_in_point, space_ends_in_point, keeps_point, ends_behind_point}
 use Rattle.lay_reparse.proofs.borders.Need.{Text, begins_dot, Need, Word, RawWord, Life, Literal, Number, IntBare, FloatWord, Solidus, LineDoc, IntPoint, Grow, Joint, Loose, allows, grows, glue, all, all_by, blank_ok, line_ok}
 use Rattle.lay_reparse.proofs.borders.OperatorRuns.{is_operator}
@@ -152,6 +152,17 @@ dotted {o} {p} {f} {b} {c} h k l = record { go = λ v. at v (begins_dot (text_of
         (and_from (stands p) _ q.0 (and_parts (pass b p) _ q.1).1, l.go (bits_end_in_point v p))
     at v false = let q = and_parts (stands p) _ h in
         (and_from (stands p) _ q.0 (and_parts (pass b p) _ q.1).0, k.go (bits_end_in_point v p))
+
+-- An optional word. What follows passes after it, and without it.
+pub whenever : (is_there : Bool) (p : List Bit) {f : Form} {b c : Border} → simple b p ≡ true → bits_open even p ≡ even
+    → From (beyond b p) f c → From b f c → From b (when is_there p f) c
+whenever true p {f} {b} {c} h e k j = fixed h (subst (λ o. On o (beyond b p) f c) (sym e) k)
+whenever false p h e k j = j
+
+-- An optional word that leaves the border as it is.
+pub same_whenever : (is_there : Bool) (p : List Bit) {f : Form} {b c : Border} → simple b p ≡ true → bits_open even p ≡ even
+    → beyond b p ≡ b → From b f c → From b (when is_there p f) c
+same_whenever is_there p {f} {b} {c} h e s k = whenever is_there p h e (subst (λ z. From z f c) (sym s) k) k
 
 pub kept : {o : Option (List Delim)} {p : List Bit} {f : Form} {b c : Border} → simple b p ≡ true → bits_open o p ≡ o
     → On o (beyond b p) f c → On o b (Optional true p f) c
