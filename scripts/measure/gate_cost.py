@@ -3,7 +3,8 @@
 
 usage: gate_cost.py [--anew]    runs `rt ci` with the same word, which a toolchain that keeps what passed needs
 
-It prints the table of docs/GATE.md, the crates in the order of crates.txt.
+It prints the table of docs/GATE.md, the crates in the order of crates.txt, their sum, and the dearest chain: crates of which each stands on the one
+before it, so that no number of cores proves them sooner.
 
 Every half second it looks at the processes that the gate has started, and keeps what each has used of a core when it was seen
 last. So the last moment of each process is missing, a percent or two of the whole. It reads /proc, as Linux has it.
@@ -49,6 +50,15 @@ def part(number, found, gate):
     return place if number == gate else None
 
 
+def dearest_chain(seconds):
+    """The seconds and the crates of the chain whose proofs take longest."""
+    chains = {}
+    for crate, libraries in crates.below().items():
+        total, chain = max((chains[other] for other in libraries if other in chains), default=(0, []))
+        chains[crate] = total + seconds.get(crate, 0), [*chain, crate]
+    return max(chains.values())
+
+
 def main():
     words = usage.words(__doc__, most=1, options=("--anew",))
     gate = subprocess.Popen(["rt", "ci", *words], stdout=subprocess.DEVNULL, stderr=subprocess.DEVNULL)
@@ -63,6 +73,7 @@ def main():
     table = {}
     for (crate, kind), seconds in used.values():
         table.setdefault(crate, dict.fromkeys(KINDS, 0))[kind] += seconds
+    total, chain = dearest_chain({crate: its["proofs"] for crate, its in table.items()})
     rows = [(crate, table.pop(crate)) for crate in crates.named() if crate in table]
     rest = {kind: sum(its[kind] for its in table.values()) for kind in KINDS}
     rows.append(("compilers, tests and programs as they run", rest))
@@ -71,6 +82,7 @@ def main():
     for crate, its in rows:
         print(f"| {crate} |", " | ".join(f"{its[kind]:.0f}" if its[kind] >= 0.5 else "" for kind in KINDS), "|")
     print(f"\nThat is {sum(rows[-1][1].values()) / 60:.0f} minutes of one core.")
+    print(f"The dearest chain takes {total / 60:.0f}: {', '.join(chain)}.")
     sys.exit(gate.returncode)
 
 
