@@ -99,36 +99,8 @@ enclosed_body false x is = cc
 
 -- A block without a label wears those that it wears as it is.
 bare_is_block : (layer : ExprNode) → is_bare_node layer ≡ true → (b : Block) × (layer ≡ Expr-F.Block None b)
-bare_is_block (Expr-F.Lit l) is = cc
-bare_is_block (Expr-F.Path path) is = cc
-bare_is_block Expr-F.Underscore is = cc
-bare_is_block (Expr-F.Expr::Call call) is = cc
-bare_is_block (Expr-F.Paren x) is = cc
-bare_is_block (Expr-F.Continue label) is = cc
-bare_is_block (Expr-F.Tuple xs) is = cc
-bare_is_block (Expr-F.Array xs) is = cc
-bare_is_block (Expr-F.Repeat x length) is = cc
-bare_is_block (Expr-F.Expr::Struct path fields base) is = cc
-bare_is_block (Expr-F.Chain x rest) is = cc
-bare_is_block (Expr-F.Cast x types) is = cc
-bare_is_block (Expr-F.Unary ps x) is = cc
-bare_is_block (Expr-F.Range start inclusive end) is = cc
-bare_is_block (Expr-F.Assign targets x) is = cc
-bare_is_block (Expr-F.Postfix x steps) is = cc
-bare_is_block (Expr-F.Unsafe b) is = cc
-bare_is_block (Expr-F.ConstBlock b) is = cc
-bare_is_block (Expr-F.Async moves b) is = cc
-bare_is_block (Expr-F.If branches otherwise) is = cc
-bare_is_block (Expr-F.Match x attrs arms) is = cc
-bare_is_block (Expr-F.Loop label b) is = cc
-bare_is_block (Expr-F.While label c b) is = cc
-bare_is_block (Expr-F.For label pat x b) is = cc
-bare_is_block (Expr-F.Closure is_async moves params x) is = cc
-bare_is_block (Expr-F.TypedClosure is_async moves params output b) is = cc
-bare_is_block (Expr-F.Return x) is = cc
-bare_is_block (Expr-F.Break label x) is = cc
 bare_is_block (Expr-F.Block None b) is = (b, refl)
-bare_is_block (Expr-F.Block (Some l) b) is = cc
+bare_is_block _ is = cc
 
 bare_block : (x : Expr) → is_bare x ≡ true → (b : Block) × (x ≡ expr.Block None b)
 bare_block x is =

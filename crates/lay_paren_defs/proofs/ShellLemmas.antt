@@ -20,7 +20,7 @@ use Rattle.lay_code.specs.declared.item.Item.{Item}
 use Rattle.lay_code.specs.declared.item.ItemKind.{ItemKind}
 use Rattle.lay_code.specs.declared.item.ItemKind.TheVariants as kind
 use Rattle.lay_code.specs.declared.operators.Op.{Op}
-use Rattle.lay_paren_defs.specs.Enclosed.{arm_shell, arm_with, block_shell, block_with, branch_shell, branch_with, condition_shell, condition_with, enclose, enclose_arm, enclose_block, enclose_branch, enclose_condition, enclose_field, enclose_item, enclose_kind, enclose_link, enclose_step, enclose_stmt, enclosed, enclosed_arm, enclosed_block, enclosed_branch, enclosed_condition, enclosed_field, enclosed_item, enclosed_kind, enclosed_link, enclosed_step, enclosed_stmt, expr_shell, expr_with, field_shell, field_with, item_shell, item_with, kind_shell, kind_with, link_shell, link_with, operand_part, part, shell, shell_arm, shell_block, shell_branch, shell_condition, shell_field, shell_item, shell_kind, shell_link, shell_step, shell_stmt, step_shell, step_with, stmt_shell, stmt_with, target_part}
+use Rattle.lay_paren_defs.specs.Enclosed.{arm_shell, arm_with, block_shell, block_with, branch_with, condition_shell, condition_with, enclose, enclose_arm, enclose_block, enclose_branch, enclose_condition, enclose_field, enclose_item, enclose_kind, enclose_link, enclose_step, enclose_stmt, enclosed, enclosed_arm, enclosed_block, enclosed_branch, enclosed_condition, enclosed_field, enclosed_item, enclosed_kind, enclosed_link, enclosed_step, enclosed_stmt, expr_shell, expr_with, field_shell, field_with, item_with, kind_shell, kind_with, link_shell, link_with, operand_part, part, shell, shell_arm, shell_block, shell_branch, shell_condition, shell_field, shell_item, shell_kind, shell_link, shell_step, shell_stmt, step_shell, step_with, stmt_shell, stmt_with, target_part}
 
 -- ---- lists and what may lack, with parentheses and as they are
 
@@ -151,8 +151,7 @@ stmt_on (Stmt-F.Stmt::Let attrs pat ty None None) = refl
 stmt_on (Stmt-F.Stmt::Let attrs pat ty None (Some otherwise)) = refl
 stmt_on (Stmt-F.Stmt::Let attrs pat ty (Some x) None) = refl
 stmt_on (Stmt-F.Stmt::Let attrs pat ty (Some x) (Some otherwise)) = refl
-stmt_on (Stmt-F.Item item) = refl
-stmt_on (Stmt-F.Stmt::Expr attrs x ended) = refl
+stmt_on _ = refl
 
 -- as it is
 stmt_off : (y : StmtNode) → stmt_shell false y ≡ views.roll-Stmt y
@@ -172,43 +171,24 @@ link_off (Link-F.Link::Let pat x) = sym (views.rolls-Link::Let pat x)
 
 -- with parentheses
 expr_on : (y : ExprNode) → expr_with (expr_parts y) ≡ expr_shell true y
-expr_on (Expr-F.Lit l) = refl
-expr_on (Expr-F.Path path) = refl
-expr_on Expr-F.Underscore = refl
-expr_on (Expr-F.Expr::Call call) = refl
-expr_on (Expr-F.Paren x) = refl
-expr_on (Expr-F.Continue label) = refl
 expr_on (Expr-F.Tuple xs) = ap (λ (zs : List Expr). expr.Tuple zs) (parts_on xs)
 expr_on (Expr-F.Array xs) = ap (λ (zs : List Expr). expr.Array zs) (parts_on xs)
-expr_on (Expr-F.Repeat x length) = refl
 expr_on (Expr-F.Expr::Struct path fields None) = refl
 expr_on (Expr-F.Expr::Struct path fields (Some None)) = refl
 expr_on (Expr-F.Expr::Struct path fields (Some (Some base))) = refl
 expr_on (Expr-F.Chain x rest) = ap (λ (zs : List (Op × Expr)). expr.Chain (part true x) zs) (operands_on rest)
-expr_on (Expr-F.Cast x types) = refl
-expr_on (Expr-F.Unary ps x) = refl
 expr_on (Expr-F.Range None inclusive None) = refl
 expr_on (Expr-F.Range None inclusive (Some end)) = refl
 expr_on (Expr-F.Range (Some start) inclusive None) = refl
 expr_on (Expr-F.Range (Some start) inclusive (Some end)) = refl
 expr_on (Expr-F.Assign targets x) = ap (λ (zs : List (Expr × Op)). expr.Assign zs (part true x)) (targets_on targets)
-expr_on (Expr-F.Postfix x steps) = refl
-expr_on (Expr-F.Block label b) = refl
-expr_on (Expr-F.Unsafe b) = refl
-expr_on (Expr-F.ConstBlock b) = refl
-expr_on (Expr-F.Async moves b) = refl
 expr_on (Expr-F.If branches None) = refl
 expr_on (Expr-F.If branches (Some otherwise)) = refl
-expr_on (Expr-F.Match x attrs arms) = refl
-expr_on (Expr-F.Loop label b) = refl
-expr_on (Expr-F.While label c b) = refl
-expr_on (Expr-F.For label pat x b) = refl
-expr_on (Expr-F.Closure is_async moves params x) = refl
-expr_on (Expr-F.TypedClosure is_async moves params output b) = refl
 expr_on (Expr-F.Return None) = refl
 expr_on (Expr-F.Return (Some x)) = refl
 expr_on (Expr-F.Break label None) = refl
 expr_on (Expr-F.Break label (Some x)) = refl
+expr_on _ = refl
 
 -- as it is
 expr_off : (y : ExprNode) → expr_shell false y ≡ views.roll-Expr y
@@ -244,9 +224,8 @@ expr_off (Expr-F.Break label x) = ap (λ (z0 : Option Expr). expr.Break label z0
 
 -- with parentheses
 field_on : (y : FieldNode) → field_with (field_parts y) ≡ field_shell true y
-field_on (FieldExpr-F.Named attrs name x) = refl
-field_on (FieldExpr-F.Numbered attrs index x) = refl
 field_on (FieldExpr-F.Short attrs name) = refl
+field_on _ = refl
 
 -- as it is
 field_off : (y : FieldNode) → field_shell false y ≡ views.roll-FieldExpr y
@@ -256,13 +235,9 @@ field_off (FieldExpr-F.Short attrs name) = sym (views.rolls-Short attrs name)
 
 -- with parentheses
 step_on : (y : StepNode) → step_with (step_parts y) ≡ step_shell true y
-step_on (Step-F.Field name) = refl
-step_on (Step-F.TupleIndex index) = refl
 step_on (Step-F.Method name generics args) = ap (λ (zs : List Expr). step.Method name generics zs) (parts_on args)
 step_on (Step-F.Apply args) = ap (λ (zs : List Expr). step.Apply zs) (parts_on args)
-step_on (Step-F.Index x) = refl
-step_on Step-F.Try = refl
-step_on Step-F.Await = refl
+step_on _ = refl
 
 -- as it is
 step_off : (y : StepNode) → step_shell false y ≡ views.roll-Step y
@@ -276,23 +251,11 @@ step_off Step-F.Await = sym views.rolls-Await
 
 -- with parentheses
 kind_on : (y : KindNode) → kind_with (kind_parts y) ≡ kind_shell true y
-kind_on (ItemKind-F.ExternCrate x) = refl
-kind_on (ItemKind-F.Import tree) = refl
-kind_on (ItemKind-F.FileModule name) = refl
-kind_on (ItemKind-F.Module name attrs items) = refl
 kind_on (ItemKind-F.Function head wheres None) = refl
 kind_on (ItemKind-F.Function head wheres (Some b)) = refl
-kind_on (ItemKind-F.Alias x) = refl
-kind_on (ItemKind-F.ItemKind::Struct x) = refl
-kind_on (ItemKind-F.Union x) = refl
-kind_on (ItemKind-F.Enum x) = refl
 kind_on (ItemKind-F.Value head None) = refl
 kind_on (ItemKind-F.Value head (Some x)) = refl
-kind_on (ItemKind-F.Trait head wheres attrs items) = refl
-kind_on (ItemKind-F.Impl head wheres attrs items) = refl
-kind_on (ItemKind-F.Foreign is_unsafe abi attrs items) = refl
-kind_on (ItemKind-F.MacroRules name rules) = refl
-kind_on (ItemKind-F.ItemKind::Call call) = refl
+kind_on _ = refl
 
 -- as it is
 kind_off : (y : KindNode) → kind_shell false y ≡ views.roll-ItemKind y
@@ -320,18 +283,6 @@ arm_on y = by y.guard
     by None = refl
     by (Some g) = refl
 
-block_on : (y : BlockNode) → block_with (block_parts y) ≡ block_shell true y
-block_on y = refl
-
-branch_on : (y : BranchNode) → branch_with (branch_parts y) ≡ branch_shell true y
-branch_on y = refl
-
-condition_on : (y : ConditionNode) → condition_with (condition_parts y) ≡ condition_shell true y
-condition_on y = refl
-
-item_on : (y : ItemNode) → item_with (item_parts y) ≡ item_shell true y
-item_on y = refl
-
 -- as it is
 arm_off : (y : ArmNode) → arm_shell false y ≡ views.roll-Arm y
 arm_off y = ap (λ (guard : Option Expr). views.roll-Arm (record { attrs = y.attrs; pat = y.pat; guard = guard; body = y.body })) (part_off y.guard)
@@ -339,14 +290,8 @@ arm_off y = ap (λ (guard : Option Expr). views.roll-Arm (record { attrs = y.att
 block_off_is : (y : BlockNode) → block_shell false y ≡ views.roll-Block y
 block_off_is y = ap (λ (stmts : List Stmt). views.roll-Block (record { attrs = y.attrs; stmts = stmts })) (all_off (enclose_stmt false) (λ x. refl) y.stmts)
 
-branch_off : (y : BranchNode) → branch_shell false y ≡ views.roll-Branch y
-branch_off y = refl
-
 condition_off : (y : ConditionNode) → condition_shell false y ≡ views.roll-Condition y
 condition_off y = ap (λ (links : List Link). views.roll-Condition (record { links = links })) (all_off (enclose_link false) (λ x. refl) y.links)
-
-item_off : (y : ItemNode) → item_shell false y ≡ views.roll-Item y
-item_off y = refl
 
 -- ---- each node by itself
 
@@ -379,17 +324,17 @@ shell_arm_is true x = sym (ap enclosed_arm (sym (views.roll-out-Arm x)) ∙ arm_
 shell_arm_is false x = arm_off (views.out-Arm x) ∙ views.roll-out-Arm x
 
 pub shell_block_is : (d : Bool) (x : Block) → shell_block d x ≡ enclose_block d x
-shell_block_is true x = sym (ap enclosed_block (sym (views.roll-out-Block x)) ∙ block_by (views.out-Block x) ∙ block_on (views.out-Block x))
+shell_block_is true x = sym (ap enclosed_block (sym (views.roll-out-Block x)) ∙ block_by (views.out-Block x))
 shell_block_is false x = block_off_is (views.out-Block x) ∙ views.roll-out-Block x
 
 pub shell_branch_is : (d : Bool) (x : Branch) → shell_branch d x ≡ enclose_branch d x
-shell_branch_is true x = sym (ap enclosed_branch (sym (views.roll-out-Branch x)) ∙ branch_by (views.out-Branch x) ∙ branch_on (views.out-Branch x))
-shell_branch_is false x = branch_off (views.out-Branch x) ∙ views.roll-out-Branch x
+shell_branch_is true x = sym (ap enclosed_branch (sym (views.roll-out-Branch x)) ∙ branch_by (views.out-Branch x))
+shell_branch_is false x = views.roll-out-Branch x
 
 pub shell_condition_is : (d : Bool) (x : Condition) → shell_condition d x ≡ enclose_condition d x
-shell_condition_is true x = sym (ap enclosed_condition (sym (views.roll-out-Condition x)) ∙ condition_by (views.out-Condition x) ∙ condition_on (views.out-Condition x))
+shell_condition_is true x = sym (ap enclosed_condition (sym (views.roll-out-Condition x)) ∙ condition_by (views.out-Condition x))
 shell_condition_is false x = condition_off (views.out-Condition x) ∙ views.roll-out-Condition x
 
 pub shell_item_is : (d : Bool) (x : Item) → shell_item d x ≡ enclose_item d x
-shell_item_is true x = sym (ap enclosed_item (sym (views.roll-out-Item x)) ∙ item_by (views.out-Item x) ∙ item_on (views.out-Item x))
-shell_item_is false x = item_off (views.out-Item x) ∙ views.roll-out-Item x
+shell_item_is true x = sym (ap enclosed_item (sym (views.roll-out-Item x)) ∙ item_by (views.out-Item x))
+shell_item_is false x = views.roll-out-Item x

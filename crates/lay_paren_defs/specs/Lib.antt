@@ -1,3 +1,4 @@
 pub mod Constant
+pub mod Traversal
 pub mod Enclosed
 pub mod loose
