@@ -1,5 +1,4 @@
 pub mod Chains
-pub mod ConditionSteps
 pub mod Fits
 pub mod Second
 pub mod Undressed

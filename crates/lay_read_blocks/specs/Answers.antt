@@ -1,12 +1,11 @@
 -- What readers of blocks ask for and what they answer.
-use Rattle.std.specs.Prelude.{ℕ, suc, max, nat_le, ◌≡◌, ◌+◌, ◌-◌, ◌^◌, ◌<◌, ◌≤◌, Bool, if◌then◌else◌, List, [], ◌∷◌, drop, map, codes, Option, Some, None, is_some, Result, Ok, Err, IfOk}
-use Rattle.std.specs.List.{list_any}
+use Rattle.std.specs.Prelude.{ℕ, suc, max, nat_le, ◌+◌, ◌-◌, ◌^◌, ◌<◌, ◌≤◌, Bool, if◌then◌else◌, List, drop, codes, Option, Some, None, is_some, Result, Ok, Err, IfOk}
 use Rattle.std.specs.declared.alloc.Global.{Global}
 use denote.Ref.{MutBor}
 use Rattle.lay_token.specs.Operators.{is_op}
 use Rattle.lay_node.specs.Ahead.{Tokens, first, tail, is_keyword}
 use Rattle.lay_node.specs.reader.Heads.{semicolon}
-use Rattle.lay_node.specs.reader.Loops.{Read, ◌>>=◌, nodes, deepest, repeat}
+use Rattle.lay_node.specs.reader.Loops.{Read, ◌>>=◌}
 use Rattle.lay_node.specs.reader.Types.{if_read}
 use Rattle.lay_node.specs.declared.attr.Attr.{Attr}
 use Rattle.lay_node.specs.declared.heads.Site.{Site}
@@ -15,25 +14,20 @@ use Rattle.lay_node.specs.declared.patterns.PatPlace.TheVariants.{Single}
 use Rattle.lay_node.specs.declared.types.Ty.{Ty}
 use Rattle.lay_node.specs.declared.types.TypePlace.TheVariants.{Bounds, NoBounds}
 use Rattle.lay_code.specs.nodes.Places.{FREE}
-use Rattle.lay_code.specs.reader.Blocks.{block_by, branch_by, else_stands}
+use Rattle.lay_code.specs.reader.Blocks.{block_by, else_stands}
 use Rattle.lay_code.specs.reader.Code.{code_in, expr_at, item_at}
-use Rattle.lay_code.specs.reader.Conditions.{ReadLink, alone, condition_of, further_links, is_let, linked}
-use Rattle.lay_code.specs.reader.Exprs.{async_expr, begins_else_if, block_expr, closure_expr, if_expr, label_expr, labelled_expr, match_expr, block_word_expr}
+use Rattle.lay_code.specs.reader.Exprs.{closure_expr, label_expr, labelled_expr, block_word_expr}
 use Rattle.lay_code.specs.reader.Item.{fn_body}
 use Rattle.lay_code.specs.reader.Within.{ExprWithin}
 use Rattle.lay_code.specs.declared.blocks.Arm.{Arm}
 use Rattle.lay_code.specs.declared.blocks.Block.{Block}
-use Rattle.lay_code.specs.declared.blocks.Branch.{Branch}
 use Rattle.lay_code.specs.declared.blocks.Stmt.{Stmt}
 use Rattle.lay_code.specs.declared.blocks.Stmt.TheVariants as stmt
-use Rattle.lay_code.specs.declared.conditions.Condition.{Condition}
 use Rattle.lay_code.specs.declared.exprs.ClosureParam.{ClosureParam}
 use Rattle.lay_code.specs.declared.exprs.Expr.{Expr}
 use Rattle.lay_code.specs.declared.exprs.Expr.TheVariants as expr
 use Rattle.lay_code.specs.declared.exprs.Place.{Place}
 use Rattle.lay_code.specs.declared.item.Item.{Item}
-use Rattle.lay_code.specs.declared.operators.Op.{Op}
-use Rattle.lay_code.specs.declared.operators.Op.TheVariants as op
 use Rattle.lay_read_shared.specs.alone.ArmFronts.{arm_alone, body_begun}
 use Rattle.lay_read_shared.specs.alone.Fronts.{stmt_alone}
 use Rattle.lay_ops.specs.declared.operands.ExprLead.{ExprLead}
@@ -41,7 +35,6 @@ use Rattle.lay_ops.specs.declared.operands.ExprLead.TheVariants as lead
 use Rattle.lay_read_tokens.specs.Answers.{IsFound}
 use Rattle.lay_read_tokens.specs.declared.found.Found.{Found}
 use Rattle.lay_read_tokens.specs.declared.stop.ReadNone.{ReadNone}
-use Rattle.lay_read_tokens.specs.declared.stop.ReadNone.TheVariants.{NoMemory}
 
 -- These functions read expressions, blocks behind an `else`, and items at this depth, and the depth one above is a number.
 pub record AreCode (depth : ℕ)
@@ -105,50 +98,6 @@ let_of attrs head (Err none) = Err none
 abbrev pub body_if : ExprWithin → Tokens → Read (Option Block)
 body_if within ts = fn_body within ts
 
--- ---- conditions
-
--- an operand that the link of an expression is, behind its `&&`
-abbrev pub and_operand : ReadLink → Op × Expr
-and_operand l = (op.AndAnd, l.1)
-
--- Links without a `let` as one expression, by what they are and what they need.
-abbrev pub chain_found : ReadLink → ℕ → List ReadLink → ℕ → Expr × ℕ
-chain_found l need [] most = (l.1, need)
-chain_found l need (m ∷ more) most = (expr.Chain l.1 (map and_operand (m ∷ more)), suc (max need most))
-
--- The condition that begins with these links, or is them, in the same way.
-abbrev pub condition_found : ExprWithin → ReadLink → ℕ → List ReadLink → ℕ → Tokens → Read Condition
-condition_found within l need more most ts =
-    if list_any is_let (l ∷ more) then Some ((record { links = map linked (l ∷ more) }, max need most), ts)
-    else (do x ← within.goes_on (chain_found l need more most) ts; Some ((alone x.0.0, x.0.1), x.1))
-
--- the condition whose first link this is
-abbrev pub condition_behind : ExprWithin → ReadLink × ℕ → Tokens → Read Condition
-condition_behind within l ts = do more ← further_links within ts; condition_of within l more.0 more.1
-
--- The condition is this expression alone, or none is read for the same reason; memory may always be wanting.
-abbrev pub IsAlone : Result (Found Expr) ReadNone → Result (Found Condition) ReadNone → Type 0
-IsAlone (Ok x) (Ok c) = (c.node ≡ alone x.node) × (c.need ≡ x.need)
-IsAlone (Ok x) (Err none) = none ≡ NoMemory
-IsAlone (Err none) (Ok c) = ⊥
-IsAlone (Err none) (Err other) = other ≡ none
-
--- ---- branches
-
--- what stands behind an `if`, and the branches behind `else if`
-abbrev pub branches : ExprWithin → Tokens → Read (List Branch)
-branches within ts = do
-  b ← branch_by within ts
-  more ← repeat begins_else_if (λ us. branch_by within (drop 2 us)) b.1
-  Some ((b.0.0 ∷ nodes more.0, max b.0.1 (deepest more.0)), more.1)
-
--- A branch and those behind it were put into one list, or memory ran out.
-abbrev pub AreBranches : Found Branch → Result (Found (List Branch)) ReadNone → Result (Found (List Branch)) ReadNone → Type 0
-AreBranches one (Ok more) (Ok all) = (all.node ≡ one.node ∷ more.node) × (all.need ≡ max one.need more.need)
-AreBranches one (Ok more) (Err none) = none ≡ NoMemory
-AreBranches one (Err none) (Ok all) = ⊥
-AreBranches one (Err none) (Err other) = other ≡ none
-
 -- ---- arms
 
 -- what stands behind the pattern of an arm, and its guard if it has one, up to its comma, and whether it may lack that
@@ -167,19 +116,6 @@ typed_closure within is_async moves params need ts = do
   Some ((expr.TypedClosure is_async moves params t.0.0 b.0.0, suc (max need (max t.0.1 b.0.1))), b.1)
 
 -- ---- what begins an expression
-
--- a block behind its `unsafe`, `const` or `async`
-abbrev pub worded_block : ExprWithin → Tokens → Read Expr
-worded_block within ts =
-    if first (is_keyword (codes "unsafe")) ts then block_expr within expr.Unsafe (tail ts)
-    else (if first (is_keyword (codes "const")) ts then block_expr within expr.ConstBlock (tail ts)
-    else (if first (is_keyword (codes "async")) ts then async_expr within (tail ts) else None))
-
--- what begins with `if` or `match`, or is a loop
-abbrev pub worded : ExprWithin → Tokens → Read Expr
-worded within ts =
-    if first (is_keyword (codes "if")) ts then if_expr within (tail ts)
-    else (if first (is_keyword (codes "match")) ts then match_expr within (tail ts) else labelled_expr within None ts)
 
 -- what holds blocks, or is a closure, told from what the first token begins
 abbrev pub block_head : ExprWithin → Bool → ExprLead → Tokens → Read Expr

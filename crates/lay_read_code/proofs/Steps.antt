@@ -22,7 +22,7 @@ use Rattle.lay_read_tokens.specs.declared.found.Found.{Found}
 use Rattle.lay_read_tokens.specs.declared.stop.ReadNone.{ReadNone}
 use Rattle.lay_read_tokens.specs.declared.stop.ReadNone.TheVariants.{NoReading}
 use Rattle.lay_read_code.specs.Answers.{has_head}
-use Rattle.lay_read_code.specs.Begun.{deeper as within_depth}
+use Rattle.lay_read_begun.specs.Begun.{deeper as within_depth}
 use Rattle.lay_read_head_rules.proofs.UseSteps.{deeper}
 use Rattle.lay_read_types.proofs.Steps.{above_zero}
 use Rattle.lay_node.specs.reader.Functions.{insides}

@@ -6,16 +6,17 @@ ghost use Rattle.lay_code.specs.reader.Item as reader;
 ghost use Rattle.lay_read_tokens.specs.Answers.{AreFound, IsFound, IsHeld};
 ghost use Rattle.lay_read_code.specs.Answers.{has_head};
 ghost use Rattle.lay_read_shared.specs.Code.{code_within};
-ghost use Rattle.lay_read_code.specs.Begun.{IsBoxed, block_kind, deeper, items_kind, value_end, value_kind};
+ghost use Rattle.lay_read_begun.specs.Begun.{IsBoxed, block_kind, deeper, items_kind, value_end, value_kind};
 
-use crate::begun::{Begun, read_begun};
-use crate::bodies::{Body, body_of, with_block, with_items, with_value};
-use crate::climbing::Climber;
 use lay_code::{Attr, Block, Boxed, Expr, Item, ItemKind, Place, Site, Vis};
+use lay_read_begun::begun::{Begun, read_begun};
+use lay_read_begun::bodies::{Body, body_of, with_block, with_items, with_value};
 use lay_read_blocks::BlockRules;
-use lay_read_exprs::ExprRules;
+use lay_read_branches::BranchRules;
+use lay_read_exprs::Climber;
 use lay_read_head_rules::level::kept_if;
 use lay_read_head_rules::vis::vis_ahead;
+use lay_read_operators::ExprRules;
 use lay_read_parts::joins::both;
 use lay_read_tokens::attributes::attrs_ahead;
 use lay_read_tokens::found::greater;
@@ -40,7 +41,7 @@ pub fn expr_ahead(
     if depth == 0 {
         return Err(ReadNone::NoReading);
     }
-    let heads = BlockRules {
+    let blocks = BlockRules {
         alloc,
         depth: depth - 1,
         exprs: expr_ahead,
@@ -52,6 +53,7 @@ pub fn expr_ahead(
         depth: depth - 1,
         exprs: expr_ahead,
     };
+    let heads = BranchRules { rules: blocks };
     Climber { rules, heads }.expr_by(at, place)
 }
 

@@ -1,3 +1,3 @@
-pub mod Climbing
+pub mod Budgets
+mod HeadSteps
 pub mod Steps
-pub mod Digits

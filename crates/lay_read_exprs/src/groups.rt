@@ -1,17 +1,15 @@
 //! Expressions in delimiters.
 ghost use Rattle.std.specs.Prelude.{◌≡◌, ◌+◌, ◌^◌, ◌<◌, ◌≤◌, IfOk};
-ghost use Rattle.lay_node.specs.Ahead.{closes};
 ghost use Rattle.lay_code.specs.reader.Exprs as reader;
-ghost use Rattle.lay_code.specs.reader.Code.{expr_at};
 ghost use Rattle.lay_read_tokens.specs.Answers.{IsFound};
 ghost use Rattle.lay_read_shared.specs.Code.{code_within};
-ghost use Rattle.lay_read_exprs.specs.Answers.{AreExprs, array_by};
+ghost use Rattle.lay_read_exprs.specs.Answers.{array_by};
+ghost use Rattle.lay_read_operators.specs.Answers.{AreExprs};
 
-use crate::rules::ExprRules;
+use crate::climber::Climber;
 use lay_code::{Boxed, Expr, Place};
 use lay_ops::places::FREE;
 use lay_read_parts::joins::{both, prepended, refused};
-use lay_read_parts::loops::{Closer, Part, read_elements};
 use lay_read_shared::boxes::{boxed_found, unboxed};
 use lay_read_tokens::found::greater;
 use lay_read_tokens::front::{takes_closer, takes_mark};
@@ -19,13 +17,6 @@ use lay_read_tokens::tokens::read_tokens;
 use lay_read_tokens::{Ahead, Found, ReadNone};
 use lay_token::{Delim, List};
 use std::alloc::Global;
-
-/// Expressions one level deeper, as elements of a list.
-pub struct Elements;
-
-impl Part<Boxed<Expr>, Place> for Elements {
-    ghost reads = { λ depth place ts. expr_at place depth ts };
-}
 
 /// How often an expression stands in an array, behind the `;`.
 fn repeat_by(
@@ -51,72 +42,30 @@ fn repeat_by(
     )
 }
 
-impl<P: Fn(Global, &mut Ahead<'_>, Place, u32) -> Result<Found<Boxed<Expr>>, ReadNone>> ExprRules<
+impl<P: Fn(Global, &mut Ahead<'_>, Place, u32) -> Result<Found<Boxed<Expr>>, ReadNone>, H> Climber<
     P,
+    H,
 > {
-    /// Expressions with commas, and the closing delimiter behind them, each in its box.
-    #[tactic(auto, using(lay_read_shared::proofs::Left::exprs_leave))]
-    #[inline(never)]
-    fn boxed_elements(
-        &self,
-        at: &mut Ahead<'_>,
-        delim: Delim,
-    ) -> Result<Found<List<Boxed<Expr>>>, ReadNone>
-        requires { AreExprs self.now.depth (P.pre self.now.exprs) (P.post self.now.exprs) }
-        ensures read { IsFound (reader.free_elements (code_within self.now.depth) (closes delim)
-            at.old) result at.new }
-        ensures within { IfOk result (λ found. found.need ≤ self.now.depth) }
-    {
-        read_elements::<Elements, ExprRules<P>, Boxed<Expr>, Place, _>(
-            self.alloc,
-            at,
-            self.depth,
-            Closer::Group(delim),
-            self,
-            ExprRules::inner,
-            FREE,
-        )
-    }
-
-    /// Expressions with commas, and the closing delimiter behind them.
-    #[inline(never)]
-    pub fn free_elements(
-        &self,
-        at: &mut Ahead<'_>,
-        delim: Delim,
-    ) -> Result<Found<List<Expr>>, ReadNone>
-        requires { AreExprs self.now.depth (P.pre self.now.exprs) (P.post self.now.exprs) }
-        ensures read { IsFound (reader.free_elements (code_within self.now.depth) (closes delim)
-            at.old) result at.new }
-        ensures within { IfOk result (λ found. found.need ≤ self.now.depth) }
-    {
-        let found = self.boxed_elements(at, delim)?;
-        let node = unboxed(self.alloc, found.node)?;
-        Ok(Found {
-            node,
-            need: found.need,
-        })
-    }
-
     /// What stands behind a `(`.
     #[tactic(auto, unfolding(lay_code::specs::reader::Exprs::paren_expr))]
     #[inline(never)]
     pub fn paren_expr(&self, at: &mut Ahead<'_>) -> Result<Found<Boxed<Expr>>, ReadNone>
-        requires { AreExprs self.now.depth (P.pre self.now.exprs) (P.post self.now.exprs) }
-        ensures read { IsFound (reader.paren_expr (code_within self.now.depth) at.old) result
+        requires { AreExprs self.now.rules.depth (P.pre self.now.rules.exprs)
+            (P.post self.now.rules.exprs) }
+        ensures read { IsFound (reader.paren_expr (code_within self.now.rules.depth) at.old) result
             at.new }
-        ensures within { IfOk result (λ found. found.need ≤ self.now.depth + 1) }
+        ensures within { IfOk result (λ found. found.need ≤ self.now.rules.depth + 1) }
     {
         if takes_closer(at, Delim::Paren) {
             return boxed_found(
-                self.alloc,
+                self.rules.alloc,
                 Expr::Tuple {
-                    elements: List::new(self.alloc),
+                    elements: List::new(self.rules.alloc),
                 },
                 1,
             );
         }
-        let first = self.inner(at, FREE)?;
+        let first = self.rules.inner(at, FREE)?;
         self.paren_by(at, first)
     }
 
@@ -127,15 +76,16 @@ impl<P: Fn(Global, &mut Ahead<'_>, Place, u32) -> Result<Found<Boxed<Expr>>, Rea
         at: &mut Ahead<'_>,
         first: Found<Boxed<Expr>>,
     ) -> Result<Found<Boxed<Expr>>, ReadNone>
-        requires deeper { AreExprs self.now.depth (P.pre self.now.exprs) (P.post self.now.exprs) }
-        requires within { first.need ≤ self.now.depth }
-        ensures read { IsFound (reader.paren_by (code_within self.now.depth)
+        requires deeper { AreExprs self.now.rules.depth (P.pre self.now.rules.exprs)
+            (P.post self.now.rules.exprs) }
+        requires within { first.need ≤ self.now.rules.depth }
+        ensures read { IsFound (reader.paren_by (code_within self.now.rules.depth)
             (first.node, first.need) at.old) result at.new }
-        ensures within { IfOk result (λ found. found.need ≤ self.now.depth + 1) }
+        ensures within { IfOk result (λ found. found.need ≤ self.now.rules.depth + 1) }
     {
         if takes_closer(at, Delim::Paren) {
             return boxed_found(
-                self.alloc,
+                self.rules.alloc,
                 Expr::Paren { inner: first.node },
                 first.need + 1,
             );
@@ -143,10 +93,10 @@ impl<P: Fn(Global, &mut Ahead<'_>, Place, u32) -> Result<Found<Boxed<Expr>>, Rea
         if !takes_mark(at, b",") {
             return refused(first);
         }
-        let (first, more) = both(first, self.boxed_elements(at, Delim::Paren))?;
-        let elements = unboxed(self.alloc, prepended(first.node, more.node)?)?;
+        let (first, more) = both(first, self.rules.boxed_elements(at, Delim::Paren))?;
+        let elements = unboxed(self.rules.alloc, prepended(first.node, more.node)?)?;
         boxed_found(
-            self.alloc,
+            self.rules.alloc,
             Expr::Tuple { elements },
             greater(first.need, more.need) + 1,
         )
@@ -156,23 +106,24 @@ impl<P: Fn(Global, &mut Ahead<'_>, Place, u32) -> Result<Found<Boxed<Expr>>, Rea
     #[tactic(auto, unfolding(lay_code::specs::reader::Exprs::bracket_expr))]
     #[inline(never)]
     pub fn bracket_expr(&self, at: &mut Ahead<'_>) -> Result<Found<Boxed<Expr>>, ReadNone>
-        requires { AreExprs self.now.depth (P.pre self.now.exprs) (P.post self.now.exprs) }
-        ensures read { IsFound (reader.bracket_expr (code_within self.now.depth) at.old) result
-            at.new }
-        ensures within { IfOk result (λ found. found.need ≤ self.now.depth + 1) }
+        requires { AreExprs self.now.rules.depth (P.pre self.now.rules.exprs)
+            (P.post self.now.rules.exprs) }
+        ensures read { IsFound (reader.bracket_expr (code_within self.now.rules.depth) at.old)
+            result at.new }
+        ensures within { IfOk result (λ found. found.need ≤ self.now.rules.depth + 1) }
     {
         if takes_closer(at, Delim::Bracket) {
             return boxed_found(
-                self.alloc,
+                self.rules.alloc,
                 Expr::Array {
-                    elements: List::new(self.alloc),
+                    elements: List::new(self.rules.alloc),
                 },
                 1,
             );
         }
-        let first = self.inner(at, FREE)?;
+        let first = self.rules.inner(at, FREE)?;
         if takes_mark(at, b";") {
-            repeat_by(self.alloc, at, first)
+            repeat_by(self.rules.alloc, at, first)
         } else {
             self.array_by(at, first)
         }
@@ -185,23 +136,27 @@ impl<P: Fn(Global, &mut Ahead<'_>, Place, u32) -> Result<Found<Boxed<Expr>>, Rea
         at: &mut Ahead<'_>,
         first: Found<Boxed<Expr>>,
     ) -> Result<Found<Boxed<Expr>>, ReadNone>
-        requires deeper { AreExprs self.now.depth (P.pre self.now.exprs) (P.post self.now.exprs) }
-        requires within { first.need ≤ self.now.depth }
-        ensures read { IsFound (array_by (code_within self.now.depth) (first.node, first.need)
+        requires deeper { AreExprs self.now.rules.depth (P.pre self.now.rules.exprs)
+            (P.post self.now.rules.exprs) }
+        requires within { first.need ≤ self.now.rules.depth }
+        ensures read { IsFound (array_by (code_within self.now.rules.depth) (first.node, first.need)
             at.old) result at.new }
-        ensures within { IfOk result (λ found. found.need ≤ self.now.depth + 1) }
+        ensures within { IfOk result (λ found. found.need ≤ self.now.rules.depth + 1) }
     {
         if takes_closer(at, Delim::Bracket) {
-            let elements = unboxed(self.alloc, prepended(first.node, List::new(self.alloc))?)?;
-            return boxed_found(self.alloc, Expr::Array { elements }, first.need + 1);
+            let elements = unboxed(
+                self.rules.alloc,
+                prepended(first.node, List::new(self.rules.alloc))?,
+            )?;
+            return boxed_found(self.rules.alloc, Expr::Array { elements }, first.need + 1);
         }
         if !takes_mark(at, b",") {
             return refused(first);
         }
-        let (first, more) = both(first, self.boxed_elements(at, Delim::Bracket))?;
-        let elements = unboxed(self.alloc, prepended(first.node, more.node)?)?;
+        let (first, more) = both(first, self.rules.boxed_elements(at, Delim::Bracket))?;
+        let elements = unboxed(self.rules.alloc, prepended(first.node, more.node)?)?;
         boxed_found(
-            self.alloc,
+            self.rules.alloc,
             Expr::Array { elements },
             greater(first.need, more.need) + 1,
         )

@@ -3,12 +3,10 @@ ghost use Rattle.std.specs.Prelude.{◌≡◌, ◌+◌, ◌≤◌, IfOk};
 ghost use Rattle.lay_code.specs.reader.Exprs as reader;
 ghost use Rattle.lay_read_tokens.specs.Answers.{IsFound};
 ghost use Rattle.lay_read_shared.specs.Code.{code_within};
-ghost use Rattle.lay_read_exprs.specs.Answers.{AreExprs};
+ghost use Rattle.lay_read_operators.specs.Answers.{AreExprs};
 
-use crate::rules::ExprRules;
+use crate::climber::Climber;
 use lay_code::{Boxed, Expr, Place};
-use lay_ops::ahead::begins_operand;
-use lay_ops::places::plain;
 use lay_read_parts::joins::both;
 use lay_read_parts::parts::read_lifetime_if;
 use lay_read_shared::boxes::boxed_found;
@@ -25,35 +23,10 @@ pub fn continue_expr(alloc: Global, at: &mut Ahead<'_>) -> Result<Found<Boxed<Ex
     boxed_found(alloc, Expr::Continue { label }, 1)
 }
 
-impl<P: Fn(Global, &mut Ahead<'_>, Place, u32) -> Result<Found<Boxed<Expr>>, ReadNone>> ExprRules<
+impl<P: Fn(Global, &mut Ahead<'_>, Place, u32) -> Result<Found<Boxed<Expr>>, ReadNone>, H> Climber<
     P,
+    H,
 > {
-    /// An operand at a level, if one begins.
-    #[inline(never)]
-    pub fn operand_if(
-        &self,
-        at: &mut Ahead<'_>,
-        level: u8,
-        no_struct: bool,
-    ) -> Result<Found<Option<Boxed<Expr>>>, ReadNone>
-        requires { AreExprs self.now.depth (P.pre self.now.exprs) (P.post self.now.exprs) }
-        ensures read { IsFound (reader.operand_if (code_within self.now.depth) level no_struct
-            at.old) result at.new }
-        ensures within { IfOk result (λ found. found.need ≤ self.now.depth) }
-    {
-        if !begins_operand(at, no_struct) {
-            return Ok(Found {
-                node: None,
-                need: 0,
-            });
-        }
-        let found = self.inner(at, plain(level, no_struct))?;
-        Ok(Found {
-            node: Some(found.node),
-            need: found.need,
-        })
-    }
-
     /// What stands behind `return`.
     #[tactic(auto, unfolding(lay_code::specs::reader::Exprs::return_expr))]
     #[inline(never)]
@@ -62,14 +35,15 @@ impl<P: Fn(Global, &mut Ahead<'_>, Place, u32) -> Result<Found<Boxed<Expr>>, Rea
         at: &mut Ahead<'_>,
         no_struct: bool,
     ) -> Result<Found<Boxed<Expr>>, ReadNone>
-        requires { AreExprs self.now.depth (P.pre self.now.exprs) (P.post self.now.exprs) }
-        ensures read { IsFound (reader.return_expr (code_within self.now.depth) no_struct at.old)
-            result at.new }
-        ensures within { IfOk result (λ found. found.need ≤ self.now.depth + 1) }
+        requires { AreExprs self.now.rules.depth (P.pre self.now.rules.exprs)
+            (P.post self.now.rules.exprs) }
+        ensures read { IsFound (reader.return_expr (code_within self.now.rules.depth) no_struct
+            at.old) result at.new }
+        ensures within { IfOk result (λ found. found.need ≤ self.now.rules.depth + 1) }
     {
-        let found = self.operand_if(at, 0, no_struct)?;
+        let found = self.rules.operand_if(at, 0, no_struct)?;
         boxed_found(
-            self.alloc,
+            self.rules.alloc,
             Expr::Return {
                 operand: found.node,
             },
@@ -85,15 +59,16 @@ impl<P: Fn(Global, &mut Ahead<'_>, Place, u32) -> Result<Found<Boxed<Expr>>, Rea
         at: &mut Ahead<'_>,
         no_struct: bool,
     ) -> Result<Found<Boxed<Expr>>, ReadNone>
-        requires { AreExprs self.now.depth (P.pre self.now.exprs) (P.post self.now.exprs) }
-        ensures read { IsFound (reader.break_expr (code_within self.now.depth) no_struct at.old)
-            result at.new }
-        ensures within { IfOk result (λ found. found.need ≤ self.now.depth + 1) }
+        requires { AreExprs self.now.rules.depth (P.pre self.now.rules.exprs)
+            (P.post self.now.rules.exprs) }
+        ensures read { IsFound (reader.break_expr (code_within self.now.rules.depth) no_struct
+            at.old) result at.new }
+        ensures within { IfOk result (λ found. found.need ≤ self.now.rules.depth + 1) }
     {
-        let label = read_lifetime_if(self.alloc, at)?;
-        let (label, found) = both(label, self.operand_if(at, 0, no_struct))?;
+        let label = read_lifetime_if(self.rules.alloc, at)?;
+        let (label, found) = both(label, self.rules.operand_if(at, 0, no_struct))?;
         boxed_found(
-            self.alloc,
+            self.rules.alloc,
             Expr::Break {
                 label,
                 operand: found.node,

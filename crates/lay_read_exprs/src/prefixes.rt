@@ -1,34 +1,24 @@
 //! Operators before an operand.
-ghost use Rattle.std.specs.Prelude.{◌≡◌, ◌+◌, ◌≤◌, drop, is_some, IfOk};
+ghost use Rattle.std.specs.Prelude.{◌≡◌, ◌+◌, ◌≤◌, is_some, IfOk};
 ghost use Rattle.lay_node.specs.reader.Loops.{repeat};
 ghost use Rattle.lay_code.specs.Operators as operators;
 ghost use Rattle.lay_code.specs.reader.Exprs as reader;
 ghost use Rattle.lay_read_tokens.specs.Answers.{IsFound, IsGot};
 ghost use Rattle.lay_read_shared.specs.Code.{code_within};
-ghost use Rattle.lay_read_exprs.specs.Answers.{AreExprs};
+ghost use Rattle.lay_read_operators.specs.Answers.{AreExprs};
 
-use crate::rules::ExprRules;
+use crate::climber::Climber;
 use lay_code::{Boxed, Expr, Place, Prefix};
 use lay_ops::ahead::prefix;
 use lay_ops::operators::prefix_length;
 use lay_ops::places::plain;
+use lay_read_operators::operands::pass_tokens;
 use lay_read_parts::joins::both;
 use lay_read_shared::boxes::boxed_found;
-use lay_read_tokens::front::pass;
 use lay_read_tokens::stop::keep;
 use lay_read_tokens::{Ahead, Found, ReadNone};
 use lay_token::List;
 use std::alloc::Global;
-
-/// Passes so many tokens, or all there are.
-#[tactic(auto, using(crate::proofs::Steps::tail_dropped))]
-pub fn pass_tokens(at: &mut Ahead<'_>, count: usize)
-    ensures { at.new ≡ drop count at.old }
-{
-    for _passed in 0..count {
-        pass(at);
-    }
-}
 
 /// Operators before an operand, as long as one stands at the front.
 fn read_prefixes(alloc: Global, at: &mut Ahead<'_>) -> Result<List<Prefix>, ReadNone>
@@ -43,8 +33,9 @@ fn read_prefixes(alloc: Global, at: &mut Ahead<'_>) -> Result<List<Prefix>, Read
     Ok(prefixes)
 }
 
-impl<P: Fn(Global, &mut Ahead<'_>, Place, u32) -> Result<Found<Boxed<Expr>>, ReadNone>> ExprRules<
+impl<P: Fn(Global, &mut Ahead<'_>, Place, u32) -> Result<Found<Boxed<Expr>>, ReadNone>, H> Climber<
     P,
+    H,
 > {
     /// Operators, and the operand behind them.
     #[tactic(auto, unfolding(lay_code::specs::reader::Exprs::unary_expr))]
@@ -54,15 +45,16 @@ impl<P: Fn(Global, &mut Ahead<'_>, Place, u32) -> Result<Found<Boxed<Expr>>, Rea
         at: &mut Ahead<'_>,
         no_struct: bool,
     ) -> Result<Found<Boxed<Expr>>, ReadNone>
-        requires { AreExprs self.now.depth (P.pre self.now.exprs) (P.post self.now.exprs) }
-        ensures read { IsFound (reader.unary_expr (code_within self.now.depth) no_struct at.old)
-            result at.new }
-        ensures within { IfOk result (λ found. found.need ≤ self.now.depth + 1) }
+        requires { AreExprs self.now.rules.depth (P.pre self.now.rules.exprs)
+            (P.post self.now.rules.exprs) }
+        ensures read { IsFound (reader.unary_expr (code_within self.now.rules.depth) no_struct
+            at.old) result at.new }
+        ensures within { IfOk result (λ found. found.need ≤ self.now.rules.depth + 1) }
     {
-        let prefixes = read_prefixes(self.alloc, at)?;
-        let (prefixes, found) = both(prefixes, self.inner(at, plain(12, no_struct)))?;
+        let prefixes = read_prefixes(self.rules.alloc, at)?;
+        let (prefixes, found) = both(prefixes, self.rules.inner(at, plain(12, no_struct)))?;
         boxed_found(
-            self.alloc,
+            self.rules.alloc,
             Expr::Unary {
                 prefixes,
                 operand: found.node,

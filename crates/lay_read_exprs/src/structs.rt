@@ -3,9 +3,10 @@ ghost use Rattle.std.specs.Prelude.{◌≡◌, ◌+◌, ◌≤◌, None, IfOk};
 ghost use Rattle.lay_code.specs.reader.Exprs as reader;
 ghost use Rattle.lay_read_tokens.specs.Answers.{IsFound};
 ghost use Rattle.lay_read_shared.specs.Code.{code_within};
-ghost use Rattle.lay_read_exprs.specs.Answers.{AreExprs, numbered_field, struct_by};
+ghost use Rattle.lay_read_exprs.specs.Answers.{numbered_field, struct_by};
+ghost use Rattle.lay_read_operators.specs.Answers.{AreExprs};
 
-use crate::rules::ExprRules;
+use crate::climber::Climber;
 use lay_code::{Attr, Boxed, Expr, FieldExpr, Name, Path, Place};
 use lay_ops::places::FREE;
 use lay_read_parts::joins::{both, refused};
@@ -27,8 +28,9 @@ impl Part<FieldExpr, ()> for Fields {
     ghost reads = { λ depth place ts. reader.one_field (code_within depth) ts };
 }
 
-impl<P: Fn(Global, &mut Ahead<'_>, Place, u32) -> Result<Found<Boxed<Expr>>, ReadNone>> ExprRules<
+impl<P: Fn(Global, &mut Ahead<'_>, Place, u32) -> Result<Found<Boxed<Expr>>, ReadNone>, H> Climber<
     P,
+    H,
 > {
     /// Fields in braces, behind a path and the `{`.
     #[tactic(auto, unfolding(lay_code::specs::reader::Exprs::struct_expr), using(lay_read_shared::proofs::Left::field_leaves))]
@@ -38,21 +40,22 @@ impl<P: Fn(Global, &mut Ahead<'_>, Place, u32) -> Result<Found<Boxed<Expr>>, Rea
         at: &mut Ahead<'_>,
         path: Found<Path>,
     ) -> Result<Found<Boxed<Expr>>, ReadNone>
-        requires deeper { AreExprs self.now.depth (P.pre self.now.exprs) (P.post self.now.exprs) }
-        requires within { path.need ≤ self.now.depth }
-        ensures read { IsFound (reader.struct_expr (code_within self.now.depth)
+        requires deeper { AreExprs self.now.rules.depth (P.pre self.now.rules.exprs)
+            (P.post self.now.rules.exprs) }
+        requires within { path.need ≤ self.now.rules.depth }
+        ensures read { IsFound (reader.struct_expr (code_within self.now.rules.depth)
             (path.node, path.need) at.old) result at.new }
-        ensures within { IfOk result (λ found. found.need ≤ self.now.depth + 1) }
+        ensures within { IfOk result (λ found. found.need ≤ self.now.rules.depth + 1) }
     {
         let (path, found) = both(
             path,
-            read_open_elements::<Fields, ExprRules<P>, FieldExpr, (), _>(
-                self.alloc,
+            read_open_elements::<Fields, Climber<P, H>, FieldExpr, (), _>(
+                self.rules.alloc,
                 at,
-                self.depth,
+                self.rules.depth,
                 Opening::Field,
                 self,
-                ExprRules::one_field,
+                Climber::one_field,
                 (),
             ),
         )?;
@@ -67,12 +70,13 @@ impl<P: Fn(Global, &mut Ahead<'_>, Place, u32) -> Result<Found<Boxed<Expr>>, Rea
         path: Found<Path>,
         found: Found<(List<FieldExpr>, bool)>,
     ) -> Result<Found<Boxed<Expr>>, ReadNone>
-        requires deeper { AreExprs self.now.depth (P.pre self.now.exprs) (P.post self.now.exprs) }
-        requires within { path.need ≤ self.now.depth }
-        requires fields_within { found.need ≤ self.now.depth }
-        ensures read { IsFound (struct_by (code_within self.now.depth) (path.node, path.need)
+        requires deeper { AreExprs self.now.rules.depth (P.pre self.now.rules.exprs)
+            (P.post self.now.rules.exprs) }
+        requires within { path.need ≤ self.now.rules.depth }
+        requires fields_within { found.need ≤ self.now.rules.depth }
+        ensures read { IsFound (struct_by (code_within self.now.rules.depth) (path.node, path.need)
             (found.node, found.need) at.old) result at.new }
-        ensures within { IfOk result (λ found. found.need ≤ self.now.depth + 1) }
+        ensures within { IfOk result (λ found. found.need ≤ self.now.rules.depth + 1) }
     {
         let Found { node, need } = found;
         let (fields, ended) = node;
@@ -81,7 +85,7 @@ impl<P: Fn(Global, &mut Ahead<'_>, Place, u32) -> Result<Found<Boxed<Expr>>, Rea
             return refused((path, (fields, base)));
         }
         boxed_found(
-            self.alloc,
+            self.rules.alloc,
             Expr::Struct {
                 path: path.node,
                 fields,
@@ -99,10 +103,11 @@ impl<P: Fn(Global, &mut Ahead<'_>, Place, u32) -> Result<Found<Boxed<Expr>>, Rea
         at: &mut Ahead<'_>,
         ended: bool,
     ) -> Result<Found<Option<Option<Boxed<Expr>>>>, ReadNone>
-        requires { AreExprs self.now.depth (P.pre self.now.exprs) (P.post self.now.exprs) }
-        ensures read { IsFound (reader.base (code_within self.now.depth) ended at.old) result
+        requires { AreExprs self.now.rules.depth (P.pre self.now.rules.exprs)
+            (P.post self.now.rules.exprs) }
+        ensures read { IsFound (reader.base (code_within self.now.rules.depth) ended at.old) result
             at.new }
-        ensures within { IfOk result (λ found. found.need ≤ self.now.depth) }
+        ensures within { IfOk result (λ found. found.need ≤ self.now.rules.depth) }
     {
         if !(ended && at.op_is(b"..")) {
             return Ok(Found {
@@ -117,7 +122,7 @@ impl<P: Fn(Global, &mut Ahead<'_>, Place, u32) -> Result<Found<Boxed<Expr>>, Rea
                 need: 0,
             });
         }
-        let found = self.inner(at, FREE)?;
+        let found = self.rules.inner(at, FREE)?;
         Ok(Found {
             node: Some(Some(found.node)),
             need: found.need,
@@ -128,13 +133,14 @@ impl<P: Fn(Global, &mut Ahead<'_>, Place, u32) -> Result<Found<Boxed<Expr>>, Rea
     #[tactic(auto, unfolding(lay_code::specs::reader::Exprs::one_field))]
     #[inline(never)]
     fn one_field(&self, at: &mut Ahead<'_>, _place: ()) -> Result<Found<FieldExpr>, ReadNone>
-        requires { AreExprs self.now.depth (P.pre self.now.exprs) (P.post self.now.exprs) }
-        ensures read { IsFound (reader.one_field (code_within self.now.depth) at.old) result
+        requires { AreExprs self.now.rules.depth (P.pre self.now.rules.exprs)
+            (P.post self.now.rules.exprs) }
+        ensures read { IsFound (reader.one_field (code_within self.now.rules.depth) at.old) result
             at.new }
-        ensures within { IfOk result (λ found. found.need ≤ self.now.depth) }
+        ensures within { IfOk result (λ found. found.need ≤ self.now.rules.depth) }
     {
-        let attrs = attrs_ahead(self.alloc, at, false)?;
-        let (attrs, index) = both(attrs, read_index_if(self.alloc, at))?;
+        let attrs = attrs_ahead(self.rules.alloc, at, false)?;
+        let (attrs, index) = both(attrs, read_index_if(self.rules.alloc, at))?;
         match index {
             Some(index) => self.numbered_field(at, attrs, index),
             None => self.worded_field(at, attrs),
@@ -149,12 +155,13 @@ impl<P: Fn(Global, &mut Ahead<'_>, Place, u32) -> Result<Found<Boxed<Expr>>, Rea
         attrs: List<Attr>,
         index: Text,
     ) -> Result<Found<FieldExpr>, ReadNone>
-        requires { AreExprs self.now.depth (P.pre self.now.exprs) (P.post self.now.exprs) }
-        ensures read { IsFound (numbered_field (code_within self.now.depth) attrs index at.old)
-            result at.new }
-        ensures within { IfOk result (λ found. found.need ≤ self.now.depth) }
+        requires { AreExprs self.now.rules.depth (P.pre self.now.rules.exprs)
+            (P.post self.now.rules.exprs) }
+        ensures read { IsFound (numbered_field (code_within self.now.rules.depth) attrs index
+            at.old) result at.new }
+        ensures within { IfOk result (λ found. found.need ≤ self.now.rules.depth) }
     {
-        let ((attrs, index), found) = both((attrs, index), self.inner(at, FREE))?;
+        let ((attrs, index), found) = both((attrs, index), self.rules.inner(at, FREE))?;
         Ok(Found {
             need: found.need,
             node: FieldExpr::Numbered {
@@ -172,12 +179,13 @@ impl<P: Fn(Global, &mut Ahead<'_>, Place, u32) -> Result<Found<Boxed<Expr>>, Rea
         at: &mut Ahead<'_>,
         attrs: List<Attr>,
     ) -> Result<Found<FieldExpr>, ReadNone>
-        requires { AreExprs self.now.depth (P.pre self.now.exprs) (P.post self.now.exprs) }
-        ensures read { IsFound (reader.field_by (code_within self.now.depth) attrs None at.old)
-            result at.new }
-        ensures within { IfOk result (λ found. found.need ≤ self.now.depth) }
+        requires { AreExprs self.now.rules.depth (P.pre self.now.rules.exprs)
+            (P.post self.now.rules.exprs) }
+        ensures read { IsFound (reader.field_by (code_within self.now.rules.depth) attrs None
+            at.old) result at.new }
+        ensures within { IfOk result (λ found. found.need ≤ self.now.rules.depth) }
     {
-        let (attrs, name) = both(attrs, read_name(self.alloc, at))?;
+        let (attrs, name) = both(attrs, read_name(self.rules.alloc, at))?;
         self.named_field(at, attrs, name)
     }
 
@@ -189,10 +197,11 @@ impl<P: Fn(Global, &mut Ahead<'_>, Place, u32) -> Result<Found<Boxed<Expr>>, Rea
         attrs: List<Attr>,
         name: Name,
     ) -> Result<Found<FieldExpr>, ReadNone>
-        requires { AreExprs self.now.depth (P.pre self.now.exprs) (P.post self.now.exprs) }
-        ensures read { IsFound (reader.named_field (code_within self.now.depth) attrs name at.old)
-            result at.new }
-        ensures within { IfOk result (λ found. found.need ≤ self.now.depth) }
+        requires { AreExprs self.now.rules.depth (P.pre self.now.rules.exprs)
+            (P.post self.now.rules.exprs) }
+        ensures read { IsFound (reader.named_field (code_within self.now.rules.depth) attrs name
+            at.old) result at.new }
+        ensures within { IfOk result (λ found. found.need ≤ self.now.rules.depth) }
     {
         if !takes_op(at, b":") {
             return Ok(Found {
@@ -200,7 +209,7 @@ impl<P: Fn(Global, &mut Ahead<'_>, Place, u32) -> Result<Found<Boxed<Expr>>, Rea
                 need: 0,
             });
         }
-        let ((attrs, name), found) = both((attrs, name), self.inner(at, FREE))?;
+        let ((attrs, name), found) = both((attrs, name), self.rules.inner(at, FREE))?;
         Ok(Found {
             need: found.need,
             node: FieldExpr::Named {

@@ -13,8 +13,8 @@ use Rattle.lay_read_tokens.proofs.Turns.{repeat-start, repeat-end, repeat-none, 
 use Rattle.lay_read_tokens.proofs.Holding.{holding_more}
 use Rattle.lay_read_types.proofs.Steps.{found_by}
 use Rattle.lay_read_shared.specs.Code.{code_within}
-use Rattle.lay_read_code.specs.Begun.{begun_at, deeper}
-use Rattle.lay_read_code.proofs.ItemBodies.{block_in, block_made, braced, items_in, items_made, kind_none, value_in, value_made, whole_made}
+use Rattle.lay_read_begun.specs.Begun.{begun_at, deeper}
+use Rattle.lay_read_begun.proofs.ItemBodies.{block_in, block_made, braced, items_in, items_made, kind_none, value_in, value_made, whole_made}
 use Rattle.lay_read_code.proofs.Steps.{block_found, block_nowhere, expr_deeper, expr_nowhere, item_kept, item_no_attrs, item_no_kind, item_no_vis, item_nowhere}
 use Rattle.lay_read_code.proofs.knot.+code.Goals as goal
 

@@ -1,0 +1,351 @@
+//! Items up to their bodies.
+ghost use Rattle.std.specs.Prelude.{◌≡◌, ◌≤◌, IfOk};
+ghost use Rattle.lay_node.specs.reader.Exact.{needless};
+ghost use Rattle.lay_node.specs.reader.Heads as heads;
+ghost use Rattle.lay_node.specs.reader.Types.{within};
+ghost use Rattle.lay_read_tokens.specs.Answers.{IsFound};
+ghost use Rattle.lay_read_begun.specs.Begun as bodies;
+ghost use Rattle.lay_read_begun.specs.Begun.{deeper, node_alone};
+ghost use Rattle.lay_read_begun.specs.Leads.{told};
+ghost use Rattle.lay_read_begun.specs.declared.begun.Whole.TheVariants as whole;
+
+use crate::leads::{ItemLead, item_lead, may_stand};
+use lay_code::{
+    Alias, Boxed, Enum, ExternCrate, FnHead, Group, ImplHead, Literal, MacroCall, Name, Site,
+    Struct, TraitHead, Union, UseTree, ValueHead, Wheres,
+};
+use lay_read_generics::wheres_ahead;
+use lay_read_head_rules::functions::fn_head_ahead;
+use lay_read_head_rules::heads::{
+    alias_ahead, enum_ahead, extern_crate_ahead, impl_head_ahead, struct_ahead, trait_head_ahead,
+    union_ahead, value_head_ahead,
+};
+use lay_read_head_rules::level::{kept_if, takes_flag};
+use lay_read_head_rules::uses::use_ahead;
+use lay_read_parts::joins::both;
+use lay_read_parts::parts::read_abi_if;
+use lay_read_tokens::calls::{call_ahead, takes_end};
+use lay_read_tokens::found::greater;
+use lay_read_tokens::front::{pass_two, takes_keyword, takes_mark};
+use lay_read_tokens::names::read_name;
+use lay_read_tokens::stop::boxed;
+use lay_read_tokens::tokens::read_group;
+use lay_read_tokens::{Ahead, Found, ReadNone};
+use std::alloc::Global;
+
+/// An item that has no body. What begins items stays within the nodes that hold no code, since a function that has an
+/// `ItemKind` takes ten times as long to be proved.
+#[derive(Drop)]
+pub enum Whole {
+    ExternCrate { item: ExternCrate },
+    Import { tree: Boxed<UseTree> },
+    FileModule { name: Name },
+    Alias { item: Alias },
+    Struct { item: Struct },
+    Union { item: Union },
+    Enum { item: Enum },
+    MacroRules { name: Name, rules: Group },
+    Call { call: MacroCall },
+}
+
+/// An item up to its body, or the whole item where it has none. What is large in it stands in a box, since an item that is
+/// begun is moved many times.
+#[derive(Drop)]
+pub enum Begun {
+    Whole {
+        item: Boxed<Whole>,
+    },
+    Module {
+        name: Name,
+    },
+    Trait {
+        head: Boxed<TraitHead>,
+        wheres: Wheres,
+    },
+    Impl {
+        head: Boxed<ImplHead>,
+        wheres: Wheres,
+    },
+    Foreign {
+        is_unsafe: bool,
+        abi: Option<Literal>,
+    },
+    Function {
+        head: Boxed<FnHead>,
+        wheres: Wheres,
+    },
+    Value {
+        head: Boxed<ValueHead>,
+    },
+}
+
+/// An item at its site up to its body, told from what it begins with. What is within it stands within the depth.
+pub fn read_begun(
+    alloc: Global,
+    at: &mut Ahead<'_>,
+    site: Site,
+    depth: u32,
+) -> Result<Found<Begun>, ReadNone>
+    ensures read { IsFound (bodies.begun_at site (deeper depth) at.old) result at.new }
+    ensures within { IfOk result (λ found. found.need ≤ depth) }
+{
+    let lead = item_lead(at);
+    if may_stand(site, lead) {
+        begun_by(alloc, at, site, lead, depth)
+    } else {
+        Err(ReadNone::NoReading)
+    }
+}
+
+/// An item with this lead, up to its body.
+fn begun_by(
+    alloc: Global,
+    at: &mut Ahead<'_>,
+    site: Site,
+    lead: ItemLead,
+    depth: u32,
+) -> Result<Found<Begun>, ReadNone>
+    ensures read { IsFound (bodies.begun_by site (deeper depth) (told lead) at.old) result at.new }
+    ensures within { IfOk result (λ found. found.need ≤ depth) }
+{
+    match lead {
+        ItemLead::ExternCrate => begin_extern_crate(alloc, at),
+        ItemLead::Import => begin_import(alloc, at, depth),
+        ItemLead::Module => begin_module(alloc, at),
+        ItemLead::Function => begin_function(alloc, at, site, depth),
+        ItemLead::Alias => begin_alias(alloc, at, site, depth),
+        ItemLead::Struct => begin_struct(alloc, at, depth),
+        ItemLead::Union => begin_union(alloc, at, depth),
+        ItemLead::Enum => begin_enum(alloc, at, depth),
+        ItemLead::Value => begin_value(alloc, at, depth),
+        ItemLead::Trait => begin_trait(alloc, at, depth),
+        ItemLead::Impl => begin_impl(alloc, at, depth),
+        ItemLead::Foreign => begin_foreign(alloc, at),
+        ItemLead::Rules => begin_rules(alloc, at),
+        ItemLead::Call => begin_call(alloc, at),
+    }
+}
+
+/// An item without a body, which needs this depth.
+fn whole_item(item: Boxed<Whole>, need: u32) -> Found<Begun>
+    ensures node { result.node ≡ Begun.Whole item }
+    ensures need { result.need ≡ need }
+{
+    Found {
+        node: Begun::Whole { item },
+        need,
+    }
+}
+
+/// An extern crate declaration.
+fn begin_extern_crate(alloc: Global, at: &mut Ahead<'_>) -> Result<Found<Begun>, ReadNone>
+    ensures read { IsFound (node_alone whole.ExternCrate (needless heads.extern_crate 0 at.old))
+        result at.new }
+    ensures within { IfOk result (λ found. found.need ≡ 0) }
+{
+    let item = extern_crate_ahead(alloc, at)?;
+    let item = boxed(alloc, Whole::ExternCrate { item })?;
+    Ok(whole_item(item, 0))
+}
+
+/// An import.
+fn begin_import(alloc: Global, at: &mut Ahead<'_>, depth: u32) -> Result<Found<Begun>, ReadNone>
+    ensures read { IsFound (bodies.import_begun (deeper depth) at.old) result at.new }
+    ensures within { IfOk result (λ found. found.need ≤ depth) }
+{
+    if !takes_keyword(at, b"use") {
+        return Err(ReadNone::NoReading);
+    }
+    let Found { node, need } = use_ahead(alloc, at, depth)?;
+    let tree = boxed(alloc, node)?;
+    let item = boxed(alloc, Whole::Import { tree })?;
+    let keeps = takes_mark(at, b";");
+    kept_if(whole_item(item, need), keeps)
+}
+
+/// A module in a file of its own, or the head of another.
+fn begin_module(alloc: Global, at: &mut Ahead<'_>) -> Result<Found<Begun>, ReadNone>
+    ensures read { IsFound (bodies.module_begun at.old) result at.new }
+    ensures within { IfOk result (λ found. found.need ≡ 0) }
+{
+    if !takes_keyword(at, b"mod") {
+        return Err(ReadNone::NoReading);
+    }
+    let name = read_name(alloc, at)?;
+    if takes_mark(at, b";") {
+        let item = boxed(alloc, Whole::FileModule { name })?;
+        Ok(whole_item(item, 0))
+    } else {
+        Ok(Found {
+            node: Begun::Module { name },
+            need: 0,
+        })
+    }
+}
+
+/// A function, up to its body.
+fn begin_function(
+    alloc: Global,
+    at: &mut Ahead<'_>,
+    site: Site,
+    depth: u32,
+) -> Result<Found<Begun>, ReadNone>
+    ensures read { IsFound (bodies.function_begun site (deeper depth) at.old) result at.new }
+    ensures within { IfOk result (λ found. found.need ≤ depth) }
+{
+    let Found { node, need } = fn_head_ahead(alloc, at, site, depth)?;
+    let head = boxed(alloc, node)?;
+    let (head, wheres) = both(head, wheres_ahead(alloc, at, depth))?;
+    Ok(Found {
+        need: greater(need, wheres.need),
+        node: Begun::Function {
+            head,
+            wheres: wheres.node.0,
+        },
+    })
+}
+
+/// A type alias.
+fn begin_alias(
+    alloc: Global,
+    at: &mut Ahead<'_>,
+    site: Site,
+    depth: u32,
+) -> Result<Found<Begun>, ReadNone>
+    ensures read { IsFound (node_alone whole.Alias (heads.alias site (within depth) at.old)) result
+        at.new }
+    ensures within { IfOk result (λ found. found.need ≤ depth) }
+{
+    let Found { node, need } = alias_ahead(alloc, at, site, depth)?;
+    let item = boxed(alloc, Whole::Alias { item: node })?;
+    Ok(whole_item(item, need))
+}
+
+/// A struct.
+fn begin_struct(alloc: Global, at: &mut Ahead<'_>, depth: u32) -> Result<Found<Begun>, ReadNone>
+    ensures read { IsFound (node_alone whole.Struct (heads.struct (within depth) at.old)) result
+        at.new }
+    ensures within { IfOk result (λ found. found.need ≤ depth) }
+{
+    let Found { node, need } = struct_ahead(alloc, at, depth)?;
+    let item = boxed(alloc, Whole::Struct { item: node })?;
+    Ok(whole_item(item, need))
+}
+
+/// A union.
+fn begin_union(alloc: Global, at: &mut Ahead<'_>, depth: u32) -> Result<Found<Begun>, ReadNone>
+    ensures read { IsFound (node_alone whole.Union (heads.union (within depth) at.old)) result
+        at.new }
+    ensures within { IfOk result (λ found. found.need ≤ depth) }
+{
+    let Found { node, need } = union_ahead(alloc, at, depth)?;
+    let item = boxed(alloc, Whole::Union { item: node })?;
+    Ok(whole_item(item, need))
+}
+
+/// An enumeration.
+fn begin_enum(alloc: Global, at: &mut Ahead<'_>, depth: u32) -> Result<Found<Begun>, ReadNone>
+    ensures read { IsFound (node_alone whole.Enum (heads.enum (within depth) at.old)) result
+        at.new }
+    ensures within { IfOk result (λ found. found.need ≤ depth) }
+{
+    let Found { node, need } = enum_ahead(alloc, at, depth)?;
+    let item = boxed(alloc, Whole::Enum { item: node })?;
+    Ok(whole_item(item, need))
+}
+
+/// A constant or a static, up to its value.
+fn begin_value(alloc: Global, at: &mut Ahead<'_>, depth: u32) -> Result<Found<Begun>, ReadNone>
+    ensures read { IsFound (bodies.value_begun (deeper depth) at.old) result at.new }
+    ensures within { IfOk result (λ found. found.need ≤ depth) }
+{
+    let Found { node, need } = value_head_ahead(alloc, at, depth)?;
+    let head = boxed(alloc, node)?;
+    Ok(Found {
+        need,
+        node: Begun::Value { head },
+    })
+}
+
+/// A trait, up to its body.
+fn begin_trait(alloc: Global, at: &mut Ahead<'_>, depth: u32) -> Result<Found<Begun>, ReadNone>
+    ensures read { IsFound (bodies.trait_begun (within depth) at.old) result at.new }
+    ensures within { IfOk result (λ found. found.need ≤ depth) }
+{
+    let Found { node, need } = trait_head_ahead(alloc, at, depth)?;
+    let head = boxed(alloc, node.0)?;
+    let (head, wheres) = both(head, wheres_ahead(alloc, at, depth))?;
+    Ok(Found {
+        need: greater(need, wheres.need),
+        node: Begun::Trait {
+            head,
+            wheres: wheres.node.0,
+        },
+    })
+}
+
+/// An implementation, up to its body.
+fn begin_impl(alloc: Global, at: &mut Ahead<'_>, depth: u32) -> Result<Found<Begun>, ReadNone>
+    ensures read { IsFound (bodies.impl_begun (within depth) at.old) result at.new }
+    ensures within { IfOk result (λ found. found.need ≤ depth) }
+{
+    let Found { node, need } = impl_head_ahead(alloc, at, depth)?;
+    let head = boxed(alloc, node)?;
+    let (head, wheres) = both(head, wheres_ahead(alloc, at, depth))?;
+    Ok(Found {
+        need: greater(need, wheres.need),
+        node: Begun::Impl {
+            head,
+            wheres: wheres.node.0,
+        },
+    })
+}
+
+/// A foreign block, up to its body.
+#[tactic(auto, using(crate::proofs::ItemBodies::foreign_is))]
+fn begin_foreign(alloc: Global, at: &mut Ahead<'_>) -> Result<Found<Begun>, ReadNone>
+    ensures read { IsFound (bodies.foreign_begun at.old) result at.new }
+    ensures within { IfOk result (λ found. found.need ≡ 0) }
+{
+    let is_unsafe = takes_flag(at, b"unsafe");
+    match read_abi_if(alloc, at)? {
+        Some(abi) => Ok(Found {
+            node: Begun::Foreign {
+                is_unsafe,
+                abi: abi.name,
+            },
+            need: 0,
+        }),
+        None => Err(ReadNone::NoReading),
+    }
+}
+
+/// The declaration of a macro. The tokens before its name are known.
+fn begin_rules(alloc: Global, at: &mut Ahead<'_>) -> Result<Found<Begun>, ReadNone>
+    ensures read { IsFound (bodies.rules_begun at.old) result at.new }
+    ensures within { IfOk result (λ found. found.need ≡ 0) }
+{
+    pass_two(at);
+    let name = read_name(alloc, at)?;
+    let rules = read_group(alloc, at)?;
+    if takes_end(at, rules.delim) {
+        let item = boxed(alloc, Whole::MacroRules { name, rules })?;
+        Ok(whole_item(item, 0))
+    } else {
+        Err(ReadNone::NoReading)
+    }
+}
+
+/// A macro call, and what ends it.
+fn begin_call(alloc: Global, at: &mut Ahead<'_>) -> Result<Found<Begun>, ReadNone>
+    ensures read { IsFound (bodies.call_begun at.old) result at.new }
+    ensures within { IfOk result (λ found. found.need ≡ 0) }
+{
+    let call = call_ahead(alloc, at)?;
+    if takes_end(at, call.tokens.delim) {
+        let item = boxed(alloc, Whole::Call { call })?;
+        Ok(whole_item(item, 0))
+    } else {
+        Err(ReadNone::NoReading)
+    }
+}

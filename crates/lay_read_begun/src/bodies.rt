@@ -1,0 +1,171 @@
+//! The bodies of items, and items with their bodies.
+ghost use Rattle.std.specs.Prelude.{◌≡◌, ◌≤◌, is_some, IfOk, Ok, Err, if◌then◌else◌};
+ghost use Rattle.lay_code.specs.nodes.Item as nodes;
+ghost use Rattle.lay_read_begun.specs.Begun as bodies;
+
+use crate::begun::{Begun, Whole};
+use lay_code::{Attr, Block, Boxed, Expr, FnHead, Item, ItemKind, Site, ValueHead, Wheres};
+use lay_read_head_rules::level::kept_if;
+use lay_read_parts::joins::refused;
+use lay_read_tokens::found::greater;
+use lay_read_tokens::{Found, ReadNone};
+use lay_token::List;
+
+/// What the body of an item is.
+#[derive(Clone, Copy)]
+pub enum Body {
+    /// It has none, or it is read already.
+    None,
+    /// Items, which stand at this site.
+    Items(Site),
+    /// A block, or a `;`.
+    Block,
+    /// A value and a `;`, or the `;` alone.
+    Value,
+}
+
+/// What the body of an item is.
+pub fn body_of(begun: &Begun) -> Body
+    ensures { result ≡ bodies.body_of begun.now }
+{
+    match begun {
+        Begun::Whole { .. } => Body::None,
+        Begun::Module { .. } => Body::Items(Site::Module),
+        Begun::Trait { .. } => Body::Items(Site::TraitMember),
+        Begun::Impl { .. } => Body::Items(Site::Member),
+        Begun::Foreign { .. } => Body::Items(Site::Foreign),
+        Begun::Function { .. } => Body::Block,
+        Begun::Value { .. } => Body::Value,
+    }
+}
+
+/// An item that has no body, as an item.
+fn kind_of(item: Whole) -> ItemKind
+    ensures { result ≡ bodies.kind_of item }
+{
+    match item {
+        Whole::ExternCrate { item } => ItemKind::ExternCrate { item },
+        Whole::Import { tree } => ItemKind::Import { tree },
+        Whole::FileModule { name } => ItemKind::FileModule { name },
+        Whole::Alias { item } => ItemKind::Alias { item },
+        Whole::Struct { item } => ItemKind::Struct { item },
+        Whole::Union { item } => ItemKind::Union { item },
+        Whole::Enum { item } => ItemKind::Enum { item },
+        Whole::MacroRules { name, rules } => ItemKind::MacroRules { name, rules },
+        Whole::Call { call } => ItemKind::Call { call },
+    }
+}
+
+/// An item with what stands in its body, if it has one.
+pub fn with_items(begun: Begun, attrs: List<Attr>, items: List<Item>) -> ItemKind
+    ensures { result ≡ bodies.with_items begun attrs items }
+{
+    match begun {
+        Begun::Whole { item } => kind_of(item.into_inner()),
+        Begun::Module { name } => ItemKind::Module { name, attrs, items },
+        Begun::Trait { head, wheres } => ItemKind::Trait {
+            head: head.into_inner(),
+            wheres,
+            attrs,
+            items,
+        },
+        Begun::Impl { head, wheres } => ItemKind::Impl {
+            head: head.into_inner(),
+            wheres,
+            attrs,
+            items,
+        },
+        Begun::Foreign { is_unsafe, abi } => ItemKind::Foreign {
+            is_unsafe,
+            abi,
+            attrs,
+            items,
+        },
+        Begun::Function { head, wheres } => ItemKind::Function {
+            head: head.into_inner(),
+            wheres,
+            body: None,
+        },
+        Begun::Value { head } => ItemKind::Value {
+            head: head.into_inner(),
+            value: None,
+        },
+    }
+}
+
+/// Whether a function may have a body at its site, or may lack it.
+pub fn may_be_bodied(site: Site, bodied: bool) -> bool
+    ensures { result ≡ nodes.may_be_bodied site bodied }
+{
+    match site {
+        Site::Foreign => !bodied,
+        Site::TraitMember => true,
+        _ => bodied,
+    }
+}
+
+/// Whether a constant or a static may have a value, or may lack it.
+pub fn may_be_valued(site: Site, head: &ValueHead, valued: bool) -> bool
+    ensures { result ≡ nodes.may_be_valued site head.now valued }
+{
+    let constant = matches!(head, ValueHead::Const { .. });
+    match (site, valued) {
+        (Site::Module, valued) => valued,
+        (Site::Member, valued) => valued && constant,
+        (Site::TraitMember, _) => constant,
+        (Site::Foreign, valued) => !valued && !constant,
+    }
+}
+
+/// A function with its body, if it has one, where it may have or lack it at its site.
+pub fn with_block(
+    begun: Found<Begun>,
+    site: Site,
+    body: Found<Option<Block>>,
+) -> Result<Found<ItemKind>, ReadNone>
+    ensures { result ≡ bodies.with_block (begun.node, begun.need) site (body.node, body.need) }
+{
+    let need = greater(begun.need, body.need);
+    let keeps = may_be_bodied(site, body.node.is_some());
+    match begun.node {
+        Begun::Function { head, wheres } => kept_if(
+            Found {
+                need,
+                node: ItemKind::Function {
+                    head: head.into_inner(),
+                    wheres,
+                    body: body.node,
+                },
+            },
+            keeps,
+        ),
+        other => refused(other),
+    }
+}
+
+/// A constant or a static with its value, if it has one, where it may have or lack it at its site.
+pub fn with_value(
+    begun: Found<Begun>,
+    site: Site,
+    value: Found<Option<Boxed<Expr>>>,
+) -> Result<Found<ItemKind>, ReadNone>
+    ensures { result ≡ bodies.with_value (begun.node, begun.need) site (value.node, value.need) }
+{
+    let need = greater(begun.need, value.need);
+    match begun.node {
+        Begun::Value { head } => {
+            let keeps = may_be_valued(site, head.get(), value.node.is_some());
+            kept_if(
+                Found {
+                    need,
+                    node: ItemKind::Value {
+                        head: head.into_inner(),
+                        value: value.node,
+                    },
+                },
+                keeps,
+            )
+        }
+        other => refused(other),
+    }
+}

@@ -1,0 +1,200 @@
+//! What an item begins with.
+ghost use Rattle.std.specs.Prelude.{◌≡◌};
+ghost use Rattle.lay_node.specs.Ahead.{first, tail};
+ghost use Rattle.lay_node.specs.reader.Functions as functions;
+ghost use Rattle.lay_code.specs.nodes.Item.{in_module};
+ghost use Rattle.lay_code.specs.reader.Item.{may_stand};
+ghost use Rattle.lay_code.specs.reader.ItemLeads as reader;
+ghost use Rattle.lay_read_begun.specs.Leads.{led_by, lead_of_word, may_lead_function, told};
+
+use lay_code::Site;
+use lay_read_blocks::front::{begins_rules, begins_union};
+use lay_read_head_rules::level::takes_flag;
+use lay_read_tokens::Ahead;
+use lay_read_tokens::front::{is_at_keyword, pass, takes_keyword};
+use lay_token::Kind;
+
+/// What an item begins with.
+#[derive(Clone, Copy)]
+pub enum ItemLead {
+    ExternCrate,
+    Import,
+    Module,
+    Function,
+    Alias,
+    Struct,
+    Union,
+    Enum,
+    Value,
+    Trait,
+    Impl,
+    Foreign,
+    Rules,
+    Call,
+}
+
+/// What the item at the front begins with. Without a word that leads one it is a macro call.
+pub fn item_lead(at: &Ahead<'_>) -> ItemLead
+    ensures { told result ≡ reader.item_lead at.now }
+{
+    match at.peek(0) {
+        Some(token) => match token.kind {
+            Kind::Ident => lead_of_word(token.text.as_bytes(), at),
+            _ => ItemLead::Call,
+        },
+        None => ItemLead::Call,
+    }
+}
+
+/// What the word leads that stands at the front. What stands behind it is looked at where it may lead a function alone.
+fn lead_of_word(word: &[u8], at: &Ahead<'_>) -> ItemLead
+    ensures { told result ≡ lead_of_word word.now at.now }
+{
+    if may_lead_function(word) && begins_function(at) {
+        ItemLead::Function
+    } else {
+        led_by(word, at)
+    }
+}
+
+/// Whether the word may lead a function.
+fn may_lead_function(word: &[u8]) -> bool
+    ensures { result ≡ may_lead_function word.now }
+{
+    word == b"fn".as_slice()
+        || word == b"const".as_slice()
+        || word == b"async".as_slice()
+        || word == b"unsafe".as_slice()
+        || word == b"safe".as_slice()
+        || word == b"extern".as_slice()
+}
+
+/// Whether a function begins at the front: `fn`, behind words that may stand before it.
+fn begins_function(at: &Ahead<'_>) -> bool
+    ensures { result ≡ reader.begins_function at.now }
+{
+    let mut behind = at.fork();
+    takes_flag(&mut behind, b"const");
+    takes_flag(&mut behind, b"async");
+    pass_safety(&mut behind);
+    pass_abi(&mut behind);
+    is_at_keyword(&behind, b"fn")
+}
+
+/// Passes what a function says of its safety, if it says any.
+fn pass_safety(at: &mut Ahead<'_>)
+    ensures { at.new ≡ (functions.safety_at at.old).1 }
+{
+    if !takes_keyword(at, b"unsafe") {
+        takes_keyword(at, b"safe");
+    }
+}
+
+/// Passes an ABI, if one stands at the front.
+fn pass_abi(at: &mut Ahead<'_>)
+    ensures { at.new ≡ functions.behind_abi at.old }
+{
+    if takes_keyword(at, b"extern") && is_at_string(at) {
+        pass(at);
+    }
+}
+
+/// Whether a string stands at the front.
+fn is_at_string(at: &Ahead<'_>) -> bool
+    ensures { result ≡ first (λ token. functions.is_string_kind token.kind) at.now }
+{
+    match at.peek(0) {
+        Some(token) => matches!(token.kind, Kind::Str | Kind::RawStr),
+        None => false,
+    }
+}
+
+/// What the word at the front leads, if it is no function.
+fn led_by(word: &[u8], at: &Ahead<'_>) -> ItemLead
+    ensures { told result ≡ led_by word.now at.now }
+{
+    if word == b"use".as_slice() {
+        ItemLead::Import
+    } else if word == b"mod".as_slice() {
+        ItemLead::Module
+    } else if word == b"type".as_slice() {
+        ItemLead::Alias
+    } else if word == b"struct".as_slice() {
+        ItemLead::Struct
+    } else if word == b"enum".as_slice() {
+        ItemLead::Enum
+    } else if word == b"const".as_slice() {
+        ItemLead::Value
+    } else if word == b"static".as_slice() {
+        ItemLead::Value
+    } else if word == b"trait".as_slice() {
+        ItemLead::Trait
+    } else if word == b"impl".as_slice() {
+        ItemLead::Impl
+    } else if word == b"unsafe".as_slice() {
+        unsafe_lead(at)
+    } else if word == b"extern".as_slice() {
+        extern_lead(at)
+    } else {
+        macro_lead(at)
+    }
+}
+
+/// What `unsafe` leads, if it is no function.
+fn unsafe_lead(at: &Ahead<'_>) -> ItemLead
+    ensures { told result ≡ reader.unsafe_lead (tail at.now) }
+{
+    let mut behind = at.fork();
+    pass(&mut behind);
+    if is_at_keyword(&behind, b"trait") {
+        ItemLead::Trait
+    } else if is_at_keyword(&behind, b"impl") {
+        ItemLead::Impl
+    } else {
+        ItemLead::Foreign
+    }
+}
+
+/// What `extern` leads, if it is no function.
+fn extern_lead(at: &Ahead<'_>) -> ItemLead
+    ensures { told result ≡ reader.extern_lead (tail at.now) }
+{
+    let mut behind = at.fork();
+    pass(&mut behind);
+    if is_at_keyword(&behind, b"crate") {
+        ItemLead::ExternCrate
+    } else {
+        ItemLead::Foreign
+    }
+}
+
+/// What a word leads that no item but a macro call begins with, or that may be a name too.
+fn macro_lead(at: &Ahead<'_>) -> ItemLead
+    ensures { told result ≡ reader.macro_lead at.now }
+{
+    if begins_union(at) {
+        ItemLead::Union
+    } else if begins_rules(at) {
+        ItemLead::Rules
+    } else {
+        ItemLead::Call
+    }
+}
+
+/// Whether an item stands in a file or in a module.
+fn in_module(site: Site) -> bool
+    ensures { result ≡ in_module site }
+{
+    matches!(site, Site::Module)
+}
+
+/// Whether an item with this lead may stand at the site. Of a function, an alias and a value what is behind the lead
+/// decides.
+pub fn may_stand(site: Site, lead: ItemLead) -> bool
+    ensures { result ≡ may_stand site (told lead) }
+{
+    match lead {
+        ItemLead::Function | ItemLead::Alias | ItemLead::Value | ItemLead::Call => true,
+        _ => in_module(site),
+    }
+}

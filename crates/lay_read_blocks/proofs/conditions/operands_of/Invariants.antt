@@ -1,7 +1,0 @@
-use Rattle.std.proofs.Common.{◌≡◌, map}
-use Rattle.lay_read_blocks.specs.Answers.{and_operand}
-use Rattle.lay_read_blocks.proofs.conditions.operands_of.Given as goal
-
--- the operands of the links that are passed
-abbrev pub invariant-loop-expr : goal.invariant-loop-expr
-invariant-loop-expr l = l.operands ≡ map and_operand l.yielded

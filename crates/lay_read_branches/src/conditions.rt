@@ -1,0 +1,372 @@
+//! Conditions: links with `&&` between them.
+//!
+//! Links are read one by one. Where none of them is a `let`, they are the first operands of an expression, and the operators
+//! behind them are read from their level on.
+ghost use Rattle.std.specs.Prelude.{◌≡◌, ◌==◌, ◌+◌, ◌^◌, ◌<◌, ◌≤◌, ◌∷◌, if◌then◌else◌, drop, map, max, true, IfErr, IfOk};
+ghost use Rattle.std.specs.List.{list_any};
+ghost use Rattle.lay_node.specs.Follow as follow;
+ghost use Rattle.lay_code.specs.nodes.Code.{about_expr};
+ghost use Rattle.lay_code.specs.nodes.Exprs.{stands};
+ghost use Rattle.lay_code.specs.nodes.Places.{link_place};
+ghost use Rattle.lay_code.specs.reader.Conditions as reader;
+ghost use Rattle.lay_read_tokens.specs.Answers.{AreFound, IsFound, IsHeld};
+ghost use Rattle.lay_read_shared.specs.Code.{code_within};
+ghost use Rattle.lay_read_blocks.specs.Answers.{AreCode};
+ghost use Rattle.lay_read_branches.specs.Answers.{IsAlone, and_operand, chain_found, condition_behind, condition_found};
+
+use crate::rules::BranchRules;
+use lay_code::{Block, Boxed, Condition, Expr, Item, Link, Op, Pat, PatPlace, Place, Site};
+use lay_ops::ahead::strength;
+use lay_ops::places::{link_place, plain};
+use lay_ops::stands;
+use lay_read_operators::ExprRules;
+use lay_read_parts::joins::{both, refused};
+use lay_read_parts::loops::Part;
+use lay_read_pats::pat_ahead;
+use lay_read_shared::boxes::boxed_found;
+use lay_read_shared::loops::{Going, read_parts};
+use lay_read_tokens::found::greater;
+use lay_read_tokens::front::{pass_two, takes_keyword, takes_op};
+use lay_read_tokens::stop::{keep, room_for};
+use lay_read_tokens::{Ahead, Found, ReadNone};
+use lay_token::List;
+use std::alloc::Global;
+
+/// Links behind an `&&`, as parts that stand one behind another.
+pub struct Links;
+
+impl Part<(Option<Pat>, Boxed<Expr>), ()> for Links {
+    ghost reads = { λ depth place ts. reader.one_link (code_within depth) (drop 2 ts) };
+}
+
+/// Whether a range without a start begins at the front.
+fn begins_dots(at: &Ahead<'_>) -> bool
+    ensures { result ≡ follow.begins_dots at.now }
+{
+    at.op_is(b"..") || at.op_is(b"..=")
+}
+
+/// Whether a link may end where the tokens ahead stand.
+fn link_ends(at: &Ahead<'_>, expr: &Expr) -> bool
+    ensures { result ≡ (if reader.begins_link at.now then stands (about_expr expr.now)
+        (link_place true) else true) }
+{
+    strength(at) != 4 || stands(expr, link_place(true))
+}
+
+/// Whether one of these links is a `let`.
+fn has_let(links: &[(Option<Pat>, Boxed<Expr>)]) -> bool
+    ensures { result ≡ list_any reader.is_let links.now }
+{
+    for (pat, _) in links {
+        if pat.is_some() {
+            return true;
+        }
+    }
+    false
+}
+
+/// A link of the pattern behind its `let`, if it has one, and of its expression.
+fn linked(read: (Option<Pat>, Boxed<Expr>)) -> Link
+    ensures { result ≡ reader.linked read }
+{
+    let (pat, expr) = read;
+    match pat {
+        Some(pat) => Link::Let { pat, value: expr },
+        None => Link::Expr { expr },
+    }
+}
+
+/// The condition of these links.
+#[inline(never)]
+fn condition_of(
+    alloc: Global,
+    first: (Option<Pat>, Boxed<Expr>),
+    more: List<(Option<Pat>, Boxed<Expr>)>,
+) -> Result<Condition, ReadNone>
+    ensures ok { IfOk result (λ condition. condition.links ≡ map reader.linked (first ∷ more)) }
+    ensures err { IfErr result (λ none. none ≡ ReadNone.NoMemory) }
+{
+    let mut links = List::new(alloc);
+    keep(&mut links, linked(first))?;
+    for link in more.into_vec() {
+        keep(&mut links, linked(link))?;
+    }
+    Ok(Condition { links })
+}
+
+/// The expressions of links without a `let`, each with the `&&` before it.
+fn operands_of(
+    alloc: Global,
+    links: List<(Option<Pat>, Boxed<Expr>)>,
+) -> Result<List<(Op, Boxed<Expr>)>, ReadNone>
+    ensures ok { IfOk result (λ operands. operands ≡ map and_operand links) }
+    ensures err { IfErr result (λ none. none ≡ ReadNone.NoMemory) }
+{
+    let links = links.into_vec();
+    let mut operands = room_for(alloc, links.len())?;
+    for (_, expr) in links {
+        keep(&mut operands, (Op::AndAnd, expr))?;
+    }
+    Ok(operands)
+}
+
+/// Links without a `let` as one expression.
+#[inline(never)]
+fn chain_of(
+    alloc: Global,
+    first: Found<(Option<Pat>, Boxed<Expr>)>,
+    more: Found<List<(Option<Pat>, Boxed<Expr>)>>,
+) -> Result<Found<Boxed<Expr>>, ReadNone>
+    requires { max first.need more.need + 1 < 2 ^ 32 }
+    ensures made { IfOk result (λ found. (found.node, found.need)
+        ≡ chain_found first.node first.need more.node more.need) }
+    ensures err { IfErr result (λ none. none ≡ ReadNone.NoMemory) }
+{
+    let Found { node: read, need } = first;
+    let Found {
+        node: links,
+        need: most,
+    } = more;
+    let (_, expr) = read;
+    if links.as_slice().is_empty() {
+        return Ok(Found { node: expr, need });
+    }
+    let need = greater(need, most) + 1;
+    let rest = operands_of(alloc, links)?;
+    boxed_found(alloc, Expr::Chain { first: expr, rest }, need)
+}
+
+/// An expression that was read, as a condition by itself.
+#[inline(never)]
+fn alone(
+    alloc: Global,
+    read: Result<Found<Boxed<Expr>>, ReadNone>,
+) -> Result<Found<Condition>, ReadNone>
+    ensures { IsAlone read result }
+{
+    let found = read?;
+    let mut links = List::new(alloc);
+    keep(&mut links, Link::Expr { expr: found.node })?;
+    Ok(Found {
+        need: found.need,
+        node: Condition { links },
+    })
+}
+
+impl<
+    P: Fn(Global, &mut Ahead<'_>, Place, u32) -> Result<Found<Boxed<Expr>>, ReadNone> + Copy,
+    B: Fn(Global, &mut Ahead<'_>, u32) -> Result<Found<Block>, ReadNone>,
+    I: Fn(Global, &mut Ahead<'_>, Site, u32) -> Result<Found<Item>, ReadNone>,
+> BranchRules<P, B, I> {
+    /// What stands behind the `let` of a link.
+    #[tactic(auto, unfolding(lay_code::specs::reader::Conditions::let_link))]
+    #[inline(never)]
+    fn let_link(&self, at: &mut Ahead<'_>) -> Result<Found<(Option<Pat>, Boxed<Expr>)>, ReadNone>
+        requires { AreCode self.now.rules.depth (P.pre self.now.rules.exprs)
+            (P.post self.now.rules.exprs) (B.pre self.now.rules.blocks)
+            (B.post self.now.rules.blocks) (I.pre self.now.rules.items)
+            (I.post self.now.rules.items) }
+        ensures read { IsFound (reader.let_link (code_within self.now.rules.depth) at.old) result
+            at.new }
+        ensures within { IfOk result (λ found. found.need ≤ self.now.rules.depth) }
+    {
+        let pat = pat_ahead(
+            self.rules.alloc,
+            at,
+            PatPlace::Alternatives,
+            self.rules.depth,
+        )?;
+        if !takes_op(at, b"=") {
+            return refused(pat);
+        }
+        let (pat, value) = both(pat, self.rules.expr(at, plain(4, true)))?;
+        Ok(Found {
+            need: greater(pat.need, value.need),
+            node: (Some(pat.node), value.node),
+        })
+    }
+
+    /// A link, whatever follows it.
+    #[inline(never)]
+    fn link_by(&self, at: &mut Ahead<'_>) -> Result<Found<(Option<Pat>, Boxed<Expr>)>, ReadNone>
+        requires { AreCode self.now.rules.depth (P.pre self.now.rules.exprs)
+            (P.post self.now.rules.exprs) (B.pre self.now.rules.blocks)
+            (B.post self.now.rules.blocks) (I.pre self.now.rules.items)
+            (I.post self.now.rules.items) }
+        ensures read { IsFound (reader.link_by (code_within self.now.rules.depth) at.old) result
+            at.new }
+        ensures within { IfOk result (λ found. found.need ≤ self.now.rules.depth) }
+    {
+        if takes_keyword(at, b"let") {
+            return self.let_link(at);
+        }
+        let found = self.rules.expr(at, plain(4, true))?;
+        Ok(Found {
+            need: found.need,
+            node: (None, found.node),
+        })
+    }
+
+    /// A link.
+    #[tactic(auto, unfolding(lay_code::specs::reader::Conditions::one_link))]
+    #[inline(never)]
+    fn one_link(&self, at: &mut Ahead<'_>) -> Result<Found<(Option<Pat>, Boxed<Expr>)>, ReadNone>
+        requires { AreCode self.now.rules.depth (P.pre self.now.rules.exprs)
+            (P.post self.now.rules.exprs) (B.pre self.now.rules.blocks)
+            (B.post self.now.rules.blocks) (I.pre self.now.rules.items)
+            (I.post self.now.rules.items) }
+        ensures read { IsFound (reader.one_link (code_within self.now.rules.depth) at.old) result
+            at.new }
+        ensures within { IfOk result (λ found. found.need ≤ self.now.rules.depth) }
+    {
+        let link = self.link_by(at)?;
+        if !link_ends(at, link.node.1.get()) {
+            return refused(link);
+        }
+        Ok(link)
+    }
+
+    /// A link and the `&&` before it.
+    #[inline(never)]
+    fn further_link(
+        &self,
+        at: &mut Ahead<'_>,
+        _place: (),
+    ) -> Result<Found<(Option<Pat>, Boxed<Expr>)>, ReadNone>
+        requires { AreCode self.now.rules.depth (P.pre self.now.rules.exprs)
+            (P.post self.now.rules.exprs) (B.pre self.now.rules.blocks)
+            (B.post self.now.rules.blocks) (I.pre self.now.rules.items)
+            (I.post self.now.rules.items) }
+        ensures read { IsFound (reader.one_link (code_within self.now.rules.depth) (drop 2 at.old))
+            result at.new }
+        ensures within { IfOk result (λ found. found.need ≤ self.now.rules.depth) }
+    {
+        pass_two(at);
+        self.one_link(at)
+    }
+
+    /// The links that follow the first one, each behind an `&&`.
+    #[tactic(auto, unfolding(lay_code::specs::reader::Conditions::further_links), using(lay_read_shared::proofs::Left::link_leaves))]
+    #[inline(never)]
+    fn further_links(
+        &self,
+        at: &mut Ahead<'_>,
+    ) -> Result<Found<List<(Option<Pat>, Boxed<Expr>)>>, ReadNone>
+        requires { AreCode self.now.rules.depth (P.pre self.now.rules.exprs)
+            (P.post self.now.rules.exprs) (B.pre self.now.rules.blocks)
+            (B.post self.now.rules.blocks) (I.pre self.now.rules.items)
+            (I.post self.now.rules.items) }
+        ensures read { IsHeld AreFound (reader.further_links (code_within self.now.rules.depth)
+            at.old) result at.new }
+        ensures within { IfOk result (λ found. found.need ≤ self.now.rules.depth) }
+    {
+        read_parts::<Links, BranchRules<P, B, I>, (Option<Pat>, Boxed<Expr>), (), _>(
+            self.rules.alloc,
+            at,
+            self.rules.depth,
+            Going::Operands(3),
+            self,
+            BranchRules::further_link,
+            (),
+        )
+    }
+
+    /// What goes on with the first operands of an expression, whose level is that of an `&&`. Further operands are read one level
+    /// deeper than these, as those of every expression are.
+    #[inline(never)]
+    fn goes_on(
+        &self,
+        at: &mut Ahead<'_>,
+        lhs: Found<Boxed<Expr>>,
+    ) -> Result<Found<Boxed<Expr>>, ReadNone>
+        requires { AreCode self.now.rules.depth (P.pre self.now.rules.exprs)
+            (P.post self.now.rules.exprs) (B.pre self.now.rules.blocks)
+            (B.post self.now.rules.blocks) (I.pre self.now.rules.items)
+            (I.post self.now.rules.items) }
+        ensures read { IsFound ((code_within self.now.rules.depth).goes_on (lhs.node, lhs.need)
+            at.old) result at.new }
+        ensures within { IfOk result (λ found. found.need ≤ self.now.rules.depth) }
+    {
+        if self.rules.depth == 0 {
+            return refused(lhs);
+        }
+        let rules = ExprRules {
+            alloc: self.rules.alloc,
+            depth: self.rules.depth - 1,
+            exprs: self.rules.exprs,
+        };
+        rules.climb(at, plain(0, true), 3, lhs)
+    }
+
+    /// The condition that these links are, or that begins with them.
+    #[inline(never)]
+    fn condition_found(
+        &self,
+        at: &mut Ahead<'_>,
+        first: Found<(Option<Pat>, Boxed<Expr>)>,
+        more: Found<List<(Option<Pat>, Boxed<Expr>)>>,
+    ) -> Result<Found<Condition>, ReadNone>
+        requires deeper { AreCode self.now.rules.depth (P.pre self.now.rules.exprs)
+            (P.post self.now.rules.exprs) (B.pre self.now.rules.blocks)
+            (B.post self.now.rules.blocks) (I.pre self.now.rules.items)
+            (I.post self.now.rules.items) }
+        requires first { first.need ≤ self.now.rules.depth }
+        requires more { more.need ≤ self.now.rules.depth }
+        ensures read { IsFound (condition_found (code_within self.now.rules.depth) first.node
+            first.need more.node more.need at.old) result at.new }
+        ensures within { IfOk result (λ found. found.need ≤ self.now.rules.depth) }
+    {
+        if first.node.0.is_some() || has_let(more.node.as_slice()) {
+            let need = greater(first.need, more.need);
+            let node = condition_of(self.rules.alloc, first.node, more.node)?;
+            return Ok(Found { node, need });
+        }
+        match chain_of(self.rules.alloc, first, more) {
+            Ok(chain) => alone(self.rules.alloc, self.goes_on(at, chain)),
+            Err(none) => Err(none),
+        }
+    }
+
+    /// The condition whose first link this is.
+    #[tactic(auto, using(crate::proofs::ConditionSteps::condition_is))]
+    #[inline(never)]
+    fn condition_behind(
+        &self,
+        at: &mut Ahead<'_>,
+        first: Found<(Option<Pat>, Boxed<Expr>)>,
+    ) -> Result<Found<Condition>, ReadNone>
+        requires deeper { AreCode self.now.rules.depth (P.pre self.now.rules.exprs)
+            (P.post self.now.rules.exprs) (B.pre self.now.rules.blocks)
+            (B.post self.now.rules.blocks) (I.pre self.now.rules.items)
+            (I.post self.now.rules.items) }
+        requires within { first.need ≤ self.now.rules.depth }
+        ensures read { IsFound (condition_behind (code_within self.now.rules.depth)
+            (first.node, first.need) at.old) result at.new }
+        ensures within { IfOk result (λ found. found.need ≤ self.now.rules.depth) }
+    {
+        let (first, more) = both(first, self.further_links(at))?;
+        self.condition_found(at, first, more)
+    }
+
+    /// A condition.
+    #[tactic(auto, unfolding(lay_code::specs::reader::Conditions::condition_by))]
+    #[inline(never)]
+    pub fn condition_by(&self, at: &mut Ahead<'_>) -> Result<Found<Condition>, ReadNone>
+        requires { AreCode self.now.rules.depth (P.pre self.now.rules.exprs)
+            (P.post self.now.rules.exprs) (B.pre self.now.rules.blocks)
+            (B.post self.now.rules.blocks) (I.pre self.now.rules.items)
+            (I.post self.now.rules.items) }
+        ensures read { IsFound (reader.condition_by (code_within self.now.rules.depth) at.old)
+            result at.new }
+        ensures within { IfOk result (λ found. found.need ≤ self.now.rules.depth) }
+    {
+        if begins_dots(at) {
+            return alone(self.rules.alloc, self.rules.expr(at, plain(0, true)));
+        }
+        match self.one_link(at) {
+            Ok(first) => self.condition_behind(at, first),
+            Err(none) => Err(none),
+        }
+    }
+}

@@ -1,6 +1,0 @@
-use Rattle.std.proofs.Common.{◌≡◌, drop}
-use Rattle.lay_read_exprs.proofs.prefixes.pass_tokens.Given as goal
-
--- so many tokens are passed
-abbrev pub invariant-loop-passed : goal.invariant-loop-passed
-invariant-loop-passed l = l.at ≡ drop l._passed l.fn.at
