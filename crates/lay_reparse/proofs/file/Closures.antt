@@ -104,8 +104,8 @@ head_passes b s is_async moves ps g {f} w k =
     let q = and_parts (simple b a) (under (beyond b a) plain) s.by_async_bars in
     let bars = bars_pass plain plain_bars ps g p.0 in
     whenever is_async a q.0 refl
-        (move_passes (beyond b a) s.by_async_move_bars moves ps bars k (part plain plain q.1 bars k))
-        (move_passes b s.by_move moves ps bars k (part b plain (under-refl b) (bars_pass b s.bars ps g p.0) k))
+    (move_passes (beyond b a) s.by_async_move_bars moves ps bars k (part plain plain q.1 bars k))
+    (move_passes b s.by_move moves ps bars k (part b plain (under-refl b) (bars_pass b s.bars ps g p.0) k))
 
 -- ---- closures
 
