@@ -1,5 +1,5 @@
 -- What each node becomes, by its kind, and an expression by what fits.
-use Rattle.std.proofs.Common.{◌≡◌, ℕ, ◌<◌, ◌≤◌, Bool, true, false, ◌&&◌, if◌then◌else◌, List, [], ◌∷◌, map, Option, Some, None, is_some, refl, sym, ap, ap₂, subst, ◌∙◌, arith}
+use Rattle.std.proofs.Common.{◌≡◌, ℕ, ◌<◌, ◌≤◌, Bool, true, false, ◌&&◌, if◌then◌else◌, List, [], ◌∷◌, map, Option, Some, None, refl, sym, ap, ap₂, subst, ◌∙◌, arith}
 use Rattle.lay_node.specs.declared.patterns.Pat.{Pat}
 use Rattle.lay_node.specs.declared.attr.Attr.{Attr}
 use Rattle.lay_node.specs.declared.tokens.MacroCall.{MacroCall}
@@ -17,18 +17,16 @@ use Rattle.std.proofs.lemmas.Bool.{le-leb}
 use Rattle.lay_code.specs.nodes.Blocks.{may_precede_else}
 use Rattle.lay_code.specs.nodes.Exprs.{ExprFacts, may}
 use Rattle.lay_code.specs.nodes.Layers.{ExprNode, FieldNode, KindNode, LinkNode, StepNode, StmtNode}
-use Rattle.lay_code.specs.nodes.Places.{FREE, before_op, begins, link_place, plain, statement}
+use Rattle.lay_code.specs.nodes.Places.{FREE, before_op, begins, plain, statement}
 use Rattle.lay_code.specs.nodes.PlacesTable.{as_node}
 use Rattle.lay_code.specs.declared.blocks.Arm.{Arm}
 use Rattle.lay_code.specs.declared.blocks.Block.{Block}
 use Rattle.lay_code.specs.declared.blocks.Branch.{Branch}
 use Rattle.lay_code.specs.declared.blocks.Stmt.{Stmt}
 use Rattle.lay_code.specs.declared.blocks.Stmt.TheOpen.{Expr-F, FieldExpr-F, ItemKind-F, Link-F, Step-F, Stmt-F}
-use Rattle.lay_code.specs.declared.blocks.Stmt.TheVariants as stmt
 use Rattle.lay_code.specs.declared.blocks.Stmt.TheViews as views
 use Rattle.lay_code.specs.declared.conditions.Condition.{Condition}
 use Rattle.lay_code.specs.declared.conditions.Link.{Link}
-use Rattle.lay_code.specs.declared.conditions.Link.TheVariants as link
 use Rattle.lay_code.specs.declared.exprs.Expr.{Expr}
 use Rattle.lay_code.specs.declared.exprs.Expr.TheVariants as expr
 use Rattle.lay_code.specs.declared.exprs.FieldExpr.{FieldExpr}
@@ -40,14 +38,15 @@ use Rattle.lay_code.specs.declared.item.Item.{Item}
 use Rattle.lay_code.specs.declared.item.ItemKind.{ItemKind}
 use Rattle.lay_code.specs.declared.item.ItemKind.TheVariants as kind
 use Rattle.lay_code.specs.declared.operators.Op.{Op}
-use Rattle.lay_paren_defs.specs.loose.Slots.{Any, BeforeElse, Optional, Prefixed, Slot, fits}
-use Rattle.lay_paren.specs.InPlace.{arm_least, base_least, block_least, block_or_none_least, branch_least, condition_least, exprs_least, field_least, first_place, free_least, item_least, kind_least, least_in, link_least, links_from, links_least, operand_least, operands_least, parts_least, step_least, stmt_least, targets_least, value_slot}
+use Rattle.lay_paren_defs.specs.loose.Slots.{Any, BeforeElse, Slot, fits}
+use Rattle.lay_paren.specs.InPlace.{arm_least, block_least, branch_least, condition_least, exprs_least, field_least, first_place, item_least, kind_least, least_in, least_parts, link_least, links_from, links_least, operand_least, operands_least, parts_least, placing, step_least, stmt_least, targets_least}
 use Rattle.lay_paren.specs.Least.{chosen, least, made_of, wrapped}
 use Rattle.lay_form.specs.Depth.{least_depth}
 use Rattle.lay_depth.specs.nodes.Depths.{counted}
 use Rattle.lay_paren.specs.Made.{Made, all}
 use Rattle.lay_paren.specs.Nodes.{arm_parts, expr_parts, field_parts, kind_parts, link_parts, step_parts, stmt_parts, made_arm, made_block, made_branch, made_condition, made_field, made_item, made_kind, made_link, made_step, made_stmt}
-use Rattle.lay_paren.specs.Parts.{Linked, Placed, arm_made, field_made, kind_made, link_made, step_made, stmt_made, base_place, base_slot, break_slot, condition_links, expr_made, free_made, level_by, links_made, operand_at, operands_made, targets_made}
+use Rattle.lay_paren_defs.specs.Traversal.{base_place, base_slot, expr_of, field_of, kind_of, level_by, link_of, operand_at, step_of, stmt_of}
+use Rattle.lay_paren.specs.Parts.{Linked, Placed, arm_made, field_made, kind_made, link_made, step_made, stmt_made, condition_links, expr_made, free_made, links_made, operands_made, targets_made}
 use Rattle.lay_code.proofs.nodes.ItemLaws as laws
 use Rattle.lay_paren.proofs.MadeFolds as made
 
@@ -102,15 +101,12 @@ links_are (x ∷ y ∷ more) = joined_are (x ∷ y ∷ more)
 -- ---- nodes of each kind
 
 abbrev field_in : FieldNode → FieldExpr
-field_in (FieldExpr-F.Named attrs name x) = field.Named attrs name (free_least x)
-field_in (FieldExpr-F.Numbered attrs index x) = field.Numbered attrs index (free_least x)
-field_in (FieldExpr-F.Short attrs name) = field.Short attrs name
+field_in x = field_of placing least_parts x
 
 field_by : (y : FieldNode) → (field_made (field_parts y)).result ≡ field_in y
 unfolding least_in
 field_by (FieldExpr-F.Named attrs name x) = refl
-field_by (FieldExpr-F.Numbered attrs index x) = refl
-field_by (FieldExpr-F.Short attrs name) = refl
+field_by _ = refl
 
 pub field_becomes : (x : FieldExpr) → field_least x ≡ field_in (views.out-FieldExpr x)
 unfolding field_least
@@ -119,23 +115,13 @@ field_becomes x =
     ∙ ap (λ (m : Made FieldExpr). m.result) (made.field_parts_is (views.out-FieldExpr x)) ∙ field_by (views.out-FieldExpr x)
 
 abbrev pub step_in : StepNode → Step
-step_in (Step-F.Field name) = step.Field name
-step_in (Step-F.TupleIndex index) = step.TupleIndex index
-step_in (Step-F.Method name generics args) = step.Method name generics (exprs_least args)
-step_in (Step-F.Apply args) = step.Apply (exprs_least args)
-step_in (Step-F.Index x) = step.Index (free_least x)
-step_in Step-F.Try = step.Try
-step_in Step-F.Await = step.Await
+step_in x = step_of placing least_parts x
 
 step_by : (y : StepNode) → (step_made (step_parts y)).result ≡ step_in y
 unfolding least_in
-step_by (Step-F.Field name) = refl
-step_by (Step-F.TupleIndex index) = refl
 step_by (Step-F.Method name generics args) = ap (λ (xs : List Expr). step.Method name generics xs) (free_are args)
 step_by (Step-F.Apply args) = ap (λ (xs : List Expr). step.Apply xs) (free_are args)
-step_by (Step-F.Index x) = refl
-step_by Step-F.Try = refl
-step_by Step-F.Await = refl
+step_by _ = refl
 
 pub step_becomes : (x : Step) → step_least x ≡ step_in (views.out-Step x)
 unfolding step_least
@@ -144,10 +130,7 @@ step_becomes x =
     ∙ ap (λ (m : Made Step). m.result) (made.step_parts_is (views.out-Step x)) ∙ step_by (views.out-Step x)
 
 abbrev stmt_in : StmtNode → Stmt
-stmt_in (Stmt-F.Stmt::Let attrs pat ty x otherwise) =
-    stmt.Let attrs pat ty (operand_least FREE (value_slot (is_some otherwise)) x) (block_or_none_least otherwise)
-stmt_in (Stmt-F.Item item) = stmt.Item (item_least item)
-stmt_in (Stmt-F.Stmt::Expr attrs x ended) = stmt.Expr attrs (least_in x statement Any) ended
+stmt_in x = stmt_of placing least_parts x
 
 stmt_by : (y : StmtNode) → (stmt_made (stmt_parts y)).result ≡ stmt_in y
 unfolding least_in item_least block_least
@@ -155,8 +138,7 @@ stmt_by (Stmt-F.Stmt::Let attrs pat ty None None) = refl
 stmt_by (Stmt-F.Stmt::Let attrs pat ty (Some x) None) = refl
 stmt_by (Stmt-F.Stmt::Let attrs pat ty None (Some b)) = refl
 stmt_by (Stmt-F.Stmt::Let attrs pat ty (Some x) (Some b)) = refl
-stmt_by (Stmt-F.Item item) = refl
-stmt_by (Stmt-F.Stmt::Expr attrs x ended) = refl
+stmt_by _ = refl
 
 pub stmt_becomes : (x : Stmt) → stmt_least x ≡ stmt_in (views.out-Stmt x)
 unfolding stmt_least
@@ -165,8 +147,7 @@ stmt_becomes x =
     ∙ ap (λ (m : Made Stmt). m.result) (made.stmt_parts_is (views.out-Stmt x)) ∙ stmt_by (views.out-Stmt x)
 
 abbrev link_in : Bool → Bool → LinkNode → Link
-link_in alone more (Link-F.Link::Expr x) = link.Expr (least_in x (if alone then plain 0 true else link_place more) Any)
-link_in alone more (Link-F.Link::Let pat x) = link.Let pat (least_in x (link_place more) Any)
+link_in alone more x = link_of placing least_parts alone more x
 
 link_by : (alone more : Bool) (y : LinkNode) → (link_made (link_parts y) alone more).result ≡ link_in alone more y
 unfolding least_in
@@ -180,21 +161,7 @@ link_becomes alone more x =
     ∙ ap (λ (m : Linked). (m alone more).result) (made.link_parts_is (views.out-Link x)) ∙ link_by alone more (views.out-Link x)
 
 abbrev kind_in : KindNode → ItemKind
-kind_in (ItemKind-F.ExternCrate x) = kind.ExternCrate x
-kind_in (ItemKind-F.Import tree) = kind.Import tree
-kind_in (ItemKind-F.FileModule name) = kind.FileModule name
-kind_in (ItemKind-F.Module name attrs items) = kind.Module name attrs (map item_least items)
-kind_in (ItemKind-F.Function head wheres b) = kind.Function head wheres (block_or_none_least b)
-kind_in (ItemKind-F.Alias x) = kind.Alias x
-kind_in (ItemKind-F.ItemKind::Struct x) = kind.Struct x
-kind_in (ItemKind-F.Union x) = kind.Union x
-kind_in (ItemKind-F.Enum x) = kind.Enum x
-kind_in (ItemKind-F.Value head x) = kind.Value head (operand_least FREE Any x)
-kind_in (ItemKind-F.Trait head wheres attrs items) = kind.Trait head wheres attrs (map item_least items)
-kind_in (ItemKind-F.Impl head wheres attrs items) = kind.Impl head wheres attrs (map item_least items)
-kind_in (ItemKind-F.Foreign is_unsafe abi attrs items) = kind.Foreign is_unsafe abi attrs (map item_least items)
-kind_in (ItemKind-F.MacroRules name rules) = kind.MacroRules name rules
-kind_in (ItemKind-F.ItemKind::Call call) = kind.Call call
+kind_in x = kind_of placing least_parts x
 
 item_same : (x : Item) → (made_item x).result ≡ item_least x
 unfolding item_least
@@ -301,37 +268,7 @@ arms_are xs = lists_are made_arm arm_least arm_same xs
 
 -- each kind with its parts, where it stands in the place
 abbrev pub expr_in : Place → ExprNode → Expr
-expr_in p (Expr-F.Lit l) = expr.Lit l
-expr_in p (Expr-F.Path path) = expr.Path path
-expr_in p Expr-F.Underscore = expr.Underscore
-expr_in p (Expr-F.Expr::Call call) = expr.Call call
-expr_in p (Expr-F.Paren x) = expr.Paren (free_least x)
-expr_in p (Expr-F.Continue label) = expr.Continue label
-expr_in p (Expr-F.Tuple xs) = expr.Tuple (exprs_least xs)
-expr_in p (Expr-F.Array xs) = expr.Array (exprs_least xs)
-expr_in p (Expr-F.Repeat x length) = expr.Repeat (free_least x) length
-expr_in p (Expr-F.Expr::Struct path fields base) = expr.Struct path (map field_least fields) (base_least base)
-expr_in p (Expr-F.Chain x rest) = expr.Chain (least_in x (first_place p rest) Any) (operands_least p (level_by rest) rest)
-expr_in p (Expr-F.Cast x types) = expr.Cast (least_in x (before_op 12 p.no_struct (begins p.start) false) Any) types
-expr_in p (Expr-F.Unary ps x) = expr.Unary ps (least_in x (as_node p 12) Prefixed)
-expr_in p (Expr-F.Range start inclusive end) =
-    expr.Range (operand_least (before_op 2 p.no_struct (begins p.start) false) Any start) inclusive (operand_least (as_node p 2) Optional end)
-expr_in p (Expr-F.Assign targets x) = expr.Assign (targets_least p (begins p.start) targets) (least_in x (as_node p 1) Any)
-expr_in p (Expr-F.Postfix x steps) =
-    let told = map about_step (map step_least steps) in expr.Postfix (least_in x (base_place p told) (base_slot told)) (map step_least steps)
-expr_in p (Expr-F.Block label b) = expr.Block label (block_least b)
-expr_in p (Expr-F.Unsafe b) = expr.Unsafe (block_least b)
-expr_in p (Expr-F.ConstBlock b) = expr.ConstBlock (block_least b)
-expr_in p (Expr-F.Async moves b) = expr.Async moves (block_least b)
-expr_in p (Expr-F.If branches otherwise) = expr.If (map branch_least branches) (block_or_none_least otherwise)
-expr_in p (Expr-F.Match x attrs arms) = expr.Match (least_in x (plain 0 true) Any) attrs (map arm_least arms)
-expr_in p (Expr-F.Loop label b) = expr.Loop label (block_least b)
-expr_in p (Expr-F.While label c b) = expr.While label (condition_least c) (block_least b)
-expr_in p (Expr-F.For label pat x b) = expr.For label pat (least_in x (plain 0 true) Any) (block_least b)
-expr_in p (Expr-F.Closure is_async moves params x) = expr.Closure is_async moves params (least_in x (plain 0 p.no_struct) Any)
-expr_in p (Expr-F.TypedClosure is_async moves params output b) = expr.TypedClosure is_async moves params output (block_least b)
-expr_in p (Expr-F.Return x) = expr.Return (operand_least (plain 0 p.no_struct) Optional x)
-expr_in p (Expr-F.Break label x) = expr.Break label (operand_least (plain 0 p.no_struct) (break_slot label) x)
+expr_in p x = expr_of placing least_parts p x
 
 expr_by : (p : Place) (y : ExprNode) → (expr_made p (expr_parts y)).result ≡ expr_in p y
 unfolding least_in block_least condition_least

@@ -24,7 +24,7 @@ use Rattle.lay_code.proofs.nodes.Layers.{expr_is, expr_told, step_is, step_told}
 use Rattle.lay_paren_defs.specs.loose.Slots.{Any, BeforeIndex, Optional, Prefixed, Slot, fits}
 use Rattle.lay_paren.specs.Edges.{left_slot}
 use Rattle.lay_paren.specs.InPlace.{arm_least, base_least, block_least, block_or_none_least, branch_least, condition_least, exprs_least, field_least, first_place, free_least, least_in, operand_least, operands_least, parts_least, step_least, targets_least}
-use Rattle.lay_paren.specs.Parts.{base_place, base_slot, break_slot, level_by}
+use Rattle.lay_paren_defs.specs.Traversal.{base_place, base_slot, break_slot, level_by}
 use Rattle.lay_paren.proofs.Becoming.{by_fit, expr_in, least_is, parts_become, step_becomes, step_in}
 use Rattle.lay_paren.proofs.Roots.{Root, root, root_may}
 

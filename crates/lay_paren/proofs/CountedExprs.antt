@@ -20,8 +20,9 @@ use Rattle.lay_code.specs.declared.operators.Op.{Op}
 use Rattle.lay_paren_defs.specs.loose.Slots.{Any, Optional, Prefixed, Slot, fits}
 use Rattle.lay_paren.specs.LeftOut.{own, own_made}
 use Rattle.lay_paren.specs.Least.{least_made, made_of, wrapped}
-use Rattle.lay_paren.specs.Made.{Made, all, both, kept, one}
-use Rattle.lay_paren.specs.Parts.{Placed, base_place, base_slot, break_slot, expr_made, free_made, operands_made, postfix_made, targets_made}
+use Rattle.lay_paren.specs.Made.{Made, all, both, kept, one, making}
+use Rattle.lay_paren_defs.specs.Traversal.{base_place, base_slot, break_slot, postfix_of}
+use Rattle.lay_paren.specs.Parts.{Placed, expr_made, free_made, made_parts, operands_made, targets_made}
 use Rattle.lay_paren.proofs.Counted.{AllCounted, ArmCounted, BranchCounted, CountedArm, CountedBranch, CountedExpr, CountedField, CountedStep, FieldCounted, PlacedCounted, StepCounted, expr_layer}
 use Rattle.lay_paren.proofs.CountedParts.{both_bare, free_counted, list_counted, made_operands, made_targets, one_bare, operands_counted, operands_of, own_operands, own_targets, targets_counted, targets_of, trees}
 use Rattle.lay_paren.specs.Nodes.{expr_parts, made_arm, made_block, made_branch, made_condition, made_field, made_step}
@@ -73,7 +74,7 @@ postfix_counted : (x : CountedExpr) (steps : List CountedStep) →
 postfix_counted x steps h p r u =
     let made = (made_of x.0 place slot).result in
     own_at (Expr-F.Postfix made told) (expr.Postfix made told) r u (views.rolls-Postfix made told)
-    ∙ ap (postfix_made FREE (own made)) (steps_counted steps c.1)
+    ∙ ap (postfix_of making made_parts FREE (own made)) (steps_counted steps c.1)
     ∙ ap (λ (m : Made Expr). both f m (all_steps made_step steps)) (x.1 free_place free_slot c.0 place here slot here_slot)
   where
     f : Expr → List Step → Expr

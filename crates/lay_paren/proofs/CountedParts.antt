@@ -8,7 +8,8 @@ use Rattle.lay_paren_defs.specs.loose.Slots.{Any}
 use Rattle.lay_paren.specs.LeftOut.{own}
 use Rattle.lay_paren.specs.Least.{made_of}
 use Rattle.lay_paren.specs.Made.{Made, all, both, one}
-use Rattle.lay_paren.specs.Parts.{Placed, free_made, operand_at, operands_made, targets_made}
+use Rattle.lay_paren_defs.specs.Traversal.{operand_at}
+use Rattle.lay_paren.specs.Parts.{Placed, free_made, operands_made, targets_made}
 use Rattle.lay_paren.proofs.Counted.{Counted, CountedExpr}
 
 -- ---- no pair

@@ -21,7 +21,8 @@ use Rattle.lay_paren_defs.specs.loose.Slots.{Any, Optional, Prefixed, fits}
 use Rattle.lay_paren.specs.Erased.{erase, without_parens}
 use Rattle.lay_paren.specs.Least.{least_made, made_of, wrapped}
 use Rattle.lay_paren.specs.Made.{Made}
-use Rattle.lay_paren.specs.Parts.{base_place, base_slot, break_slot, expr_made, free_made, operand_at, operands_made, targets_made}
+use Rattle.lay_paren_defs.specs.Traversal.{base_place, base_slot, break_slot, operand_at}
+use Rattle.lay_paren.specs.Parts.{expr_made, free_made, operands_made, targets_made}
 use Rattle.lay_paren.proofs.ErasedFolds.{arm_erased, branch_erased, expr_without, expr_without_is, field_erased, step_erased}
 use Rattle.lay_paren.proofs.ExprStands.{made_arms, made_branches, made_fields, made_operands, made_steps, made_targets, operands_of, step_trees, told_steps, trees}
 use Rattle.lay_paren.proofs.Kept.{Erases, Kept, KeptArm, KeptBranch, KeptExpr, KeptField, KeptStep, expr_layer}

@@ -13,7 +13,8 @@ use Rattle.lay_code.specs.declared.exprs.Expr.TheVariants as expr
 use Rattle.lay_code.proofs.nodes.ExprsLaws as laws
 use Rattle.lay_paren_defs.specs.loose.Slots.{Any, BeforeIndex, Optional, Prefixed}
 use Rattle.lay_paren.specs.Least.{least_made, made_of}
-use Rattle.lay_paren.specs.Parts.{base_place, base_slot, break_slot, operands_made, targets_made}
+use Rattle.lay_paren_defs.specs.Traversal.{base_place, base_slot, break_slot}
+use Rattle.lay_paren.specs.Parts.{operands_made, targets_made}
 use Rattle.lay_paren.proofs.ExprStands.{made_operands, made_steps, made_targets, told_steps}
 use Rattle.lay_paren.proofs.Kept.{Kept, expr_layer}
 use Rattle.lay_paren.proofs.LeadLemmas.{AsksRoot, Leads, PartsLead, Test, lead_at, least_lead}

@@ -24,8 +24,9 @@ use Rattle.lay_code.specs.declared.operators.Op.{Op}
 use Rattle.lay_code.proofs.nodes.ExprsLaws as laws
 use Rattle.lay_paren_defs.specs.loose.Slots.{Any, BeforeIndex, Optional, Prefixed, Slot, slot_fits}
 use Rattle.lay_paren.specs.Least.{least_made, made_of}
-use Rattle.lay_paren.specs.Made.{both, kept, Made, one}
-use Rattle.lay_paren.specs.Parts.{base_place, base_slot, break_slot, expr_made, free_made, level_by, operand_at, operands_made, Placed, postfix_made, targets_made}
+use Rattle.lay_paren.specs.Made.{both, kept, Made, one, making}
+use Rattle.lay_paren_defs.specs.Traversal.{base_place, base_slot, break_slot, level_by, operand_at, postfix_of}
+use Rattle.lay_paren.specs.Parts.{Placed, expr_made, free_made, made_parts, operands_made, targets_made}
 use Rattle.lay_paren.proofs.Choice.{all_weaker, any, Sure, both_all, both_none, both_sure, chosen_kept, chosen_needed, in_place, in_slot, kept_sure, list_sure, none, one_sure, refuted, unwritten, written}
 use Rattle.lay_paren.proofs.ExprLeads.{parts_lead}
 use Rattle.lay_paren.proofs.ExprStands.{made_arms, made_branches, made_fields, made_operands, made_steps, made_targets, operands_of, step_trees, told_steps, trees}
@@ -204,7 +205,7 @@ leaf_sure p layer x e = rolled p layer x (kept x) e (kept_sure (at_place p) x)
 
 -- A postfix expression: the places of its base are told by the steps.
 postfix_sure : (p : Place) (x : KeptExpr) (steps : List KeptStep)
-    → Sure (at_place p) (postfix_made p (made_of x.0) (made_steps steps)) (expr.Postfix x.0 (step_trees steps))
+    → Sure (at_place p) (postfix_of making made_parts p (made_of x.0) (made_steps steps)) (expr.Postfix x.0 (step_trees steps))
 postfix_sure p x steps = record {
   needed =
       both_none (written place slot) all_steps (at_place p) (λ y ys. expr.Postfix y ys) (made_of x.0 place slot) (made_steps steps)
@@ -213,7 +214,7 @@ postfix_sure p x steps = record {
   keeps = λ h.
       let told = map about_step (step_trees steps) in
       let w = within.in_postfix p x.0 (step_trees steps) h in
-      ap (postfix_made p (made_of x.0)) ((steps_sure steps).keeps w.1)
+      ap (postfix_of making made_parts p (made_of x.0)) ((steps_sure steps).keeps w.1)
       ∙ ap (λ (m : Made Expr). both (λ y ys. expr.Postfix y ys) m (kept (step_trees steps)))
       ((x.1.needed (base_place p told) (base_slot told) (base_apt (base_place p told) (first_step is_tuple_index told))).keeps w.0);
 }

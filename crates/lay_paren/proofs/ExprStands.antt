@@ -28,7 +28,8 @@ use Rattle.lay_paren_defs.specs.loose.Slots.{Any, BeforeIndex, Optional, Prefixe
 use Rattle.lay_paren_defs.proofs.loose_lemmas.SlotLemmas.{and_false}
 use Rattle.lay_paren.specs.Least.{least_made, made_of}
 use Rattle.lay_paren.specs.Made.{Made, all}
-use Rattle.lay_paren.specs.Parts.{base_place, base_slot, expr_made, free_made, operand_at, operands_made, Placed, targets_made}
+use Rattle.lay_paren_defs.specs.Traversal.{base_place, base_slot, operand_at}
+use Rattle.lay_paren.specs.Parts.{expr_made, free_made, operands_made, Placed, targets_made}
 use Rattle.lay_paren.proofs.Choice.{chosen_written, in_place, in_slot, refuted, written}
 use Rattle.lay_paren.proofs.Kept.{ArmIs, BranchIs, FieldIs, Kept, KeptArm, KeptBranch, KeptExpr, KeptField, KeptStep, Stands, expr_layer}
 use Rattle.lay_paren.proofs.LooseFolds.{expr_shielded, expr_shielded_is, loose_arm, loose_branch, loose_field, loose_step}

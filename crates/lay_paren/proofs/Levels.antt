@@ -5,7 +5,7 @@ use Rattle.lay_code.specs.declared.exprs.Expr.{Expr}
 use Rattle.lay_code.specs.declared.operators.Op.{Op}
 use Rattle.lay_code.specs.declared.operators.Op.TheVariants as op
 use Rattle.lay_ops.specs.RootFacts.{first_level}
-use Rattle.lay_paren.specs.Parts.{level_by}
+use Rattle.lay_paren_defs.specs.Traversal.{level_by}
 
 low : (o : Op) → op_level o ≤ 10
 low op.Upto = omega arith

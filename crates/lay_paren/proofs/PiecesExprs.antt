@@ -278,15 +278,12 @@ field_pieces y =
 -- ---- steps
 
 step_same : (y : Same Step-F) → Like (step_facts (step_told (step_without (step_layer y)))).form (step_facts (step_told (step_layer y))).form
-step_same (Step-F.Field name) = refl
-step_same (Step-F.TupleIndex index) = refl
 step_same (Step-F.Method name generics args) =
     leaf_like name.raw name.text _ _ (generics_like generics _ _
     (deeper _ _ (args_like args)))
 step_same (Step-F.Apply args) = args_like args
 step_same (Step-F.Index x) = within _ _ x.1
-step_same Step-F.Try = refl
-step_same Step-F.Await = refl
+step_same _ = refl
 
 pub step_pieces : (y : Same Step-F) → StepSame (views.roll-Step (step_layer y))
 step_pieces y =

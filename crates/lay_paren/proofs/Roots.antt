@@ -20,9 +20,10 @@ use Rattle.lay_code.specs.declared.operators.Prefix.{Prefix}
 use Rattle.lay_code.proofs.nodes.ExprsLaws.{behind_op, expr_assign_is, expr_break_is, expr_cast_is, expr_chain_is, expr_closure_is, expr_postfix_is, expr_range_is, expr_return_is, expr_unary_is}
 use Rattle.lay_code.proofs.nodes.Layers.{expr_is, expr_told}
 use Rattle.lay_paren_defs.specs.loose.Slots.{Any, Optional, Prefixed}
-use Rattle.lay_paren.specs.Made.{all}
+use Rattle.lay_paren.specs.Made.{all, making}
 use Rattle.lay_paren.proofs.Choice.{refuted}
-use Rattle.lay_paren.specs.Parts.{Parts, angle_next, base_place, base_slot, break_slot, expr_made, level_by, may_at, operands_made, targets_made}
+use Rattle.lay_paren_defs.specs.Traversal.{angle_next, base_place, base_slot, break_slot, level_by, may_at}
+use Rattle.lay_paren.specs.Parts.{Parts, expr_made, made_parts, operands_made, targets_made}
 
 -- what a place asks of an expression, and whether it is a number
 pub record Root : Type 0 where
@@ -110,11 +111,11 @@ root_made (Expr-F.Cast x types) p q =
     (x (before_op 12 q.no_struct (begins q.start) false) Any).result types
 root_made (Expr-F.Unary ps x) p q = unary_root ps (x (as_node p 12) Prefixed).result (x (as_node q 12) Prefixed).result
 root_made (Expr-F.Range start inclusive None) p q =
-    range_root (may_at (before_op 2 p.no_struct (begins p.start) false) Any start).result
-    (may_at (before_op 2 q.no_struct (begins q.start) false) Any start).result inclusive None None tt
+    range_root (may_at making made_parts (before_op 2 p.no_struct (begins p.start) false) Any start).result
+    (may_at making made_parts (before_op 2 q.no_struct (begins q.start) false) Any start).result inclusive None None tt
 root_made (Expr-F.Range start inclusive (Some x)) p q =
-    range_root (may_at (before_op 2 p.no_struct (begins p.start) false) Any start).result
-    (may_at (before_op 2 q.no_struct (begins q.start) false) Any start).result inclusive
+    range_root (may_at making made_parts (before_op 2 p.no_struct (begins p.start) false) Any start).result
+    (may_at making made_parts (before_op 2 q.no_struct (begins q.start) false) Any start).result inclusive
     (Some (x (as_node p 2) Optional).result) (Some (x (as_node q 2) Optional).result) tt
 root_made (Expr-F.Assign targets x) p q =
     assign_root (targets_made p (begins p.start) targets).result (targets_made q (begins q.start) targets).result
@@ -125,9 +126,9 @@ root_made (Expr-F.Postfix x steps) p q =
 root_made (Expr-F.Closure is_async moves params x) p q =
     closure_root is_async moves params (x (plain 0 p.no_struct) Any).result (x (plain 0 q.no_struct) Any).result
 root_made (Expr-F.Return x) p q =
-    return_root (may_at (plain 0 p.no_struct) Optional x).result (may_at (plain 0 q.no_struct) Optional x).result
+    return_root (may_at making made_parts (plain 0 p.no_struct) Optional x).result (may_at making made_parts (plain 0 q.no_struct) Optional x).result
 root_made (Expr-F.Break label x) p q =
-    break_root label (may_at (plain 0 p.no_struct) (break_slot label) x).result (may_at (plain 0 q.no_struct) (break_slot label) x).result
+    break_root label (may_at making made_parts (plain 0 p.no_struct) (break_slot label) x).result (may_at making made_parts (plain 0 q.no_struct) (break_slot label) x).result
 root_made _ p q = refl
 
 -- ---- what is written may stand by its root

@@ -10,7 +10,7 @@ use Rattle.lay_code.specs.declared.exprs.Place.{Place}
 use Rattle.lay_code.specs.declared.operators.Op.{Op}
 use Rattle.lay_paren_defs.specs.loose.Slots.{Any}
 use Rattle.lay_paren.specs.InPlace.{is_single, least_in, link_least, links_from, links_least, operand_before, operands_least, targets_least}
-use Rattle.lay_paren.specs.Parts.{operand_at}
+use Rattle.lay_paren_defs.specs.Traversal.{operand_at}
 
 next : (i : ℕ) → i + 1 ≡ suc i
 next i = omega arith

@@ -16,7 +16,8 @@ use Rattle.lay_paren_defs.specs.loose.Slots.{Any, Optional, Prefixed, fits}
 use Rattle.lay_paren_defs.proofs.loose_lemmas.SlotLemmas.{whole_fits}
 use Rattle.lay_paren.specs.Least.{chosen, least_made, made_of, wrapped}
 use Rattle.lay_paren.specs.Made.{Made}
-use Rattle.lay_paren.specs.Parts.{base_place, base_slot, break_slot, expr_made, free_made, operands_made, targets_made}
+use Rattle.lay_paren_defs.specs.Traversal.{base_place, base_slot, break_slot}
+use Rattle.lay_paren.specs.Parts.{expr_made, free_made, operands_made, targets_made}
 use Rattle.lay_paren.proofs.ExprStands.{made_arms, made_branches, made_fields, made_operands, made_steps, made_targets, told_steps, trees}
 use Rattle.lay_paren.proofs.Kept.{Kept, Whole, expr_layer}
 use Rattle.lay_paren.proofs.LooseFolds.{expr_shielded}

@@ -31,7 +31,7 @@ use Rattle.lay_code.specs.declared.operators.Prefix.{Prefix}
 use Rattle.lay_code.proofs.nodes.ExprsLaws as laws
 use Rattle.lay_code.proofs.nodes.PlacesTable as table
 use Rattle.lay_paren_defs.specs.loose.Slots.{Any, BeforeIndex, Optional, Prefixed, Slot, slot_fits}
-use Rattle.lay_paren.specs.Parts.{base_place, base_slot, break_slot, operand_at}
+use Rattle.lay_paren_defs.specs.Traversal.{base_place, base_slot, break_slot, operand_at}
 use Rattle.lay_paren.proofs.Choice.{any, written}
 use Rattle.lay_paren.proofs.Standing.{within}
 

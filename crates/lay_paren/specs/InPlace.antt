@@ -1,8 +1,9 @@
 -- What the parts of a node become where each gets its parentheses, part by part.
-use Rattle.std.specs.Prelude.{ℕ, suc, Bool, true, false, List, [], ◌∷◌, map, Option, Some, None}
+use Rattle.std.specs.Prelude.{ℕ, suc, Bool, true, false, List, [], ◌∷◌, map, Option, Some, None, option_map}
 use Rattle.lay_node.specs.nodes.Types.{is_there}
 use Rattle.lay_code.specs.Operators.{is_angle_op}
-use Rattle.lay_code.specs.nodes.Places.{FREE, before_op, begins}
+use Rattle.lay_code.specs.nodes.Code.{about_step}
+use Rattle.lay_code.specs.nodes.Places.{FREE, before_op, begins, statement}
 use Rattle.lay_code.specs.nodes.PlacesTable.{as_node}
 use Rattle.lay_code.specs.declared.blocks.Arm.{Arm}
 use Rattle.lay_code.specs.declared.blocks.Block.{Block}
@@ -22,7 +23,9 @@ use Rattle.lay_paren_defs.specs.loose.Slots as of
 use Rattle.lay_paren_defs.specs.loose.Slots.{Any}
 use Rattle.lay_paren.specs.Least.{made_of}
 use Rattle.lay_paren.specs.Nodes.{expr_parts, made_arm, made_block, made_branch, made_condition, made_field, made_item, made_kind, made_link, made_step, made_stmt}
-use Rattle.lay_paren.specs.Parts.{angle_next, expr_made, level_by, operand_at}
+use Rattle.lay_paren_defs.specs.Enclosed.{TreesBy}
+use Rattle.lay_paren_defs.specs.Traversal.{Same, Ways, angle_next, as_is, level_by, operands_of, targets_of}
+use Rattle.lay_paren.specs.Parts.{expr_made}
 use Rattle.lay_paren.specs.declared.slots.Slot.{Slot}
 use Rattle.lay_paren.specs.declared.slots.Slot.TheVariants as slot
 
@@ -33,11 +36,6 @@ slot_of slot.Prefixed = of.Prefixed
 slot_of slot.Optional = of.Optional
 slot_of slot.Unlabelled = of.Unlabelled
 slot_of slot.BeforeIndex = of.BeforeIndex
-
--- the slot of the value of a statement, before an `else` or without one
-abbrev pub value_slot : Bool → of.Slot
-value_slot true = of.BeforeElse
-value_slot false = Any
 
 -- ---- expressions
 
@@ -57,12 +55,10 @@ abbrev pub exprs_least : List Expr → List Expr
 exprs_least xs = map free_least xs
 
 abbrev pub operand_least : Place → of.Slot → Option Expr → Option Expr
-operand_least place slot None = None
-operand_least place slot (Some x) = Some (least_in x place slot)
+operand_least place slot x = option_map (λ y. least_in y place slot) x
 
 abbrev pub base_least : Option (Option Expr) → Option (Option Expr)
-base_least None = None
-base_least (Some x) = Some (operand_least FREE Any x)
+base_least x = option_map (operand_least FREE Any) x
 
 -- the place of the first operand, before the others
 abbrev pub first_place : Place → List (Op × Expr) → Place
@@ -72,16 +68,6 @@ first_place p rest = before_op (suc (level_by rest)) p.no_struct (begins p.start
 abbrev pub operand_before : Place → ℕ → Option Op → Place
 operand_before p level None = as_node p (suc level)
 operand_before p level (Some o) = before_op (suc level) p.no_struct false (is_angle_op o)
-
--- the operands behind operators of this level
-abbrev pub operands_least : Place → ℕ → List (Op × Expr) → List (Op × Expr)
-operands_least place level [] = []
-operands_least place level (x ∷ more) = (x.0, least_in x.1 (operand_at place level more) Any) ∷ operands_least place level more
-
--- The flag says that the first of the targets begins a part of what begins a statement.
-abbrev pub targets_least : Place → Bool → List (Expr × Op) → List (Expr × Op)
-targets_least place first [] = []
-targets_least place first (x ∷ more) = (least_in x.0 (before_op 1 place.no_struct first false) Any, x.1) ∷ targets_least place false more
 
 -- ---- other nodes
 
@@ -117,8 +103,7 @@ unfoldable pub kind_least : ItemKind → ItemKind
 kind_least x = (made_kind x).result
 
 abbrev pub block_or_none_least : Option Block → Option Block
-block_or_none_least None = None
-block_or_none_least (Some x) = Some (block_least x)
+block_or_none_least x = option_map block_least x
 
 -- a link is a condition by itself where there is one alone
 abbrev pub is_single : List Link → Bool
@@ -131,3 +116,41 @@ links_from alone (x ∷ more) = link_least alone (is_there more) x ∷ links_fro
 
 abbrev pub links_least : List Link → List Link
 links_least links = links_from (is_single links) links
+
+-- ---- each node
+
+abbrev pub row : {A B C : Type 0} → (A → B → C) → (Bool → A → List A → B) → Bool → List A → List C
+row put part first [] = []
+row put part first (x ∷ more) = put x (part first x more) ∷ row put part false more
+
+-- as it is, of a row by what stands behind it
+abbrev pub placing : Ways Same
+placing = record as_is { row = λ put part first xs. row put part first xs }
+
+abbrev pub least_parts : TreesBy
+least_parts = record {
+  part = λ x place slot. least_in x place slot;
+  body = λ x place. least_in x place Any;
+  whole = λ x. least_in x statement Any;
+  told = λ steps. map about_step steps;
+  stmts = λ xs. map stmt_least xs;
+  links = λ xs. links_least xs;
+  fields = λ xs. map field_least xs;
+  steps = λ xs. map step_least xs;
+  branches = λ xs. map branch_least xs;
+  arms = λ xs. map arm_least xs;
+  items = λ xs. map item_least xs;
+  block = λ x. block_least x;
+  some_block = λ x. block_or_none_least x;
+  condition = λ x. condition_least x;
+  kind = λ x. kind_least x;
+  item = λ x. item_least x;
+}
+
+-- the operands behind operators of this level
+abbrev pub operands_least : Place → ℕ → List (Op × Expr) → List (Op × Expr)
+operands_least place level xs = operands_of placing least_parts place level xs
+
+-- The flag says that the first of the targets begins a part of what begins a statement.
+abbrev pub targets_least : Place → Bool → List (Expr × Op) → List (Expr × Op)
+targets_least place first xs = targets_of placing least_parts place first xs

@@ -2,7 +2,8 @@
 ghost use Rattle.std.specs.Prelude.{◌≡◌, OnOk, map};
 ghost use Rattle.lay_code.specs.nodes.Places.{FREE};
 ghost use Rattle.lay_paren_defs.specs.loose.Slots.{BeforeElse};
-ghost use Rattle.lay_paren.specs.InPlace.{arm_least, block_least, block_or_none_least, branch_least, least_in, operand_least, stmt_least, value_slot};
+ghost use Rattle.lay_paren_defs.specs.Traversal.{value_slot};
+ghost use Rattle.lay_paren.specs.InPlace.{arm_least, block_least, block_or_none_least, branch_least, least_in, operand_least, stmt_least};
 
 use crate::conditions::place_condition;
 use crate::exprs::{enclose, place_expr, place_operand, place_parts};

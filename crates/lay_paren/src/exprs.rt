@@ -4,7 +4,7 @@ ghost use Rattle.lay_code.specs.nodes.Code.{about_step};
 ghost use Rattle.lay_code.specs.nodes.Places.{begins};
 ghost use Rattle.lay_code.specs.declared.exprs.Expr.TheVariants as variant;
 ghost use Rattle.lay_paren.specs.InPlace.{base_least, exprs_least, field_least, least_in, operand_least, operands_least, parts_least, slot_of, step_least, targets_least};
-ghost use Rattle.lay_paren.specs.Parts as parts;
+ghost use Rattle.lay_paren_defs.specs.Traversal as parts;
 
 use crate::blocks::{place_arms, place_block, place_block_or_none, place_branches};
 use crate::conditions::place_condition;

@@ -6,7 +6,7 @@ ghost use Rattle.lay_code.specs.nodes.Exprs.{first_step, is_tuple_index};
 ghost use Rattle.lay_code.specs.nodes.Places as places;
 ghost use Rattle.lay_code.specs.nodes.PlacesTable.{as_node};
 ghost use Rattle.lay_paren.specs.InPlace.{first_place, operand_before};
-ghost use Rattle.lay_paren.specs.Parts as parts;
+ghost use Rattle.lay_paren_defs.specs.Traversal as parts;
 
 use lay_code::{Boxed, Expr, Op, Place, Start, Step};
 use lay_ops::places::before_op;

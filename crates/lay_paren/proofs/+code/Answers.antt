@@ -2,7 +2,7 @@ use Rattle.std.proofs.Common.{rules, ◌≡◌, ◌≤◌, ◌+◌, suc, drop, l
 use Rattle.std.specs.Prelude.{eqb, ltb}
 use Rattle.lay_code.specs.nodes.Places.{begins}
 use Rattle.lay_paren.specs.InPlace.{arm_least, branch_least, field_least, free_least, is_single, item_least, link_least, operand_before, step_least, stmt_least}
-use Rattle.lay_paren.specs.Parts.{operand_at}
+use Rattle.lay_paren_defs.specs.Traversal.{operand_at}
 use Rattle.lay_paren.proofs.Becoming.{kind_stays}
 use Rattle.lay_paren.proofs.Turning.{before_end, before_next, later_at, link_put, link_told, links_done, operand_put, operand_told, operands_done, target_put, target_told, targets_done, turn, turn_at}
 use Rattle.lay_paren.proofs.+code.Goals as goal

@@ -2,7 +2,7 @@ use Rattle.std.proofs.Common.{◌∙◌, map, ap}
 use Rattle.lay_code.specs.nodes.Code.{about_step}
 use Rattle.lay_code.specs.nodes.Exprs.{first_step, is_tuple_index}
 use Rattle.lay_paren.specs.InPlace.{first_place}
-use Rattle.lay_paren.specs.Parts.{base_place}
+use Rattle.lay_paren_defs.specs.Traversal.{base_place}
 use Rattle.lay_paren.proofs.Beginning.{of_block, of_cast, of_chain, of_loop, of_postfix, of_target, of_value}
 use Rattle.lay_paren.proofs.leads.left_edge.Goals as goal
 
