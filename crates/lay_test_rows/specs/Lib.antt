@@ -1,1 +1,0 @@
--- What tests share states nothing of its own.

@@ -1,1 +1,0 @@
--- The tests state nothing of their own.

@@ -1,0 +1,3 @@
+//! The tests of the map from output to source.
+
+mod maps;
