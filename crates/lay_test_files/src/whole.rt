@@ -1,11 +1,16 @@
-//! Texts of files, their maps, their edits, and where they are refused.
+//! Texts of files, their windows, their maps, their edits, and where they are refused.
+ghost use Rattle.std.specs.Prelude.{IsUtf8};
+ghost use Rattle.std.specs.Str.{IsCharBoundary};
 
-use crate::fixtures::{is, made};
+use crate::fixtures::{is, lexed, made};
+use lay_files::windows::heads::read_head;
+use lay_files::windows::window::read_window;
 use lay_files::{read_bytes, refused_at};
 use lay_front::{format_into, unparse};
 use lay_io::QuietSink;
 use lay_items::Items;
 use lay_laws::is_written;
+use lay_lex::{Source, normalise};
 use lay_map::{Pair, Unit, pairs};
 use lay_text::{Refusal, Text};
 use std::alloc::Global;
@@ -69,4 +74,33 @@ fn places(rt: HostRuntime) {
             }]
         )
     );
+}
+
+/// How many tokens the first window of a text has.
+fn window(alloc: Global, source: &Source) -> Option<usize>
+    requires utf8 { IsUtf8 source.now.text }
+    requires border { IsCharBoundary source.now.text source.now.start }
+{
+    match read_window(alloc, source.as_str(), source.start) {
+        Ok(window) => Some(window.nested.cursor().as_slice().len()),
+        Err(_) => None,
+    }
+}
+
+/// The same of bytes.
+fn window_of(alloc: Global, bytes: &[u8]) -> Option<usize> {
+    match normalise(alloc, bytes) {
+        Ok(source) => window(alloc, &source),
+        Err(_) => None,
+    }
+}
+
+// A window ends behind the brace of a module, which is left out, and before that stands its head.
+#[test]
+fn windows(rt: HostRuntime) {
+    let alloc = rt.alloc();
+    assert!(&rt; window_of(alloc, b"mod a{}") == Some(2));
+    let nested = lexed(&rt, alloc, "#[b]mod a");
+    let head = made(&rt, read_head(alloc, &mut nested.cursor()));
+    is(&rt, head.name.text.as_bytes(), b"a");
 }

@@ -4,7 +4,7 @@
 //! these is made once and compared with what was worked out by hand; what isn't made ends the test. All other tests are rows of data
 //! or run without a proof (tests/unproved). The calls over code, trees and files stand in lay_test_files.
 //!
-//! `sinks` holds inputs and sinks, `printers` rings, streams and printers, `types` types, patterns and what they are made of, and
+//! `pieces` holds what is lexed, `sinks` inputs and sinks, `printers` rings, streams and printers, `types` types, patterns and what they are made of, and
 //! `heads` the heads of items. `fixtures` holds what they share.
 #![tactic(auto)]
 
@@ -12,6 +12,8 @@
 mod fixtures;
 #[cfg(test)]
 mod heads;
+#[cfg(test)]
+mod pieces;
 #[cfg(test)]
 mod printers;
 #[cfg(test)]

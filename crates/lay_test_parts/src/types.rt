@@ -136,7 +136,7 @@ fn patterns_and_tokens(rt: HostRuntime) {
     is_printed(&rt, out, "a | b\na\n#[a]\n#[b(c)]\nm!(a, b)\n::ad\n");
 }
 
-/// A list of a token that has no text.
+/// A list of a token.
 fn one(rt: &impl Abort, alloc: Global, kind: Kind, bytes: &[u8]) -> List<Listed> {
     let text = made(rt, Text::from_bytes(alloc, bytes));
     let joint = false;
