@@ -1,10 +1,10 @@
 #!/usr/bin/env python3
-"""Runs each test of a crate once for each allocation that it makes, with that one refused.
+"""Runs each test of a program of tests once for each allocation that it makes, with that one refused.
 
-usage: refuse_memory.py CRATE [WORD]    of the tests of crates/CRATE, those whose names have WORD
-       refuse_memory.py --built PROGRAM [WORD]    of the tests of a program that was built of such tests
+usage: refuse_memory.py PROGRAM [WORD]    of its tests those whose names have WORD
 
-`rt test` proves and builds the tests first. `cc` compiles what stands before the allocator of the GNU C library: it
+`scripts/unproved.sh PROGRAM FOLDER` builds the tests of a crate under tests/unproved, in a FOLDER that `scripts/unproved_tests.sh` has made.
+`cc` compiles what stands before the allocator of the GNU C library: it
 counts the calls, of which a test makes the same each time, and refuses one. A run in which one was refused must end
 with an error that says so, NoMemory or, of a list that the test itself makes, std's own; or end well behind one line,
 an answer and how many bytes were written, which the test has itself compared with the text. So a failed comparison, a
@@ -14,8 +14,6 @@ want of memory, and how many printed which line. Where bytes have to be written 
 least one run must have done so."""
 import collections, os, re, subprocess, sys, tempfile
 import usage
-
-TOP = os.path.dirname(os.path.dirname(os.path.abspath(__file__)))
 
 # What a test writes that ends for want of memory.
 ERRORS = ("error: NoMemory\n", "error: AllocError\n", "error: AllocFailed ")
@@ -28,7 +26,7 @@ TOLD = re.compile(r"(\w+) (\d+)")
 
 # Tests of which a run must answer NoMemory behind so many bytes, and how many these may be: a command that lays out all of its text
 # before it writes any has none.
-PARTLY = {"memory::run_over_a_long_last_name": range(801, 1049), "memory::run_over_a_last_list": range(801, 1015)}
+PARTLY = {"front::memory::run_over_a_long_last_name": range(801, 1049), "front::memory::run_over_a_last_list": range(801, 1015)}
 
 # A refusal is told on the descriptor TELL.
 ALLOCATOR = """
@@ -87,22 +85,11 @@ def is_partly_written(test, lines):
     return any(it[1] == "NoMemory" and int(it[2]) in PARTLY[test] for it in told)
 
 
-def tests_of(crate):
-    """The program of a crate's tests, which is proved and built."""
-    folder = f"{TOP}/crates/{crate}"
-    if not os.path.isdir(folder):
-        usage.refuse(__doc__, f"no crate: {crate}")
-    subprocess.run(["rt", "test"], cwd=folder, check=True, stdout=sys.stderr)
-    return f"{folder}/out/{crate}_tests"
-
-
 def main():
-    words = usage.words(__doc__, least=1, most=3, options=("--built",))
-    is_built = words[0] == "--built"
-    if len(words) not in ((2, 3) if is_built else (1, 2)):
-        usage.refuse(__doc__)
-    name, *words = words[is_built:]
-    program = name if is_built else tests_of(name)
+    program, *words = usage.words(__doc__, least=1, most=2)
+    if not os.access(program, os.X_OK):
+        usage.refuse(__doc__, f"not there: {program}")
+    program = os.path.abspath(program)
     listed = subprocess.run([program, "--list"], capture_output=True, text=True).stdout
     tests = [line.removesuffix(": test") for line in listed.splitlines() if line.endswith(": test")]
     failed = False

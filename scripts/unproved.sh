@@ -1,14 +1,14 @@
 #!/bin/sh
 # Builds the command by the toolchain without a proof, for a first look at it: a few minutes of a core, where the proofs take hours.
 #
-# usage: unproved.sh OUT
+# usage: unproved.sh OUT [FOLDER]    FOLDER holds a crate, whose tests are built in place of the command
 #
 # OUT, which mayn't be the place of the proved command, is the program that is made. `rt try` lowers the sources, with a check wherever a
 # proof would say that nothing can go wrong, and has them compiled to run them once. Here it runs in a copy of the toolchain made of
 # links, whose compiler keeps what it is given and stops; that is then compiled as a program. A fault in the sources ends it.
 set -eu
 . "$(dirname "$0")/usage.sh"
-words 1 1 "$@"
+words 1 2 "$@"
 top=$(cd "$(dirname "$0")/.." && pwd)
 out=$(realpath -m "$1")
 case $out in
@@ -42,7 +42,9 @@ fi
 exec "$clang" "\$@"
 END
 chmod +x "$made/kit/toolchain/bin/clang"
-(cd "$top/crates/lay_fmt" && "$made/kit/bin/rt" try --steps 1000 --seconds 5 < /dev/null) > "$made/log" 2>&1 || true
+folder=${2-$top/crates/lay_fmt}
+tests=${2+--test}
+(cd "$folder" && "$made/kit/bin/rt" try $tests --steps 1000 --seconds 5 < /dev/null) > "$made/log" 2>&1 || true
 if [ ! -f "$made/program.bc" ]; then
     cat "$made/log" >&2
     exit 1
