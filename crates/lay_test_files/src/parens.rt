@@ -1,5 +1,4 @@
 //! Parentheses that are put in, and the links of a condition.
-ghost use Rattle.lay_read_tokens.specs.Answers.{AreLexed};
 
 use crate::fixtures::{is_printed, lexed, made, printer};
 use lay_code::{Branch, Expr, Link};
