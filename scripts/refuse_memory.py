@@ -26,7 +26,7 @@ TOLD = re.compile(r"(\w+) (\d+)")
 
 # Tests of which a run must answer NoMemory behind so many bytes, and how many these may be: a command that lays out all of its text
 # before it writes any has none.
-PARTLY = {"front::memory::run_over_a_long_last_name": range(801, 1049), "front::memory::run_over_a_last_list": range(801, 1015)}
+PARTLY = {"memory::run_over_a_long_last_name": range(801, 1049), "memory::run_over_a_last_list": range(801, 1015)}
 
 # A refusal is told on the descriptor TELL.
 ALLOCATOR = """

@@ -3,8 +3,8 @@
 #
 # usage: unproved_tests.sh [--all] FOLDER    FOLDER isn't there yet; it becomes a copy of crates/ with these crates added
 #
-# The toolchain compiles them with a check wherever a proof would say that nothing can go wrong (`rt try --test`). lay_more_parts and
-# lay_more_files run side by side, some minutes each. With --all lay_more_trees and lay_more_pairs run behind them, which take a quarter
+# The toolchain compiles them with a check wherever a proof would say that nothing can go wrong (`rt try --test`). Two crates run at a
+# time, lay_more_runs, lay_more_files and lay_more_parts. With --all lay_more_trees and lay_more_pairs run too, which take a quarter
 # of an hour. What each said is left in FOLDER/NAME.log. The exit status is 0 where every test passed. The files are named `.rs`
 # here, since the gate proves whatever is named `.rt`; tests/unproved/list.txt says on which crates each stands.
 set -eu
@@ -33,19 +33,18 @@ try() {
     return $status
 }
 
-# Runs those of two crates side by side.
-both() {
-    failed=0
-    try "$1" &
-    other=$!
-    try "$2" || failed=1
-    wait $other || failed=1
-    return $failed
+# Runs those of some crates, one after another.
+lane() {
+    passed=0
+    for crate in "$@"; do
+        try "$crate" || passed=1
+    done
+    return $passed
 }
 
 failed=0
-both lay_more_parts lay_more_files || failed=1
-if [ "$all" ]; then
-    both lay_more_trees lay_more_pairs || failed=1
-fi
+lane lay_more_runs ${all:+lay_more_trees} &
+other=$!
+lane lay_more_parts lay_more_files ${all:+lay_more_pairs} || failed=1
+wait $other || failed=1
 exit $failed

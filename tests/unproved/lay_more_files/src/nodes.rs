@@ -4,7 +4,7 @@
 ghost use Rattle.std.specs.Prelude.{IfOk};
 ghost use Rattle.lay_read_tokens.specs.Answers.{AreLexed};
 
-use crate::each::{column, each_is_told, number, string};
+use lay_test_rows::each::{column, each_is_told, number, string};
 use lay_io::QuietSink;
 use lay_lex::{lex, normalise};
 use lay_nest::{Cursor, Nested, nest};

@@ -1,8 +1,10 @@
 //! What the tests of several crates share: how the rows of a table stand in one literal, copies and lists of bytes,
-//! and the tokens of a text. It promises nothing but that each call is safe and ends.
+//! and the tokens of a text. `each` goes over the rows of a table.
 #![tactic(auto)]
 
 ghost use Rattle.std.specs.Prelude.{IfOk, IsUtf8};
+
+pub mod each;
 
 use lay_lex::{lex, normalise};
 use lay_token::{FormatError, List, NoMemory, Token};

@@ -1,6 +1,6 @@
 //! Texts of files, from their bytes and from their trees, and how deep files are.
 
-use crate::each::{each_is_told, string};
+use lay_test_rows::each::{each_is_told, string};
 use lay_depth::file_depth;
 use lay_files::windows::read_source;
 use lay_files::{DEPTH, FileError, format_bytes, read_bytes, read_within, text_of};

@@ -1,6 +1,6 @@
 //! The counts of texts that are written in pieces.
 
-use crate::each::{column, each_is_told, number};
+use lay_test_rows::each::{column, each_is_told, number};
 use lay_io::Sink;
 use lay_sample::counting::Counter;
 use lay_token::NoMemory;

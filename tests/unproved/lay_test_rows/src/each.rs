@@ -1,6 +1,6 @@
 //! The rows of a table, and the parts of a row.
 
-use lay_test_rows::BETWEEN;
+use crate::BETWEEN;
 use lay_token::NoMemory;
 use std::alloc::Global;
 use std::process::Abort;

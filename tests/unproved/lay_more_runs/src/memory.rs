@@ -1,8 +1,8 @@
 //! What stands where memory is wanting. Each test prints one line: the answer, and how many bytes were written, which it has compared with
 //! the text. `scripts/refuse_memory.py` runs it once for each allocation that it makes, with that one refused.
 
-use crate::front::runs::{given, status};
-use crate::front::texts::{GENERATED, LAID, seen};
+use crate::runs::{given, status};
+use crate::texts::{GENERATED, LAID, seen};
 use lay_files::{DEPTH, FileError};
 use lay_front::Status;
 use lay_io::{QuietInputs, QuietSink};

@@ -1,7 +1,7 @@
 //! Which trees can be written, and which can't.
 
-use crate::each::{column, each_is_told};
-use crate::front::made::made;
+use lay_test_rows::each::{column, each_is_told};
+use crate::made::made;
 use lay_laws::is_written;
 use lay_token::NoMemory;
 use lay_tree::same;
