@@ -1,7 +1,7 @@
 //! The links of conditions, in their order.
 
-use lay_test_rows::each::each_is_told;
 use crate::made::node;
+use lay_test_rows::each::each_is_told;
 use lay_token::{List, NoMemory};
 use lay_tree::{Branch, Expr, Link};
 use std::alloc::Global;

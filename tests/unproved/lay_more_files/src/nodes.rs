@@ -4,7 +4,6 @@
 ghost use Rattle.std.specs.Prelude.{IfOk};
 ghost use Rattle.lay_read_tokens.specs.Answers.{AreLexed};
 
-use lay_test_rows::each::{column, each_is_told, number, string};
 use lay_io::QuietSink;
 use lay_lex::{lex, normalise};
 use lay_nest::{Cursor, Nested, nest};
@@ -21,6 +20,7 @@ use lay_read_heads::{
     read_struct, read_trait_head, read_use, read_value_head, read_vis,
 };
 use lay_read_tokens::ReadNone;
+use lay_test_rows::each::{column, each_is_told, number, string};
 use lay_token::{FormatError, List, NoMemory};
 use lay_tree::{
     Attr, ItemKind, Place, Site, Start, Vis, same_arm, same_block, same_expr, same_item, same_stmt,

@@ -1,8 +1,8 @@
 //! Which trees can be written, and which can't.
 
-use lay_test_rows::each::{column, each_is_told};
 use crate::made::made;
 use lay_laws::is_written;
+use lay_test_rows::each::{column, each_is_told};
 use lay_token::NoMemory;
 use lay_tree::same;
 use std::alloc::Global;

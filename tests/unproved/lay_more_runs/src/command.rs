@@ -1,7 +1,7 @@
 //! Runs of the command: its modes, its lines on `err`, reads and writes that fail, and how deep a text may be.
 
-use lay_test_rows::each::each_is_told;
 use crate::runs::{counted_outcome, outcome, status_of};
+use lay_test_rows::each::each_is_told;
 use std::test::Fail;
 
 // Each row without a file has `(` in it, and each with one has `(` on standard input: read, it would be refused. A place counts behind

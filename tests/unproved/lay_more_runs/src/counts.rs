@@ -1,8 +1,8 @@
 //! The counts of texts that are written in pieces.
 
-use lay_test_rows::each::{column, each_is_told, number};
 use lay_io::Sink;
 use lay_sample::counting::Counter;
+use lay_test_rows::each::{column, each_is_told, number};
 use lay_token::NoMemory;
 use std::alloc::Global;
 use std::test::Fail;

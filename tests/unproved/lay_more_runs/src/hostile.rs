@@ -1,10 +1,10 @@
 //! Runs over inputs that are cut off, malicious or as long as may be, and over reads and writes that fail one after another.
 
-use lay_test_rows::each::{column, cut, each_is_told, number, string};
 use crate::runs::{given, outcome, ran};
 use crate::texts::{GENERATED, LAID};
 use lay_front::Status;
 use lay_io::MemorySink;
+use lay_test_rows::each::{column, cut, each_is_told, number, string};
 use lay_token::NoMemory;
 use std::alloc::Global;
 use std::test::Fail;

@@ -1,9 +1,9 @@
 //! Runs of the command over objects in memory, and what they tell.
 ghost use Rattle.std.specs.Prelude.{◌≡◌, None, IfOk};
 
-use lay_test_rows::each::{column, number, string};
 use lay_front::{Status, run};
 use lay_io::{Inputs, MemoryInputs, MemorySink, NamedFile, Sink};
+use lay_test_rows::each::{column, number, string};
 use lay_test_rows::repeated;
 use lay_token::{List, NoMemory, Text};
 use std::alloc::Global;

@@ -1,10 +1,10 @@
 //! Samples: their texts, worked out by hand from the draws, and the lines that sum them up.
 ghost use Rattle.std.specs.Prelude.{◌≤◌};
 
-use lay_test_rows::each::{column, each_is_told, number, string};
 use crate::runs::outcome;
 use crate::texts::formatted;
 use lay_sample::sample;
+use lay_test_rows::each::{column, each_is_told, number, string};
 use lay_token::NoMemory;
 use std::alloc::Global;
 use std::test::Fail;

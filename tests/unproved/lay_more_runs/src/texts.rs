@@ -1,6 +1,5 @@
 //! Texts of files, from their bytes and from their trees, and how deep files are.
 
-use lay_test_rows::each::{each_is_told, string};
 use lay_depth::file_depth;
 use lay_files::windows::read_source;
 use lay_files::{DEPTH, FileError, format_bytes, read_bytes, read_within, text_of};
@@ -8,6 +7,7 @@ use lay_front::{format, format_into, unparse};
 use lay_io::QuietSink;
 use lay_laws::is_written;
 use lay_lex::normalise;
+use lay_test_rows::each::{each_is_told, string};
 use lay_test_rows::repeated;
 use lay_token::{NoMemory, Text};
 use std::alloc::Global;
