@@ -1,12 +1,16 @@
 #!/bin/sh
 # Runs the tests under tests/unproved, which aren't proved, over the crates as they stand here.
 #
-# usage: unproved_tests.sh [--all] FOLDER    FOLDER isn't there yet; it becomes a copy of crates/ with these crates added
+# usage: unproved_tests.sh [--all] FOLDER
 #
-# The toolchain compiles them with a check wherever a proof would say that nothing can go wrong (`rt try --test`). Two crates run at a
-# time, lay_more_runs, lay_more_files and lay_more_parts. With --all lay_more_trees and lay_more_pairs run too, which take a quarter
-# of an hour. What each said is left in FOLDER/NAME.log. The exit status is 0 where every test passed. The files are named `.rs`
-# here, since the gate proves whatever is named `.rt`; tests/unproved/list.txt says on which crates each stands.
+# FOLDER isn't there yet. It becomes a copy of crates/ with these crates added.
+#
+# lay_more_parts, lay_more_files and lay_more_runs are run, two at a time, and with --all
+# lay_more_trees and lay_more_pairs too, which take a quarter of an hour. The toolchain compiles
+# them with a check wherever a proof would say that nothing can go wrong (`rt try --test`). What
+# each said is left in FOLDER/NAME.log. The exit status is 0 where every test passed. The files are
+# named `.rs` here, since the gate proves whatever is named `.rt`; tests/unproved/list.txt says on
+# which crates each stands.
 set -eu
 . "$(dirname "$0")/usage.sh"
 all=

@@ -1,4 +1,5 @@
-//! Rings, marks, streams, and printers: one that owns its sink, and one that is lent a core and a sink.
+//! Rings, marks, streams, and printers: one that owns its sink, and one that is lent a core and a
+//! sink.
 
 use crate::fixtures::{is, is_printed, made, printer};
 use lay_io::QuietSink;
