@@ -94,7 +94,7 @@ pub fn with_items(begun: Begun, attrs: List<Attr>, items: List<Item>) -> ItemKin
 }
 
 /// Whether a function may have a body at its site, or may lack it.
-pub fn may_be_bodied(site: Site, bodied: bool) -> bool
+fn may_be_bodied(site: Site, bodied: bool) -> bool
     ensures { result ≡ nodes.may_be_bodied site bodied }
 {
     match site {
@@ -105,7 +105,7 @@ pub fn may_be_bodied(site: Site, bodied: bool) -> bool
 }
 
 /// Whether a constant or a static may have a value, or may lack it.
-pub fn may_be_valued(site: Site, head: &ValueHead, valued: bool) -> bool
+fn may_be_valued(site: Site, head: &ValueHead, valued: bool) -> bool
     ensures { result ≡ nodes.may_be_valued site head.now valued }
 {
     let constant = matches!(head, ValueHead::Const { .. });
