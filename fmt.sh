@@ -5,8 +5,8 @@
 # cargo is there and the crate was made from the sources as they stand, or else the command as the toolchain builds it without proofs. Both give
 # the same bytes, are built once, and are kept by the checksum of what they were built from, in the user's folder for such
 # things. One line on standard error says so, as does what is said while they are built: standard output holds the
-# command's own text alone. Where there is no way to a command, the status is 9.
-top=$(cd "$(dirname "$0")" && pwd) || exit 9
+# command's own text alone. Where there is no way to a command, the status is 9. It may be run through symbolic links.
+top=$(dirname "$(realpath "$0")") || exit 9
 proved=$top/crates/lay_fmt/out/lay_fmt
 
 # Runs the command at a place, which isn't the proved one.
