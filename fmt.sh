@@ -27,7 +27,7 @@ fi
 kept=${XDG_CACHE_HOME:-$HOME/.cache}/froesaffron
 
 if command -v cargo >/dev/null && (cd "$top" && sha256sum --check --status rust/sources.sha256); then
-    command=$kept/crate-$(sum rust/Cargo.toml rust/src)/lay_fmt
+    command=$kept/crate-$(sum rust/Cargo.toml rust/build.rs rust/src)/lay_fmt
     if [ ! -x "$command" ]; then
         echo "fmt.sh: cargo builds the crate, which takes a minute or two" >&2
         made=$(mktemp -d)

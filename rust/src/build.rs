@@ -1,5 +1,5 @@
 //! Files that are built by calls, each of which makes a node that can be written: a name that is a keyword becomes raw, an operand gets the
-//! parentheses that it needs, a text is escaped. So [`unparse`](crate::unparse) gives the text of every file that [`file`] makes.
+//! parentheses that it needs, a text is escaped. So [`unparse`](crate::unparse) gives the text of every file that [`file`](file()) makes.
 //!
 //! ```
 //! use froesaffron::build::*;
@@ -52,7 +52,11 @@ impl fmt::Display for BuildError {
     }
 }
 
+#[cfg(core_error)]
 impl core::error::Error for BuildError {}
+
+#[cfg(all(feature = "std", not(core_error)))]
+impl std::error::Error for BuildError {}
 
 impl From<NoMemory> for BuildError {
     fn from(_: NoMemory) -> BuildError {

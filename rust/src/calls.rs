@@ -11,11 +11,26 @@ use alloc::string::String;
 use alloc::vec::Vec;
 
 /// The laid-out text of a source, a whole file.
+///
+/// ```
+/// assert_eq!(froesaffron::format("struct A{a:u8} // gone")?, "struct A {\n    a: u8,\n}\n");
+/// let error = froesaffron::format("struct A; struct").unwrap_err();
+/// assert_eq!((error.line(), error.column()), (1, 11));
+/// # Ok::<(), froesaffron::Error>(())
+/// ```
 pub fn format(source: &str) -> Result<String, Error> {
     Ok(string(format_bytes(source.as_bytes())?))
 }
 
 /// The laid-out text of a source that may be no UTF-8, which is then refused.
+///
+/// ```
+/// use froesaffron::{Cause, format_bytes};
+///
+/// assert_eq!(format_bytes(b"struct A ;")?, b"struct A;\n");
+/// assert_eq!(format_bytes(b"struct \xff;").unwrap_err().cause(), Cause::NotUtf8);
+/// # Ok::<(), froesaffron::Error>(())
+/// ```
 pub fn format_bytes(source: &[u8]) -> Result<Vec<u8>, Error> {
     // The proofs are of numbers with 64 bits. With fewer no source is taken that the command doesn't take.
     if usize::BITS < 64 && source.len() > LIMIT {
@@ -25,6 +40,12 @@ pub fn format_bytes(source: &[u8]) -> Result<Vec<u8>, Error> {
 }
 
 /// Whether a source is its own laid-out text.
+///
+/// ```
+/// assert!(froesaffron::check("struct A;\n")?);
+/// assert!(!froesaffron::check("struct A ;\n")?);
+/// # Ok::<(), froesaffron::Error>(())
+/// ```
 pub fn check(source: impl AsRef<[u8]>) -> Result<bool, Error> {
     let source = source.as_ref();
     Ok(format_bytes(source)? == source)
@@ -35,6 +56,16 @@ pub fn check(source: impl AsRef<[u8]>) -> Result<bool, Error> {
 ///
 /// A tree is counted before it is looked at, which takes stack for each of its levels, as dropping it does: some ten thousand levels are
 /// too many for both.
+///
+/// ```
+/// use froesaffron::tree::*;
+///
+/// let file = File { shebang: None, attrs: List::new(Global), items: List::new(Global) };
+/// assert_eq!(froesaffron::unparse(&file)?, "");
+/// # Ok::<(), froesaffron::Error>(())
+/// ```
+///
+/// [`tree`](crate::tree) and [`build`](crate::build) have longer ones.
 pub fn unparse(file: &File) -> Result<String, Error> {
     with_stack(|| match lay_laws::is_written(Global, file)? {
         true => Ok(string(text_of(file)?)),
@@ -47,6 +78,22 @@ pub fn unparse(file: &File) -> Result<String, Error> {
 /// deep. One with a keyword for a name has another fault, and so has one deeper than files may be.
 ///
 /// A tree is counted before it is looked at, as by [`unparse`].
+///
+/// ```
+/// use froesaffron::is_loose;
+/// use froesaffron::tree::*;
+///
+/// fn variable(name: &str) -> Result<Expr, NoMemory> {
+///     let word = Word { raw: false, text: Text::from_bytes(Global, name.as_bytes())? };
+///     let mut segments = List::new(Global);
+///     segments.push((word, Args::None)).map_err(|_| NoMemory)?;
+///     Ok(Expr::Path { path: Path { start: PathStart::Local, segments } })
+/// }
+///
+/// assert!(is_loose(&variable("a")?)?);
+/// assert!(!is_loose(&variable("struct")?)?);
+/// # Ok::<(), froesaffron::Error>(())
+/// ```
 pub fn is_loose(expr: &Expr) -> Result<bool, Error> {
     with_stack(|| Ok(lay_laws::is_loose(Global, expr)?)).ok_or(Error::NO_MEMORY)?
 }

@@ -5,6 +5,17 @@ use crate::generated::lay_text::{NoMemory, Refusal};
 use core::fmt;
 
 /// Why a call has no answer.
+///
+/// ```
+/// use froesaffron::{Cause, format};
+///
+/// let advice = match format("fn f() { \\ }").unwrap_err().cause() {
+///     Cause::NoMemory => "try again",
+///     Cause::NoItem => "a form that is left out",
+///     _ => "the generator is wrong",
+/// };
+/// assert_eq!(advice, "the generator is wrong");
+/// ```
 #[derive(Clone, Copy, Debug, PartialEq, Eq, Hash)]
 #[non_exhaustive]
 pub enum Cause {
@@ -26,6 +37,14 @@ pub enum Cause {
 }
 
 /// Why a call has no answer, and at which place of the source.
+///
+/// ```
+/// use froesaffron::{Cause, format};
+///
+/// let error = format("struct A;\n  struct").unwrap_err();
+/// assert_eq!((error.cause(), error.line(), error.column(), error.offset()), (Cause::NoItem, 2, 3, 12));
+/// assert_eq!(error.to_string(), "2:3: no item");
+/// ```
 #[derive(Clone, Copy, Debug, PartialEq, Eq, Hash)]
 pub struct Error {
     cause: Cause,
@@ -88,7 +107,11 @@ impl fmt::Display for Error {
     }
 }
 
+#[cfg(core_error)]
 impl core::error::Error for Error {}
+
+#[cfg(all(feature = "std", not(core_error)))]
+impl std::error::Error for Error {}
 
 impl fmt::Display for NoMemory {
     fn fmt(&self, out: &mut fmt::Formatter<'_>) -> fmt::Result {
@@ -96,7 +119,11 @@ impl fmt::Display for NoMemory {
     }
 }
 
+#[cfg(core_error)]
 impl core::error::Error for NoMemory {}
+
+#[cfg(all(feature = "std", not(core_error)))]
+impl std::error::Error for NoMemory {}
 
 impl From<NoMemory> for Error {
     fn from(_: NoMemory) -> Error {
@@ -115,8 +142,9 @@ impl From<ParenError> for Error {
 
 impl From<FileError> for Error {
     fn from(error: FileError) -> Error {
-        let FileError::Refused { refusal, place } = error else {
-            return Error::NO_MEMORY;
+        let (refusal, place) = match error {
+            FileError::Refused { refusal, place } => (refusal, place),
+            FileError::NoMemory => return Error::NO_MEMORY,
         };
         let (cause, offset) = match refusal {
             Refusal::NotUtf8 { at } => (Cause::NotUtf8, at),

@@ -202,7 +202,7 @@ impl<T> Box<T> {
         items.try_reserve_exact(1).map_err(|_| AllocError)?;
         items.push(item);
         // A vector of one item, with room for it alone, is a boxed array without a move.
-        match items.try_into() {
+        match items.into_boxed_slice().try_into() {
             Ok(array) => Ok(Box(array)),
             Err(_) => Err(AllocError),
         }
@@ -240,9 +240,12 @@ pub enum SmallVec<T, const N: usize> {
 }
 
 impl<const N: usize> SmallVec<u8, N> {
+    /// A length of a byte is enough for what stands in the value itself.
+    const FITS: () = assert!(N <= u8::MAX as usize);
+
     #[inline(always)]
     pub fn new(_: Global) -> Self {
-        const { assert!(N <= u8::MAX as usize) }
+        let () = Self::FITS;
         SmallVec::Inline { length: 0, items: [0; N] }
     }
 
@@ -318,9 +321,12 @@ pub struct HeapCircularBuffer<T> {
 
 impl<T> HeapCircularBuffer<T> {
     pub fn with_capacity(_: Global, room: usize) -> Result<Self, AllocError> {
-        let mut items = VecDeque::new();
-        items.try_reserve_exact(room).map_err(|_| AllocError)?;
-        Ok(HeapCircularBuffer { items, room })
+        // Before Rust 1.67 an empty queue takes memory, and ends the program where there is none; one
+        // of a vector takes none, if that has room for a power of two, and for one item more.
+        let more = room.checked_add(1).and_then(usize::checked_next_power_of_two);
+        let mut items = alloc::vec::Vec::new();
+        items.try_reserve_exact(more.ok_or(AllocError)?.max(2)).map_err(|_| AllocError)?;
+        Ok(HeapCircularBuffer { items: VecDeque::from(items), room })
     }
 
     /// Changes the room, to no less than what is held.

@@ -32,6 +32,21 @@ PLANTED = [
     ('fn a() {\n    regex::compile(b)\n}', 2, 'the path regex::compile'),
     ('fn a() {\n    vec![in alloc; 1, 2]\n}', 2, 'what vec! is made of'),
     ('fn a() {\n    vec![1; 2]\n}', 2, 'the macro vec'),
+    ('fn a() {\n    let Some((b, c)) = d else {\n        return;\n    };\n}', 2, 'what a let with an else binds'),
+    ('fn a() {\n    let Some(mut b) = c else {\n        return;\n    };\n}', 2, 'what a let with an else binds'),
+    ('fn a() {\n    let A { b } = c else {\n        return;\n    };\n}', 2, 'what a let with an else binds'),
+]
+# Statements, and what becomes of each.
+LETS = [
+    ('let Some(a) = b.c(d)? else { return e; };', 'let a = match b.c(d)? { Some(a) => a, _ => { return e; } };'),
+    ("let f::A(('0', b)) = c else { break };", "let b = match c { f::A(('0', b)) => b, _ => { break } };"),
+    ('let Ok(a) = b else { let Ok(c) = d else { return }; c };',
+     'let a = match b { Ok(a) => a, _ => { let c = match d { Ok(c) => c, _ => { return } }; c } };'),
+    ('let a = if b { c } else { d };', 'let a = if b { c } else { d };'),
+    ('if let Some(a) = b { c } else { d }', 'if let Some(a) = b { c } else { d }'),
+    ('if a && let Some(b) = c { d } else { e }', 'if a && let Some(b) = c { d } else { e }'),
+    ('let a = (if b { c } else { d }, e);', 'let a = (if b { c } else { d }, e);'),
+    ('let A { b, .. } = c; if d { e } else { f }', 'let A { b, .. } = c; if d { e } else { f }'),
 ]
 KNOWN = '''//! A crate.
 #![tactic(auto)]
@@ -76,6 +91,18 @@ def planted_failures():
         yield f'what is known is not translated: {error} {text}'
 
 
+def let_failures():
+    for source, wanted in LETS:
+        status, error, text = translate(f'{KNOWN}fn a() {{\n    {source}\n}}\n')
+        made = text and text[text.index('fn a()'):]
+        if status != 0 or tokens(made) != tokens(f'fn a() {{ {wanted} }}'):
+            yield f'{source!r}: {error} {made!r}'
+
+
+def tokens(text):
+    return re.findall(r'\w+|\S', text)
+
+
 def listed(path, start):
     with open(os.path.join(TOP, path), encoding='utf-8') as file:
         text = file.read()
@@ -104,7 +131,7 @@ def main():
     if sys.argv[1:]:
         print('usage: test.py')
         sys.exit(0 if sys.argv[1:] == ['--help'] else 2)
-    failures = [*planted_failures(), *tree_failures(), *build_failures()]
+    failures = [*planted_failures(), *let_failures(), *tree_failures(), *build_failures()]
     for failure in failures:
         print(failure)
     print(f'{len(PLANTED)} planted, {len(failures)} failures')

@@ -5,9 +5,9 @@ usage: to_rust.py TOP FOLDER
 
 TOP is the repository, and FOLDER, which must not be there, gets the modules, with `mod.rs` as their head. The crates are those below
 ROOTS by crates.txt. What is left out is what no Rust compiler reads: clauses, `ghost` members, models, laws, and the attributes,
-derives and bounds that Rust doesn't have; and plain comments. Only paths are changed. Whatever isn't known ends the run with the file and the
-line where it stands: a new construct is to be looked at by a person, and never passed through. `scripts/rust.sh` calls this and lays
-out what was made."""
+derives and bounds that Rust doesn't have; and plain comments. Only paths are changed, and a `let` with
+an `else`, which is newer than the oldest Rust that takes the crate. Whatever isn't known ends the run with the file and the line where it
+stands: a new construct is to be looked at by a person, and never passed through. `scripts/rust.sh` calls this and lays out what was made."""
 import os
 import re
 import sys
@@ -492,6 +492,62 @@ def filled_vectors(tokens):
     return out
 
 
+def bound_names(tokens):
+    """The names that a pattern of words, literals, parentheses and commas binds, or nothing where it has other parts."""
+    names = []
+    for token, follows in zip(tokens, [*tokens[1:], None]):
+        if token.kind == 'literal' or token.is_sign('(),:'):
+            continue
+        if not is_name(token):
+            return []
+        if token.text[0].islower() and not (follows and follows.is_sign('(:')):
+            names.append(token)
+    return names
+
+
+def let_else_parts(tokens, at):
+    """Of the `let` at a place its pattern, its value and its `else` block, and the place behind it; or nothing where it has no `else`."""
+    equals = at + 1
+    while not tokens[equals].is_sign('=;'):
+        equals = close_of(tokens, equals) if tokens[equals].is_sign('([{') else equals + 1
+    end = equals
+    while not tokens[end].is_sign(';') and not tokens[end].is_word('else'):
+        # The `else` of an `if` belongs to that.
+        if tokens[end].is_word('if', 'match'):
+            return None
+        end = close_of(tokens, end) if tokens[end].is_sign('([{') else end + 1
+    if tokens[end].is_sign(';'):
+        return None
+    close = close_of(tokens, end + 1)
+    return tokens[at + 1:equals], tokens[equals + 1:end], tokens[end + 1:close], close + 1
+
+
+def matched_lets(tokens):
+    """`let PATTERN = value else { .. };` becomes a `match`, since Rust has it no sooner than 1.65."""
+    out, at = [], 0
+    while at < len(tokens):
+        token = tokens[at]
+        is_statement = token.is_word('let') and not (out and (out[-1].is_word('if', 'while') or out[-1].is_sign('&')))
+        parts = let_else_parts(tokens, at) if is_statement else None
+        if parts is None:
+            out.append(token)
+            at += 1
+            continue
+        pattern, value, other, at = parts
+        names = bound_names(pattern)
+        if len(names) != 1:
+            raise Unknown(token.line, 'what a let with an else binds')
+        name = replace(names[0], space=' ')
+
+        def sign(text):
+            return replace(token, kind='sign', text=text, space=' ')
+
+        arrow = [sign('='), replace(sign('>'), space='')]
+        out += [token, name, sign('='), replace(token, text='match', space=' '), *value, sign('{')]
+        out += [*pattern, *arrow, name, sign(','), replace(token, text='_', space=' '), *arrow, *matched_lets(other), sign('}'), sign(';')]
+    return out
+
+
 def token_text(tokens):
     return ''.join(token.text for token in tokens)
 
@@ -579,7 +635,7 @@ class Sources:
 
     def translated(self, crate, path):
         with naming(crate, path):
-            tokens = rust_items(self.tokens[crate, path], LEFT_OUT.get(crate, ()))
+            tokens = matched_lets(rust_items(self.tokens[crate, path], LEFT_OUT.get(crate, ())))
             tokens = rust_paths(tokens, Paths(crate, self.crates, self.laws))
             return text_of(with_head(tokens, f'crates/{crate}/src/{path}'))
 

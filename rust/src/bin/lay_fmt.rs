@@ -19,16 +19,18 @@ fn main() -> ExitCode {
 fn program() -> u8 {
     let mut words = Vec::new();
     for word in env::args_os().skip(1) {
-        let Some(word) = word.to_str() else {
-            return NO_TEXTS;
+        let word = match word.to_str() {
+            Some(word) => word,
+            None => return NO_TEXTS,
         };
         match Text::from_bytes(Global, word.as_bytes()) {
             Ok(word) => words.push(word),
             Err(_) => return NO_MEMORY,
         }
     }
-    let Some(mut out) = HostOutput::new() else {
-        return NO_MEMORY;
+    let mut out = match HostOutput::new() {
+        Some(out) => out,
+        None => return NO_MEMORY,
     };
     let mut inputs = HostInputs { chosen: None, file: None };
     let status = run(Global, &words, &mut inputs, &mut out, &mut HostErrors);
@@ -68,8 +70,9 @@ struct HostInputs {
 
 impl HostInputs {
     fn read_once(&mut self, room: &mut [u8]) -> io::Result<usize> {
-        let Some(Which::File(name)) = &self.chosen else {
-            return io::stdin().lock().read(room);
+        let name = match &self.chosen {
+            Some(Which::File(name)) => name,
+            _ => return io::stdin().lock().read(room),
         };
         if let Some(file) = &mut self.file {
             return file.read(room);

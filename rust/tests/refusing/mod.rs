@@ -14,11 +14,11 @@ static MEMORY: Refusing = Refusing;
 
 /// Whether the next request is granted.
 fn grants() -> bool {
-    match GRANTED.get() {
+    match GRANTED.with(Cell::get) {
         None => true,
         Some(0) => false,
         Some(left) => {
-            GRANTED.set(Some(left - 1));
+            GRANTED.with(|granted| granted.set(Some(left - 1)));
             true
         }
     }
@@ -41,8 +41,8 @@ unsafe impl GlobalAlloc for Refusing {
 
 /// What a call answers that is granted so many requests for memory, and no more.
 pub fn with_refusal<T>(granted: usize, call: impl FnOnce() -> T) -> T {
-    GRANTED.set(Some(granted));
+    GRANTED.with(|left| left.set(Some(granted)));
     let answer = call();
-    GRANTED.set(None);
+    GRANTED.with(|left| left.set(None));
     answer
 }

@@ -14,8 +14,11 @@ use crate::shims::Global;
 /// options `--sample` and `--items` and one optional file, of which the flags don't stand together, and the options stand together
 /// and with nothing else.
 pub fn line(alloc: Global, words: &[Text]) -> Result<Line, NoMemory> {
-    let Some(texts) = texts(alloc, words)? else {
-        return Ok(Line::Usage);
+    let texts = match texts(alloc, words)? {
+        Some(texts) => texts,
+        _ => {
+            return Ok(Line::Usage);
+        }
     };
     match matches(alloc, texts.as_slice())? {
         Some(matches) => from_matches(alloc, &matches),

@@ -9,8 +9,11 @@ use crate::generated::lay_token::{Place2, Refusal};
 /// Says on `err` why a run ended, and nothing where it was done: a line, in pieces, without memory. A fault of `err`
 /// changes nothing else.
 pub fn tell<E: Sink>(ended: Result<(), Stop>, err: &mut E) {
-    let Err(stop) = ended else {
-        return;
+    let stop = match ended {
+        Err(stop) => stop,
+        _ => {
+            return;
+        }
     };
     let _ = write_line(stop, err);
 }

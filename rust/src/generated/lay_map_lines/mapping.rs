@@ -32,8 +32,11 @@ fn units_of_output(alloc: Global, file: &File) -> Result<List<Span>, NoMemory> {
 }
 /// The units of bytes that read to a file. No step of reading them is refused, so an error of one is want of memory.
 fn units_in(alloc: Global, bytes: &[u8], file: &File) -> Result<List<Span>, NoMemory> {
-    let Ok(source) = normalise(alloc, bytes) else {
-        return Err(NoMemory);
+    let source = match normalise(alloc, bytes) {
+        Ok(source) => source,
+        _ => {
+            return Err(NoMemory);
+        }
     };
     units_of_text(alloc, file, source.as_str(), source.start)
 }

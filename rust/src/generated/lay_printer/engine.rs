@@ -210,8 +210,11 @@ impl Engine {
     }
     /// Makes room for so many more tokens.
     pub fn reserve(&mut self, n: usize) -> Result<(), NoMemory> {
-        let Some(frames) = self.queue.len().checked_add(n) else {
-            return Err(NoMemory);
+        let frames = match self.queue.len().checked_add(n) {
+            Some(frames) => frames,
+            _ => {
+                return Err(NoMemory);
+            }
         };
         self.page.frames.reserve(frames)?;
         self.queue.reserve(n)

@@ -20,8 +20,11 @@ pub fn reserve<
 /// Makes more room, twice as much at the least, so that items which are pushed one by one are moved a bounded
 /// number of times each.
 fn grow<T>(buffer: &mut HeapCircularBuffer<T>, more: usize) -> Result<(), NoMemory> {
-    let Some(wanted) = buffer.len().checked_add(more) else {
-        return Err(NoMemory);
+    let wanted = match buffer.len().checked_add(more) {
+        Some(wanted) => wanted,
+        _ => {
+            return Err(NoMemory);
+        }
     };
     let doubled = buffer.capacity().saturating_mul(2);
     match buffer.resize(wanted.max(doubled).max(8)) {

@@ -105,8 +105,11 @@ impl Row {
         let (held, all) = (self.entries.len(), self.bytes.len());
         let (mut count, mut len) = (0, 0);
         while count < held {
-            let Some(more) = text_at(&self.entries, count) else {
-                break;
+            let more = match text_at(&self.entries, count) {
+                Some(more) => more,
+                _ => {
+                    break;
+                }
             };
             debug_assert!(len <= all);
             count += 1;

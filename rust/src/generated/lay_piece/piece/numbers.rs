@@ -52,8 +52,11 @@ fn plain_number(s: &str) -> Option<(Kind, &str)> {
 }
 /// The base of a number, and its digits with what follows them.
 fn split_base(s: &str) -> (Base, &str) {
-    let Some(('0', tail)) = first(s) else {
-        return (Base::Decimal, s);
+    let tail = match first(s) {
+        Some(('0', tail)) => tail,
+        _ => {
+            return (Base::Decimal, s);
+        }
     };
     match first(tail) {
         Some(('x', digits)) => (Base::Hexadecimal, digits),
