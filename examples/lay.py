@@ -3,8 +3,9 @@
 
 usage: lay.py LIBRARY [FILE]
 
-LIBRARY is liblay.so: `cargo build --release` in c/ makes it, and a release has it under lib/. The text of the file, or of standard input, goes to
-standard output; where it is refused, `L:C: cause` goes to standard error, and the exit status is 4. A generator imports `Library`."""
+LIBRARY is liblay.so: `cargo build --release` in c/ makes it, and a release has it under lib/. The
+text of the file, or of standard input, goes to standard output; where it is refused, `L:C: cause`
+goes to standard error, and the exit status is 4. A generator imports `Library`."""
 import ctypes
 import sys
 
@@ -13,21 +14,22 @@ CAUSES = {1: "not UTF-8", 2: "no token", 3: "unbalanced delimiter", 4: "no item"
 
 class Answer(ctypes.Structure):
     """lay_answer of lay.h."""
-    _fields_ = [("length", ctypes.c_size_t), ("at", ctypes.c_size_t), ("line", ctypes.c_size_t), ("column", ctypes.c_size_t),
-                ("status", ctypes.c_uint32)]
+    _fields_ = [(name, ctypes.c_size_t) for name in ("length", "at", "line", "column")]
+    _fields_ += [("status", ctypes.c_uint32)]
 
 
 class Refused(ValueError):
-    """Why there is no text. `line` and `column`, in bytes, are from 1, and 0 where the cause has no place."""
+    """Why there is no text. `line` and `column`, in bytes, are from 1, and 0 without a place."""
 
     def __init__(self, answer):
-        self.status, self.at, self.line, self.column = answer.status, answer.at, answer.line, answer.column
+        self.status, self.at = answer.status, answer.at
+        self.line, self.column = answer.line, answer.column
         place = f"{self.line}:{self.column}: " if self.line else ""
         super().__init__(place + CAUSES.get(self.status, f"status {self.status}"))
 
 
 class Library:
-    """The shared library at a path. Calls keep no state, so several threads may share it; each lets other threads of Python run."""
+    """The shared library at a path. Calls keep no state, so several threads may share it."""
 
     def __init__(self, path):
         self.call = ctypes.CDLL(path).lay_format_slices
@@ -50,11 +52,12 @@ class Library:
 
 
 def main():
-    if sys.argv[1:] in (["--help"], ["-h"]) or len(sys.argv) not in (2, 3):
-        print(__doc__.split("\n\n")[1], file=sys.stdout if "-h" in "".join(sys.argv[1:]) else sys.stderr)
-        return 0 if "-h" in "".join(sys.argv[1:]) else 2
+    asks = sys.argv[1:] in (["--help"], ["-h"])
+    if asks or len(sys.argv) not in (2, 3):
+        print(__doc__.split("\n\n")[1], file=sys.stdout if asks else sys.stderr)
+        return 0 if asks else 2
     library = Library(sys.argv[1])
-    with open(sys.argv[2], encoding="utf-8", newline="") if len(sys.argv) == 3 else open(0, encoding="utf-8", newline="") as file:
+    with open(sys.argv[2] if len(sys.argv) == 3 else 0, encoding="utf-8", newline="") as file:
         source = file.read()
     try:
         text = library.format(source)

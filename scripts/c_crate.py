@@ -1,14 +1,15 @@
 #!/usr/bin/env python3
-"""Builds the libraries of c/ by cargo alone, and tests them: c/test.c over each of the two, under valgrind and with the address sanitizer where
-these are there; what they do with null pointers and lengths that no memory has; and examples/lay.py.
+"""Builds the libraries of c/ by cargo alone, and tests them: c/test.c over each of the two, under
+valgrind and with the address sanitizer where these are there; what they do with null pointers and
+lengths that no memory has; and examples/lay.py.
 
 usage: c_crate.py [FOLDER]
 
-FOLDER is one with liblay.so and liblay.a, which are then tested as they are. It needs a C compiler as `cc`, and cargo where no FOLDER is named. A line
-tells each fault; the exit status is 0 where there is none.
+FOLDER is one with liblay.so and liblay.a, which are then tested as they are. It needs a C compiler
+as `cc`, and cargo where no FOLDER is named. A line tells each fault; the exit status is 0 where
+there is none.
 """
 import ctypes
-import os
 import pathlib
 import shutil
 import subprocess
@@ -25,14 +26,16 @@ import lay  # noqa: E402
 SOURCE = "struct A;struct B{a:u8}"
 TEXT = "struct A;\nstruct B {\n    a: u8,\n}\n"
 WARNINGS = ["-Wall", "-Wextra", "-Werror", "-O1", "-I", str(TOP / "c")]
-VALGRIND = ["valgrind", "--quiet", "--error-exitcode=9", "--leak-check=full", "--errors-for-leak-kinds=definite"]
+VALGRIND = ["valgrind", "--quiet", "--error-exitcode=9", "--leak-check=full",
+            "--errors-for-leak-kinds=definite"]
 NO_MEMORY = 5
 
 
 def ran(words, **more):
     """Why a program fails, or nothing."""
     done = subprocess.run(words, stdout=subprocess.PIPE, stderr=subprocess.STDOUT, text=True, **more)
-    return f"{' '.join(map(str, words))} ended with {done.returncode}:\n{done.stdout}" if done.returncode else None
+    told = f"{' '.join(map(str, words))} ended with {done.returncode}:\n{done.stdout}"
+    return told if done.returncode else None
 
 
 def sanitizes(folder):
@@ -67,13 +70,14 @@ def wrong_tests(libraries, folder):
     text.write_text(TEXT)
     for way, words, linked, run_by in programs(libraries, folder):
         program = folder / "test"
-        fault = ran(["cc", *words, "-o", program, TOP / "c/test.c", *linked]) or ran([*run_by, program, source, text])
+        fault = ran(["cc", *words, "-o", program, TOP / "c/test.c", *linked])
+        fault = fault or ran([*run_by, program, source, text])
         if fault:
             yield f"{way}: {fault}"
 
 
 def wrong_arguments(library):
-    """A null pointer is one to no bytes, and a length that no memory has is answered as want of it."""
+    """A null pointer is one to no bytes, and a length that no memory has is want of it."""
     def fault(what, answer, *wanted):
         found = (answer.status, answer.length, answer.at, answer.line, answer.column)
         return [] if found == wanted else [f"{what}: {found} and not {wanted}"]
@@ -89,13 +93,14 @@ def wrong_arguments(library):
         yield "a buffer was written without a text"
     # The input's own memory takes the text, as far as it fits.
     both = ctypes.create_string_buffer(given, 64)
-    yield from fault("input and buffer are one", call(both, len(given), both, 64), 0, len(TEXT), 0, 0, 0)
+    answer = call(both, len(given), both, 64)
+    yield from fault("input and buffer are one", answer, 0, len(TEXT), 0, 0, 0)
     if both.raw[:len(TEXT)] != TEXT.encode():
         yield "input and buffer are one: another text"
 
 
 def wrong_threads(library):
-    """Several calls at a time, from threads with little stack, over a source that is as deep as one may be."""
+    """Several calls at a time, from threads with little stack, over a source that is deep."""
     deep = "const A: u8 = " + "(" * 254 + "1" + ")" * 254 + ";\n"
     faults = []
 
@@ -118,8 +123,17 @@ def wrong_threads(library):
 def wrong_example(path, folder):
     """What examples/lay.py answers."""
     program = [sys.executable, TOP / "examples/lay.py", path]
-    for given, wanted in ((SOURCE, (0, TEXT, "")), ("struct A;\nstruct", (4, "", "2:1: no item\n")), ("", (0, "", "")),
-                          ("fn f(", (4, "", "1:5: unbalanced delimiter\n")), ("const A:[u8;0]=[];" * 9, (0, "const A: [u8; 0] = [];\n" * 9, ""))):
+    rows = [
+        (SOURCE, (0, TEXT, "")),
+        ("", (0, "", "")),
+        ("struct A;\nstruct", (4, "", "2:1: no item\n")),
+        ("fn f(", (4, "", "1:5: unbalanced delimiter\n")),
+        # The text is more than twice as long as the source, and so than the first buffer.
+        ("mod a{mod b{mod c{mod d{" + "fn e(){}" * 60 + "}}}}",
+         (0, "mod a {\n    mod b {\n        mod c {\n            mod d {\n" + " " * 16
+          + ("fn e() {}\n" + " " * 16) * 59 + "fn e() {}\n            }\n        }\n    }\n}\n", "")),
+    ]
+    for given, wanted in rows:
         done = subprocess.run(program, input=given.encode(), capture_output=True)
         found = done.returncode, done.stdout.decode(), done.stderr.decode()
         if found != wanted:
@@ -134,13 +148,15 @@ def main():
     words = usage.words(__doc__, most=1)
     libraries = pathlib.Path(words[0]).resolve() if words else TOP / "c/target/release"
     if not words:
-        if fault := ran(["cargo", "build", "--quiet", "--release", "--offline"], cwd=TOP / "c", env={**os.environ, "CARGO_TARGET_DIR": str(TOP / "c/target")}):
+        build = ["cargo", "build", "--quiet", "--release", "--offline", "--target-dir", "target"]
+        if fault := ran(build, cwd=TOP / "c"):
             print(fault)
             return 1
     with tempfile.TemporaryDirectory() as made:
         folder = pathlib.Path(made)
         library = lay.Library(str(libraries / "liblay.so"))
-        faults = [*wrong_tests(libraries, folder), *wrong_arguments(library), *wrong_threads(library), *wrong_example(libraries / "liblay.so", folder)]
+        faults = [*wrong_tests(libraries, folder), *wrong_arguments(library), *wrong_threads(library),
+                  *wrong_example(libraries / "liblay.so", folder)]
     print(*faults, sep="\n", end="\n" if faults else "")
     return 1 if faults else 0
 
