@@ -1,4 +1,5 @@
 //! The system's memory, of which a thread can be refused all that it asks for.
+#![deny(unsafe_op_in_unsafe_fn)]
 use std::alloc::{GlobalAlloc, Layout, System};
 use std::cell::Cell;
 
