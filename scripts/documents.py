@@ -10,8 +10,11 @@ usage: documents.py COMMAND
   those `rust generated` in what that prints, output.rs.
 - The numbers of crates, of cases, of kinds of nesting and of lines of definitions are what is there.
 - Each file that a document names between backquotes, or by its path in docs/, is there. The contents of docs/DECISIONS.md are its sections.
-- Each crate has a row in docs/ARCHITECTURE.md and in docs/PROVED.md, and a place in the graph. The table of what a new node costs has the files that
-  node.py lists.
+- Each page of docs/ is named in README.md. What docs/MOVING.md shows of examples/tokens stands there,
+  and the text of its tokens is laid out.
+- The oldest Rust of the crate is the one that its README, the package beside it and the workflow name.
+- Each crate has a row in docs/ARCHITECTURE.md and in docs/PROVED.md, and a place in the graph. The
+  table of what a new node costs has the files that node.py lists.
 
 A line tells each fault; the exit status is 0 where there is none.
 """
@@ -29,7 +32,8 @@ import node
 import usage
 
 TOP = pathlib.Path(__file__).resolve().parent.parent
-DOCUMENTS = [TOP / "README.md", TOP / "CONTRIBUTING.md", *sorted((TOP / "docs").glob("*.md")), TOP / "tools/oracle/README.md", TOP / "rust/README.md"]
+DOCUMENTS = [TOP / "README.md", TOP / "CONTRIBUTING.md", *sorted((TOP / "docs").glob("*.md")), TOP / "tools/oracle/README.md", TOP / "rust/README.md",
+             TOP / "SECURITY.md", TOP / "CHANGELOG.md", TOP / ".github/PULL_REQUEST_TEMPLATE.md"]
 BLOCK = re.compile(r"^```(\S+)(?: (\S+))?\n(.*?)^```$", re.M | re.S)
 NAMED = re.compile(r"`((?:crates|docs|examples|rust|scripts|tests|tools|c)/[\w./-]+)|\b(docs/\w+\.md)|\B(CONTRIBUTING\.md|CHANGELOG\.md|README\.md)\b")
 KINDS = re.compile(r"^KINDS = \{\n(.*?)^\}", re.M | re.S)
@@ -163,12 +167,46 @@ def wrong_contents():
         yield f"docs/DECISIONS.md: the contents list {listed} and not {headed}"
 
 
+def wrong_pages():
+    readme = (TOP / "README.md").read_text()
+    for page in sorted((TOP / "docs").glob("*.md")):
+        if f"docs/{page.name}" not in readme:
+            yield f"README.md: docs/{page.name} isn't named"
+
+
+def wrong_moving(command):
+    blocks = BLOCK.findall((TOP / "docs/MOVING.md").read_text())
+    example = " ".join((TOP / "examples/tokens/src/main.rs").read_text().split())
+    for _, kind, text in blocks:
+        if kind == "tokens" and run(command, text) != (0, text):
+            yield "docs/MOVING.md: not its own text"
+        if text.startswith("quote!") and " ".join(text.split()) not in example:
+            yield "docs/MOVING.md: not in examples/tokens"
+
+
+def wrong_versions():
+    version = re.search(r'^rust-version = "(.*)"', (TOP / "rust/Cargo.toml").read_text(), re.M)[1]
+    places = {
+        "rust/README.md": f"Rust {version} and",
+        "c/Cargo.toml": f'rust-version = "{version}"',
+        ".github/workflows/check.yml": f'rust: ["{version}", stable]',
+    }
+    for path, said in places.items():
+        if said not in (TOP / path).read_text():
+            yield f"{path}: the oldest Rust is {version}"
+
+
 def main():
     command, = usage.words(__doc__, least=1, most=1)
     if not os.access(command, os.X_OK):
         usage.refuse(__doc__, f"not there: {command}")
     command = os.path.abspath(command)
-    found = [*wrong_samples(command), *wrong_refusals(command), *wrong_commands(command), *wrong_clauses(), *wrong_generator(), *wrong_numbers(), *wrong_names(), *wrong_node(), *wrong_rows(), *wrong_contents()]
+    checks = [
+        wrong_samples(command), wrong_refusals(command), wrong_commands(command), wrong_clauses(),
+        wrong_generator(), wrong_numbers(), wrong_names(), wrong_node(), wrong_rows(), wrong_contents(),
+        wrong_pages(), wrong_moving(command), wrong_versions(),
+    ]
+    found = [fault for check in checks for fault in check]
     print(*found, sep="\n", end="\n" if found else "")
     return 1 if found else 0
 
