@@ -1,9 +1,11 @@
 #!/bin/sh
-# Tests that fmt.sh finds its repository from wherever it is run: by its path, in its folder, and through symbolic links.
+# Tests that fmt.sh finds its repository from wherever it is run: by its path, in its folder, and
+# through symbolic links.
 #
 # usage: fmt_test.sh
 #
-# It is run in a folder that has a program in the place of the proved command, which tells the words that it gets.
+# It is run in a folder that has a program in the place of the proved command, which tells the words
+# that it gets.
 set -eu
 . "$(dirname "$0")/usage.sh"
 words 0 0 "$@"

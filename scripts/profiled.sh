@@ -1,11 +1,14 @@
 #!/bin/sh
-# Builds the cargo crate's command, or the libraries for C, guided by a profile of runs over this repository's own files.
+# Builds the cargo crate's command, or the libraries for C, guided by a profile of runs over this
+# repository's own files.
 #
 # usage: profiled.sh rust|c FOLDER
 #
-# The package of that name is built to FOLDER/release, as cargo does it with FOLDER as its target folder: once so that it counts, which then
-# formats some 500 files and a generated one, and once more by these counts. It needs cargo, Python, and an llvm-profdata that reads the profiles of
-# this rustc: rustc's own of the component llvm-tools, or one in PATH, as `llvm-profdata` or with a version behind it. Where there is none the status is 3.
+# The package of that name is built to FOLDER/release, as cargo does it with FOLDER as its target
+# folder: once so that it counts, which then formats some 500 files and a generated one, and once
+# more by these counts. It needs cargo, Python, and an llvm-profdata that reads the profiles of this
+# rustc: rustc's own of the component llvm-tools, or one in PATH, as `llvm-profdata` or with a
+# version behind it. Where there is none the status is 3.
 set -eu
 . "$(dirname "$0")/usage.sh"
 words 2 2 "$@"

@@ -1,15 +1,18 @@
 #!/bin/sh
-# Makes an archive and a Debian package of a release: the command, the libraries with their header, the man page, an example for Python, the cargo
-# crate, the licences.
+# Makes an archive and a Debian package of a release: the command, the libraries with their header,
+# the man page, an example for Python, the cargo crate, the licences.
 #
 # usage: release.sh [--crate] [--plain] VERSION FOLDER [COMMAND LIBRARY]
 #
-# VERSION is three numbers with points between them, and FOLDER gets froesaffron-VERSION-x86_64-linux.tar.gz and
-# froesaffron_VERSION_amd64.deb. The README.md in both says of each program whether it is proved, or built by cargo from the translated crate.
-# Where `rt` is there, COMMAND and the static LIBRARY are the ones that were proved: where none are named, `rt ci` built the command, and
-# c_library.py the library over what that left, which this calls where it is missing. Where `rt` isn't there, and with --crate, cargo builds
-# both; it builds the shared library always. What cargo builds is guided by a profile (profiled.sh) where an llvm-profdata reads one, but with --plain
-# isn't. The same files give the same bytes. It needs dpkg-deb and cargo.
+# VERSION is three numbers with points between them, and FOLDER gets
+# froesaffron-VERSION-x86_64-linux.tar.gz and froesaffron_VERSION_amd64.deb. The README.md in both
+# says of each program whether it is proved, or built by cargo from the translated crate. Where `rt`
+# is there, COMMAND and the static LIBRARY are the ones that were proved: where none are named, `rt
+# ci` built the command, and c_library.py the library over what that left, which this calls where it
+# is missing. Where `rt` isn't there, and with --crate, cargo builds both; it builds the shared
+# library always. What cargo builds is guided by a profile (profiled.sh) where an llvm-profdata
+# reads one, but with --plain isn't. The same files give the same bytes. It needs dpkg-deb and
+# cargo.
 set -eu
 . "$(dirname "$0")/usage.sh"
 holds=proved plain=
@@ -33,7 +36,8 @@ esac
 top=$(cd "$(dirname "$0")/.." && pwd)
 version=$1 folder=$2
 
-# Has cargo build a package of this repository, rust or c. What it built is in $built, and how in $how.
+# Has cargo build a package of this repository, rust or c. What it built is in $built, and how in
+# $how.
 build() {
     built=$top/$1/target/profiled/release how='translated, guided by a profile'
     if [ -z "$plain" ]; then
@@ -68,7 +72,8 @@ all=$made/$name
 mkdir -p "$folder" "$made/objects" "$all/bin" "$all/lib" "$all/include" "$all/share/man/man1" "$all/rust" "$all/examples"
 
 if [ $holds = proved ]; then
-    # The library calls three functions of the toolchain's C library for its memory, which go into the archive too.
+    # The library calls three functions of the toolchain's C library for its memory, which go into
+    # the archive too.
     kit=$(dirname "$(dirname "$(realpath "$(command -v rt)")")")
     (cd "$made/objects" && ar x "$library" && ar x "$kit/c/liblibc_c.a" heap.pic.o && chmod 644 -- * && ar rcsD "$all/lib/liblay.a" -- *)
 else

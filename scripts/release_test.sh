@@ -1,12 +1,14 @@
 #!/bin/sh
-# Tests what release.sh makes, as somebody would who has nothing else: each of the two is unpacked into an empty folder.
+# Tests what release.sh makes, as somebody would who has nothing else: each of the two is unpacked
+# into an empty folder.
 #
 # usage: release_test.sh [--crate] [COMMAND LIBRARY]
 #
-# The words are as release.sh takes them, which builds by --plain here. Both files are made twice and compared. Of what they hold, the command
-# runs, c/test.c is built over the libraries, the example for Python runs, each path that the README names is there, the crate's documentation is
-# tested, and a package with a build script is built over the crate, which warns of a text that is refused and goes on. It needs dpkg-deb, a C
-# compiler as `cc`, Python, and cargo.
+# The words are as release.sh takes them, which builds by --plain here. Both files are made twice
+# and compared. Of what they hold, the command runs, c/test.c is built over the libraries, the
+# example for Python runs, each path that the README names is there, the crate's documentation is
+# tested, and a package with a build script is built over the crate, which warns of a text that is
+# refused and goes on. It needs dpkg-deb, a C compiler as `cc`, Python, and cargo.
 set -eu
 . "$(dirname "$0")/usage.sh"
 crate=
@@ -46,7 +48,8 @@ diff -r "$tar/rust" "$deb/share/froesaffron/rust"
 diff -r "$tar/examples" "$deb/share/froesaffron/examples"
 cat "$tar/LICENSE-APACHE" "$tar/LICENSE-MIT" | cmp - "$deb/share/doc/froesaffron/copyright"
 
-# The README says which of the two each program is, and names no path that isn't there, nor any folder of this repository.
+# The README says which of the two each program is, and names no path that isn't there, nor any
+# folder of this repository.
 ! grep -q '@' "$tar/README.md" || fail "the README has a hole"
 grep -q '^| `bin/lay_fmt` .* \(proved\|translated\) |$' "$tar/README.md" || fail "the README doesn't say what the command is"
 grep -oE '[A-Za-z0-9_./-]*[A-Za-z0-9_]/[A-Za-z0-9_./-]*|LICENSE-[A-Z]+|[A-Z]+\.md' "$tar/README.md" | sort -u | while read -r path; do
