@@ -1,6 +1,7 @@
 //! The calls of the crate: from a source to its text, from a tree to its text, and from an expression to the one with its parentheses.
 use crate::Error;
-use crate::generated::lay_files::{read_bytes, write_file};
+use crate::furthest::with_furthest;
+use crate::generated::lay_files::{self, write_file};
 use crate::generated::lay_front::LIMIT;
 use crate::generated::lay_io::{Failed, Sink};
 use crate::generated::{lay_laws, lay_paren};
@@ -36,7 +37,11 @@ pub fn format_bytes(source: &[u8]) -> Result<Vec<u8>, Error> {
     if usize::BITS < 64 && source.len() > LIMIT {
         return Err(Error::TOO_LONG);
     }
-    with_stack(|| text_of(&read_bytes(Global, source)?)).ok_or(Error::NO_MEMORY)?
+    with_stack(|| match lay_files::format_bytes(Global, source) {
+        Ok(text) => Ok(text.into_vec().into_std()),
+        Err(error) => Err(with_furthest(error.into(), source)),
+    })
+    .ok_or(Error::NO_MEMORY)?
 }
 
 /// Whether a source is its own laid-out text.

@@ -36,6 +36,18 @@ pub enum Cause {
     NoMemory,
 }
 
+/// A place in a source.
+#[derive(Clone, Copy, Debug, PartialEq, Eq, Hash)]
+#[non_exhaustive]
+pub struct Position {
+    /// The line, from 1.
+    pub line: usize,
+    /// The column in bytes, from 1.
+    pub column: usize,
+    /// How many bytes stand before the place, counted as by [`Error::offset`].
+    pub offset: usize,
+}
+
 /// Why a call has no answer, and at which place of the source.
 ///
 /// ```
@@ -51,6 +63,7 @@ pub struct Error {
     offset: usize,
     line: usize,
     column: usize,
+    furthest: Option<Position>,
 }
 
 impl Error {
@@ -59,7 +72,7 @@ impl Error {
     pub(crate) const TOO_LONG: Error = Error::without_place(Cause::TooLong);
 
     const fn without_place(cause: Cause) -> Error {
-        Error { cause, offset: 0, line: 0, column: 0 }
+        Error { cause, offset: 0, line: 0, column: 0, furthest: None }
     }
 
     /// Why there is none.
@@ -83,6 +96,17 @@ impl Error {
         self.offset
     }
 
+    /// How far the item that is refused was read: the first token that no reading of it came past, or the end of the source. Only
+    /// [`Cause::NoItem`] has it; the place of the other causes is the fault itself.
+    pub fn furthest(&self) -> Option<Position> {
+        self.furthest
+    }
+
+    /// With the furthest place that reading came to.
+    pub(crate) fn with_furthest(self, furthest: Option<Position>) -> Error {
+        Error { furthest, ..self }
+    }
+
     /// The cause in words.
     fn message(&self) -> &'static str {
         match self.cause {
@@ -97,13 +121,18 @@ impl Error {
     }
 }
 
-/// The line that the command writes: `L:C: CAUSE`, or the cause alone where it has no place.
+/// The line that the command writes: `L:C: CAUSE`, or the cause alone where it has no place. After it stands how far reading came, where
+/// that is known: `12:1: no item (read as far as 2638:9)`.
 impl fmt::Display for Error {
     fn fmt(&self, out: &mut fmt::Formatter<'_>) -> fmt::Result {
         if self.line > 0 {
             write!(out, "{}:{}: ", self.line, self.column)?;
         }
-        out.write_str(self.message())
+        out.write_str(self.message())?;
+        match self.furthest {
+            Some(Position { line, column, .. }) => write!(out, " (read as far as {line}:{column})"),
+            None => Ok(()),
+        }
     }
 }
 
@@ -152,6 +181,6 @@ impl From<FileError> for Error {
             Refusal::Unbalanced { at } => (Cause::Unbalanced, at),
             Refusal::NoItem { at } => (Cause::NoItem, at),
         };
-        Error { cause, offset, line: place.line, column: place.column }
+        Error { cause, offset, line: place.line, column: place.column, furthest: None }
     }
 }

@@ -50,6 +50,7 @@ extern crate std;
 pub mod build;
 mod calls;
 mod error;
+mod furthest;
 #[allow(dead_code, unused_imports, unused_labels, unused_variables, clippy::all)]
 #[rustfmt::skip]
 mod generated;
@@ -58,7 +59,7 @@ mod stack;
 pub mod tree;
 
 pub use calls::{check, format, format_bytes, is_loose, parenthesize, unparse};
-pub use error::{Cause, Error};
+pub use error::{Cause, Error, Position};
 
 /// What the command is made of. It isn't part of what a version of the crate promises.
 #[doc(hidden)]

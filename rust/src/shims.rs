@@ -4,6 +4,7 @@
 //!
 //! It holds no more than the sources ask for, and stands on `core` and `alloc` alone, so that the tests under `tests/` can take it by itself.
 use alloc::collections::VecDeque;
+use core::cell::Cell;
 use core::ops::{Deref, DerefMut};
 
 /// The one place where memory comes from.
@@ -105,6 +106,11 @@ impl<T> Vec<T> {
 
     /// Ends a vector that holds nothing.
     pub fn destroy_empty(self) {}
+
+    /// The vector as Rust's own, without a copy.
+    pub fn into_std(self) -> alloc::vec::Vec<T> {
+        self.0
+    }
 
     /// The items, without room for more.
     pub fn into_boxed_slice(self) -> BoxedSlice<T> {
@@ -408,6 +414,28 @@ pub fn text(bytes: &[u8]) -> &str {
     match core::str::from_utf8(bytes) {
         Ok(text) => text,
         Err(_) => unreachable!(),
+    }
+}
+
+/// How far the cursors over some tokens came. Readers write it and never look at it, so it changes nothing of what is read.
+#[derive(Debug)]
+pub struct Passed(Cell<usize>);
+
+impl Passed {
+    /// No token was passed.
+    pub fn new() -> Passed {
+        Passed(Cell::new(0))
+    }
+
+    /// A token was passed that begins here.
+    #[inline(always)]
+    pub fn pass(&self, at: usize) {
+        self.0.set(self.0.get().max(at + 1));
+    }
+
+    /// Whether a token that begins here was passed, or one after it.
+    pub fn reaches(&self, at: usize) -> bool {
+        at < self.0.get()
     }
 }
 

@@ -9,6 +9,9 @@ import subprocess
 import sys
 import tempfile
 
+from passed import CHANGES
+from to_rust import ROOTS
+
 HERE = os.path.dirname(os.path.abspath(__file__))
 TOP = os.path.dirname(os.path.dirname(HERE))
 
@@ -62,15 +65,19 @@ pub fn number(of: u8) -> u8
 '''
 
 
-def translate(source):
-    """What the translator says of a repository of one crate, and what it makes of that."""
+def translate(source, more=()):
+    """What the translator says of a repository whose crate `lay_front` has a source, and what it makes of that. More files are named with their
+    crates, which stand below that."""
     with tempfile.TemporaryDirectory() as top:
+        below = sorted({crate for crate, _, _ in more})
+        lines = [*(f'{crate}:' for crate in below), f"lay_front: {' '.join(['regex smallvec', *below])}",
+                 *(f'{crate}: lay_front' for crate in ROOTS if crate != 'lay_front')]
         with open(os.path.join(top, 'crates.txt'), 'w', encoding='utf-8') as file:
-            file.write('lay_front: regex smallvec\nlay_laws: lay_front\nlay_paren: lay_front\nlay_build: lay_front\n')
-        for crate in ('lay_front', 'lay_laws', 'lay_paren', 'lay_build'):
-            os.makedirs(os.path.join(top, 'crates', crate, 'src'))
-            with open(os.path.join(top, 'crates', crate, 'src', 'lib.rt'), 'w', encoding='utf-8') as file:
-                file.write(source if crate == 'lay_front' else KNOWN)
+            file.write('\n'.join(lines) + '\n')
+        for crate, path, text in [*((crate, 'lib.rt', source if crate == 'lay_front' else KNOWN) for crate in ROOTS), *more]:
+            os.makedirs(os.path.join(top, 'crates', crate, 'src'), exist_ok=True)
+            with open(os.path.join(top, 'crates', crate, 'src', path), 'w', encoding='utf-8') as file:
+                file.write(text)
         made = os.path.join(top, 'made')
         ran = subprocess.run([sys.executable, os.path.join(HERE, 'to_rust.py'), top, made], capture_output=True, text=True)
         text = None
@@ -103,6 +110,23 @@ def tokens(text):
     return re.findall(r'\w+|\S', text)
 
 
+def change_failures():
+    """A place that is to be changed stands once, and so does its file, or nothing is made."""
+    files = []
+    for crate, path in CHANGES:
+        with open(os.path.join(TOP, 'crates', crate, 'src', path), encoding='utf-8') as file:
+            files.append((crate, path, file.read()))
+    for crate, path, text in files:
+        others = [file for file in files if file[1] != path]
+        twice = (crate, path, text + text)
+        missing = f"crates/{crate}/src/{path}, which is to be changed, isn't there"
+        unknown = f"crates/{crate}/src/{path}:1: the one place of {CHANGES[crate, path][0][0]!r} isn't known"
+        for more, said in ((others, missing), ([*others, twice], unknown), ([*others, (crate, path, KNOWN)], unknown)):
+            status, error, made = translate(KNOWN, more)
+            if status == 0 or error != said or made is not None:
+                yield f'{crate}/{path}: {error!r} and not {said!r}'
+
+
 def listed(path, start):
     with open(os.path.join(TOP, path), encoding='utf-8') as file:
         text = file.read()
@@ -131,7 +155,7 @@ def main():
     if sys.argv[1:]:
         print('usage: test.py')
         sys.exit(0 if sys.argv[1:] == ['--help'] else 2)
-    failures = [*planted_failures(), *let_failures(), *tree_failures(), *build_failures()]
+    failures = [*planted_failures(), *let_failures(), *change_failures(), *tree_failures(), *build_failures()]
     for failure in failures:
         print(failure)
     print(f'{len(PLANTED)} planted, {len(failures)} failures')

@@ -5,13 +5,16 @@ usage: to_rust.py TOP FOLDER
 
 TOP is the repository, and FOLDER, which must not be there, gets the modules, with `mod.rs` as their head. The crates are those below
 ROOTS by crates.txt. What is left out is what no Rust compiler reads: clauses, `ghost` members, models, laws, and the attributes,
-derives and bounds that Rust doesn't have; and plain comments. Only paths are changed, and a `let` with
-an `else`, which is newer than the oldest Rust that takes the crate. Whatever isn't known ends the run with the file and the line where it
-stands: a new construct is to be looked at by a person, and never passed through. `scripts/rust.sh` calls this and lays out what was made."""
+derives and bounds that Rust doesn't have; and plain comments. Paths are changed, what `passed.py` lists,
+and a `let` with an `else`, which is newer than the oldest Rust that takes the crate. Whatever isn't known
+ends the run with the file and the line where it stands: a new construct is to be looked at by a person,
+and never passed through. `scripts/rust.sh` calls this and lays out what was made."""
 import os
 import re
 import sys
 from dataclasses import dataclass, replace
+
+from passed import CHANGES
 
 # The crates whose calls the cargo crate offers. All crates below them become modules.
 ROOTS = ['lay_front', 'lay_laws', 'lay_paren', 'lay_build']
@@ -548,6 +551,21 @@ def matched_lets(tokens):
     return out
 
 
+def changed(tokens, changes):
+    """With the changes that a file of the cargo crate has beside the translation."""
+    for before, after in changes:
+        wanted = texts(Lexer(before).run())
+        places = [at for at in range(len(tokens)) if texts(tokens[at:at + len(wanted)]) == wanted]
+        if len(places) != 1:
+            raise Unknown(1, f'the one place of {before!r}')
+        tokens = tokens[:places[0]] + Lexer(after).run() + tokens[places[0] + len(wanted):]
+    return tokens
+
+
+def texts(tokens):
+    return [token.text for token in tokens]
+
+
 def token_text(tokens):
     return ''.join(token.text for token in tokens)
 
@@ -595,6 +613,9 @@ class Sources:
         self.tokens = {}
         for crate in self.crates:
             self.read(crate)
+        for crate, path in CHANGES:
+            if crate in self.crates and (crate, path) not in self.tokens:
+                sys.exit(f"crates/{crate}/src/{path}, which is to be changed, isn't there")
         self.laws = {name for tokens in self.tokens.values() for name in law_names(tokens)}
         for crate in LAWS & set(self.uses):
             self.laws |= self.laws_of(crate)
@@ -637,6 +658,7 @@ class Sources:
         with naming(crate, path):
             tokens = matched_lets(rust_items(self.tokens[crate, path], LEFT_OUT.get(crate, ())))
             tokens = rust_paths(tokens, Paths(crate, self.crates, self.laws))
+            tokens = changed(tokens, CHANGES.get((crate, path), ()))
             return text_of(with_head(tokens, f'crates/{crate}/src/{path}'))
 
 

@@ -9,15 +9,20 @@ pub struct Cursor<'a> {
     tokens: &'a [Token],
     /// Of each token ahead, if it is an opener, how many tokens stand between it and its partner, and else 0.
     spans: &'a [usize],
+    passed: &'a crate::shims::Passed,
 }
 impl<'a> Cursor<'a> {
     /// A cursor before the first of these tokens, which have these spans.
-    pub(crate) fn new(tokens: &'a [Token], spans: &'a [usize]) -> Cursor<'a> {
-        Cursor { tokens, spans }
+    pub(crate) fn new(
+        tokens: &'a [Token],
+        spans: &'a [usize],
+        passed: &'a crate::shims::Passed,
+    ) -> Cursor<'a> {
+        Cursor { tokens, spans, passed }
     }
     /// A second cursor at the same place.
     pub fn fork(&self) -> Cursor<'a> {
-        Cursor { tokens: self.tokens, spans: self.spans }
+        Cursor { tokens: self.tokens, spans: self.spans, passed: self.passed }
     }
     /// The token behind this many others, or `None` where no more than so many are ahead.
     pub fn peek(&self, ahead: usize) -> Option<&'a Token> {
@@ -33,6 +38,7 @@ impl<'a> Cursor<'a> {
     }
     /// Moves past one token, past an opener alone too. The closer of that is then ahead as any other token.
     pub fn step(&mut self) {
+        self.passed.pass(self.tokens[0].at);
         self.tokens = behind_first(self.tokens);
         self.spans = behind_first(self.spans);
     }
@@ -43,14 +49,16 @@ impl<'a> Cursor<'a> {
         let (spans, spans_behind) = split_group(self.spans, span);
         self.tokens = tokens_behind;
         self.spans = spans_behind;
-        Cursor { tokens, spans }
+        Cursor { tokens, spans, passed: self.passed }
     }
     /// Moves past the token tree at the front, and gives its tokens: one token, or a group with its delimiters
     /// (Rust Reference, "Macros": token trees).
     pub fn tree(&mut self) -> &'a [Token] {
         let tokens = self.as_slice();
         self.pass_tree();
-        &tokens[..tokens.len() - self.as_slice().len()]
+        let tree = &tokens[..tokens.len() - self.as_slice().len()];
+        self.passed.pass(tree[tree.len() - 1].at);
+        tree
     }
     /// Moves past the token tree at the front.
     fn pass_tree(&mut self) {

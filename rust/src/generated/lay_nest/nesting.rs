@@ -11,11 +11,17 @@ pub struct Nested {
     tokens: List<Token>,
     /// Of each token, if it is an opener, how many tokens stand between it and its partner, and else 0.
     spans: List<usize>,
+    passed: crate::shims::Passed,
 }
 impl Nested {
+    /// The token after the furthest one that a cursor passed, or none where that was the last.
+    pub fn furthest(&self) -> Option<&Token> {
+        let tokens = self.tokens.as_slice();
+        tokens.get(tokens.partition_point(|token| self.passed.reaches(token.at)))
+    }
     /// A cursor before the first token.
     pub fn cursor(&self) -> Cursor<'_> {
-        Cursor::new(self.tokens.as_slice(), self.spans.as_slice())
+        Cursor::new(self.tokens.as_slice(), self.spans.as_slice(), &self.passed)
     }
 }
 /// The tokens with each delimiter's partner (Rust Reference, "Macros": token trees).
@@ -24,7 +30,7 @@ impl Nested {
 /// closer, that of the last opener left open.
 pub fn nest(alloc: Global, tokens: List<Token>) -> Result<Nested, FormatError> {
     match spans_of(alloc, tokens.as_slice()) {
-        Ok(spans) => Ok(Nested { tokens, spans }),
+        Ok(spans) => Ok(Nested { tokens, spans, passed: crate::shims::Passed::new() }),
         Err(error) => Err(error),
     }
 }
