@@ -409,7 +409,8 @@ class Kills:
         return ", ".join(f"{many} {what}" for what, many in self.counts.items())
 
     def killed(self, folder, kill):
-        """Has `kill` run the command over a file and end it, and looks at what is left. The answer of `kill` is whether the run was killed."""
+        """Has `kill` run the command over a file and end it, and looks at what is left. Its answer and that of `kill` is whether
+        the run was killed before its end."""
         path = folder / "a.rs"
         path.write_bytes(self.old)
         was_killed = kill(folder)
@@ -429,6 +430,7 @@ class Kills:
             with self.lock:
                 had = (end, path.read_bytes() == self.new, os.listdir(folder))
                 self.front.same("the run behind a killed one", had, ((0, b"", ""), True, ["a.rs"]))
+        return was_killed
 
     def at_drawn_moments(self, count, workers=4):
         """Every second run is killed within the time that runs take, the others within that which they take once their temporary file is seen."""
@@ -445,12 +447,10 @@ class Kills:
                 began = time.monotonic()
                 run = subprocess.Popen([self.front.command, "a.rs"], cwd=folder, stderr=subprocess.DEVNULL)
                 while (measured or since_seen) and run.poll() is None and not left(folder):
-                    time.sleep(0.0002)
+                    time.sleep(0.0005)
                 seen = time.monotonic()
                 if not measured:
-                    end = seen + draw.uniform(0, 1.1 * middle(writing)) if since_seen else began + draw.uniform(0, 1.1 * middle(whole))
-                    while run.poll() is None and time.monotonic() < end:
-                        time.sleep(0.0002)
+                    time.sleep(draw.uniform(0, middle(writing if since_seen else whole)))
                     run.kill()
                 if run.wait() == -signal.SIGKILL:
                     return True
@@ -459,8 +459,9 @@ class Kills:
                     writing.append(time.monotonic() - seen)
                 return False
 
-            for _ in range(worker, count, workers):
-                self.killed(folder, kill)
+            kills = 0
+            while kills < len(range(worker, count, workers)):
+                kills += self.killed(folder, kill)
 
         self.forget()
         with concurrent.futures.ThreadPoolExecutor(workers) as pool:
@@ -468,7 +469,7 @@ class Kills:
                 done.result()
         if count >= 200:
             self.front.holds("kills at drawn moments leave temporary files", self.counts["with one left"] > count // 50)
-        print(f"kills: {count} runs, killed at drawn moments: {self.told()}", flush=True)
+        print(f"kills: {count} at drawn moments: {self.told()}", flush=True)
 
     def at_each_call(self):
         """Kills a run at each call of the system from the one that opens the file for writing, a run for each."""

@@ -328,3 +328,190 @@ impl Diagonals {
         (self.least..=self.most).step_by(2)
     }
 }
+
+#[cfg(test)]
+mod tests {
+    use super::*;
+    use std::process::Command;
+    use std::{env, fs, process};
+
+    fn diff(old: &str, new: &str) -> String {
+        String::from_utf8(unified(OsStr::new("a.rs"), old.as_bytes(), new.as_bytes())).unwrap()
+    }
+
+    /// So many numbered lines.
+    fn numbers(lines: Range<usize>) -> String {
+        lines.map(|line| format!("{line}\n")).collect()
+    }
+
+    #[test]
+    fn the_form_is_that_of_diff() {
+        assert_eq!(diff("a\n", "a\n"), "");
+        assert_eq!(diff("a\n", "b\n"), "--- a.rs\n+++ a.rs\n@@ -1 +1 @@\n-a\n+b\n");
+        assert_eq!(diff("", "a\nb\n"), "--- a.rs\n+++ a.rs\n@@ -0,0 +1,2 @@\n+a\n+b\n");
+        assert_eq!(diff("a\n", ""), "--- a.rs\n+++ a.rs\n@@ -1 +0,0 @@\n-a\n");
+        let no_end = "\\ No newline at end of file\n";
+        assert_eq!(diff("a", "a\n"), format!("--- a.rs\n+++ a.rs\n@@ -1 +1 @@\n-a\n{no_end}+a\n"));
+        assert_eq!(diff("b\na", "a"), format!("--- a.rs\n+++ a.rs\n@@ -1,2 +1 @@\n-b\n a\n{no_end}"));
+    }
+
+    #[test]
+    fn changes_with_six_lines_between_are_one_hunk_and_with_seven_two() {
+        let old = numbers(10..30);
+        let six = old.replace("15\n", "").replace("22\n", "a\nb\n");
+        let hunk = " 12\n 13\n 14\n-15\n 16\n 17\n 18\n 19\n 20\n 21\n-22\n+a\n+b\n 23\n 24\n 25\n";
+        assert_eq!(diff(&old, &six), format!("--- a.rs\n+++ a.rs\n@@ -3,14 +3,14 @@\n{hunk}"));
+        let seven = old.replace("15\n", "").replace("23\n", "a\nb\n");
+        let first = "@@ -3,7 +3,6 @@\n 12\n 13\n 14\n-15\n 16\n 17\n 18\n";
+        let second = "@@ -11,7 +10,8 @@\n 20\n 21\n 22\n-23\n+a\n+b\n 24\n 25\n 26\n";
+        assert_eq!(diff(&old, &seven), format!("--- a.rs\n+++ a.rs\n{first}{second}"));
+    }
+
+    #[test]
+    fn a_name_is_one_to_patch() {
+        assert_eq!(shown(OsStr::new("src/a.rs")), b"src/a.rs");
+        assert_eq!(shown(OsStr::new("a b.rs")), b"a b.rs\t");
+        assert_eq!(shown(OsStr::new("a\"\\\n.rs")), b"\"a\\\"\\\\\\012.rs\"");
+    }
+
+    /// Draws numbers from a seed (Marsaglia, Xorshift RNGs, 2003).
+    struct Draw(u64);
+
+    impl Draw {
+        fn below(&mut self, bound: usize) -> usize {
+            self.0 ^= self.0 << 13;
+            self.0 ^= self.0 >> 7;
+            self.0 ^= self.0 << 17;
+            (self.0 % bound as u64) as usize
+        }
+
+        /// A text of so many lines, of which so many kinds are drawn; its last line may have no end.
+        fn text(&mut self, lines: usize, kinds: usize) -> String {
+            let mut text: String = (0..lines).map(|_| format!("{}\n", self.below(kinds))).collect();
+            if self.below(4) == 0 {
+                text.pop();
+            }
+            text
+        }
+
+        /// A text with some lines removed, added and changed.
+        fn edited(&mut self, text: &str, kinds: usize) -> String {
+            let mut out = String::new();
+            for line in text.split_inclusive('\n') {
+                match self.below(8) {
+                    0 => {}
+                    1 => out += &format!("{line}{}\n", self.below(kinds)),
+                    2 => out += &format!("{}\n", self.below(kinds)),
+                    _ => out += line,
+                }
+            }
+            out
+        }
+
+        /// Two texts, of which every second pair has little in common.
+        fn pair(&mut self, most: usize) -> (String, String) {
+            let (lines, kinds) = (self.below(most), 1 + self.below(12));
+            let old = self.text(lines, kinds);
+            let lines = self.below(most);
+            let new = if self.below(2) == 0 { self.edited(&old, kinds) } else { self.text(lines, kinds) };
+            (old, new)
+        }
+    }
+
+    /// What a diff makes of a text, by its lines alone.
+    fn applied(old: &str, diff: &str) -> String {
+        let old: Vec<&str> = old.split_inclusive('\n').collect();
+        let (mut out, mut at) = (String::new(), 0);
+        let mut rest = diff.split_inclusive('\n').skip(2).peekable();
+        while let Some(line) = rest.next() {
+            let no_end = rest.next_if(|next| next.starts_with('\\')).is_some();
+            let (mark, text) = line.split_at(1);
+            let text = if no_end { text.trim_end_matches('\n') } else { text };
+            match mark {
+                "@" => {
+                    let place = line.split(['-', ' ', ',']).nth(2).unwrap().parse::<usize>().unwrap();
+                    let first = if line.contains(",0 +") { place } else { place - 1 };
+                    out.extend(old[at..first].iter().copied());
+                    at = first;
+                }
+                "+" => out += text,
+                _ => {
+                    assert_eq!(old[at], text);
+                    at += 1;
+                    if mark == " " {
+                        out += text;
+                    }
+                }
+            }
+        }
+        out.extend(old[at..].iter().copied());
+        out
+    }
+
+    /// How many lines two texts have in common at most, in order, by the table of all their beginnings.
+    fn most_in_common(old: &str, new: &str) -> usize {
+        let (old, new) = (lines(old.as_bytes()), lines(new.as_bytes()));
+        let mut row = vec![0; new.len() + 1];
+        for line in old {
+            let before = row.clone();
+            for (at, other) in new.iter().enumerate() {
+                row[at + 1] = if line == *other { before[at] + 1 } else { before[at + 1].max(row[at]) };
+            }
+        }
+        row[new.len()]
+    }
+
+    #[test]
+    fn a_diff_makes_the_new_text_with_the_fewest_lines() {
+        let mut draw = Draw(1);
+        for _ in 0..2000 {
+            let (old, new) = draw.pair(40);
+            let diff = diff(&old, &new);
+            assert_eq!(if diff.is_empty() { old.clone() } else { applied(&old, &diff) }, new, "{old:?}");
+            let changed = diff.lines().skip(2).filter(|line| line.starts_with(['-', '+'])).count();
+            let all = lines(old.as_bytes()).len() + lines(new.as_bytes()).len();
+            assert_eq!(changed, all - 2 * most_in_common(&old, &new), "{old:?} {new:?}");
+        }
+    }
+
+    #[test]
+    fn texts_with_more_edits_than_are_searched_have_a_diff() {
+        let mut draw = Draw(1);
+        let (old, new) = (draw.text(12000, 100), draw.text(12000, 100));
+        assert_eq!(applied(&old, &diff(&old, &new)), new);
+        let (old, new) = (draw.text(20, 5), draw.text(30000, 5));
+        assert_eq!(applied(&old, &diff(&old, &new)), new);
+    }
+
+    /// A folder of the test's own, which is removed with what is in it.
+    struct Folder(std::path::PathBuf);
+
+    impl Drop for Folder {
+        fn drop(&mut self) {
+            let _ = fs::remove_dir_all(&self.0);
+        }
+    }
+
+    #[test]
+    #[ignore = "needs the programs diff and patch"]
+    fn patch_makes_the_new_text_and_diff_has_no_fewer_lines() {
+        let folder = Folder(env::temp_dir().join(format!("froesaffron-diff-{}", process::id())));
+        fs::create_dir(&folder.0).unwrap();
+        let place = |name| folder.0.join(name);
+        let mut draw = Draw(2);
+        for _ in 0..500 {
+            let (old, new) = draw.pair(60);
+            fs::write(place("a.rs"), &old).unwrap();
+            fs::write(place("new"), &new).unwrap();
+            let ours = diff(&old, &new);
+            let theirs = Command::new("diff").args(["-u", "-d", "a.rs", "new"]).current_dir(&folder.0).output().unwrap();
+            let changed = |diff: &str| diff.lines().skip(2).filter(|line| line.starts_with(['-', '+'])).count();
+            assert_eq!(changed(&ours), changed(&String::from_utf8(theirs.stdout).unwrap()));
+            fs::write(place("diff"), &ours).unwrap();
+            let run = Command::new("patch").args(["-s", "-p0", "-i", "diff"]).current_dir(&folder.0).status().unwrap();
+            assert!(run.success() || ours.is_empty());
+            // `patch` removes a file that becomes empty.
+            assert_eq!(fs::read_to_string(place("a.rs")).unwrap_or_default(), new);
+        }
+    }
+}

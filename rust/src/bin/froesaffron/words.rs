@@ -203,3 +203,54 @@ impl Given {
 fn find(wanted: impl Fn(&Choice) -> bool) -> Option<&'static Choice> {
     CHOICES.iter().find(|choice| wanted(choice))
 }
+
+#[cfg(test)]
+mod tests {
+    use super::*;
+
+    fn read_all(words: &[&str]) -> Result<Task, String> {
+        read(words.iter().map(OsString::from))
+    }
+
+    fn format(words: &[&str]) -> Words {
+        match read_all(words) {
+            Ok(Task::Format(words)) => words,
+            other => panic!("{words:?}: {other:?}"),
+        }
+    }
+
+    fn file(name: &str) -> Input {
+        Input::File(PathBuf::from(name))
+    }
+
+    #[test]
+    fn inputs_and_options_stand_in_any_order() {
+        assert_eq!(format(&[]), Words { inputs: vec![Input::Standard], ..Words::default() });
+        let words = format(&["a", "--edition", "2021", "b", "--check", "--", "-q", "--"]);
+        let inputs = vec![file("a"), file("b"), file("-q"), file("--")];
+        let unused = vec!["--edition 2021".to_string()];
+        assert_eq!(words, Words { inputs, mode: Mode::Check, unused, ..Words::default() });
+        assert_eq!(format(&["--", "-"]).inputs, [Input::Standard]);
+    }
+
+    #[test]
+    fn a_value_stands_behind_a_sign_or_next() {
+        assert_eq!(format(&["--emit=stdout"]).mode, Mode::Stdout);
+        assert_eq!(format(&["--emit", "stdout"]).mode, Mode::Stdout);
+        assert_eq!(format(&["--config-path", "-q", "--config=a=b"]).unused, ["--config-path -q", "--config a=b"]);
+    }
+
+    #[test]
+    fn letters_may_stand_together() {
+        let words = format(&["-lq", "--emit", "stdout", "a", "b"]);
+        assert!(words.names && words.quiet && !words.headings && !words.verbose);
+        assert_eq!(read_all(&["-Vh"]), Ok(Task::Help));
+        assert_eq!(read_all(&["-qV"]), Ok(Task::Version));
+    }
+
+    #[test]
+    fn wrong_words_are_refused_before_help() {
+        assert_eq!(read_all(&["--help", "--bogus"]), Err("no such option: --bogus".to_string()));
+        assert_eq!(read_all(&["-h", "--help"]), Err("--help is given more than once".to_string()));
+    }
+}
