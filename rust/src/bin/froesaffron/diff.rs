@@ -10,7 +10,7 @@ use std::ops::Range;
 /// How many unchanged lines stand before and after a change.
 const CONTEXT: usize = 3;
 /// After so many edits from each end the search takes the best split so far. The diff may then be longer than need be, and is as correct.
-const MOST_EDITS: usize = 4096;
+const MOST_EDITS: usize = 2048;
 
 /// The unified diff from one text to another under a file's name, or nothing where they are the same.
 pub fn unified(name: &OsStr, old: &[u8], new: &[u8]) -> Vec<u8> {
@@ -477,9 +477,9 @@ mod tests {
     #[test]
     fn texts_with_more_edits_than_are_searched_have_a_diff() {
         let mut draw = Draw(1);
-        let (old, new) = (draw.text(12000, 100), draw.text(12000, 100));
+        let (old, new) = (draw.text(4000, 100), draw.text(4000, 100));
         assert_eq!(applied(&old, &diff(&old, &new)), new);
-        let (old, new) = (draw.text(20, 5), draw.text(30000, 5));
+        let (old, new) = (draw.text(20, 5), draw.text(10000, 5));
         assert_eq!(applied(&old, &diff(&old, &new)), new);
     }
 
