@@ -4,11 +4,14 @@
 #
 # usage: callers.sh [COMMAND [FRONT]]
 #
-# COMMAND is the proved one where none is named, and FRONT the crate's froesaffron. The programs are bindgen, lalrpop, protoc with protoc-gen-rust (Debian's
-# packages bindgen, lalrpop, protobuf-compiler and protobuf-codegen), and rustc, whose expanded macros are formatted. It needs Python and rustc.
+# COMMAND is the proved one where none is named, and FRONT the crate's froesaffron. The programs are
+# bindgen, lalrpop, protoc with protoc-gen-rust (Debian's packages bindgen, lalrpop,
+# protobuf-compiler and protobuf-codegen), and rustc, whose expanded macros are formatted. It needs
+# Python and rustc.
 #
-# What callers of a rustfmt make by FRONT has to be, byte for byte, what FRONT makes of their unformatted output: of bindgen, also of those that
-# scripts/bindgens.sh has fetched; of cargo fmt; and of generators that have their files formatted in place, or in a pipe.
+# What callers of a rustfmt make by FRONT has to be, byte for byte, what FRONT makes of their
+# unformatted output: of bindgen, also of those that scripts/bindgens.sh has fetched; of cargo fmt;
+# and of generators that have their files formatted in place, or in a pipe.
 set -eu
 . "$(dirname "$0")/usage.sh"
 words 0 2 "$@"

@@ -1,18 +1,22 @@
 //! The unified diff of two texts, in the form of `diff -u`, with three lines of context.
 //!
-//! Which lines the two have in common is found by Myers' algorithm in linear space (An O(ND) Difference Algorithm and Its Variations,
-//! Algorithmica 1, 1986): paths of edits grow from both ends, where they meet the texts are split, and so on with the two halves. Lines
-//! at the ends that are the same, and lines that only one text has, are set aside before, which changes nothing about the rest.
+//! Which lines the two have in common is found by Myers' algorithm in linear space (An O(ND)
+//! Difference Algorithm and Its Variations, Algorithmica 1, 1986): paths of edits grow from both
+//! ends, where they meet the texts are split, and so on with the two halves. Lines at the ends that
+//! are the same, and lines that only one text has, are set aside before, which changes nothing
+//! about the rest.
 use std::collections::HashMap;
 use std::ffi::OsStr;
 use std::ops::Range;
 
 /// How many unchanged lines stand before and after a change.
 const CONTEXT: usize = 3;
-/// After so many edits from each end the search takes the best split so far. The diff may then be longer than need be, and is as correct.
+/// After so many edits from each end the search takes the best split so far. The diff may then be
+/// longer than need be, and is as correct.
 const MOST_EDITS: usize = 2048;
 
-/// The unified diff from one text to another under a file's name, or nothing where they are the same.
+/// The unified diff from one text to another under a file's name, or nothing where they are the
+/// same.
 pub fn unified(name: &OsStr, old: &[u8], new: &[u8]) -> Vec<u8> {
     let old: Vec<&[u8]> = lines(old);
     let new: Vec<&[u8]> = lines(new);
@@ -41,8 +45,8 @@ fn lines(text: &[u8]) -> Vec<&[u8]> {
     text.split_inclusive(|byte| *byte == b'\n').collect()
 }
 
-/// A name as `diff` and `patch` write it: in quotes and with escapes where it has a control character, a quote or a backslash; with a tab
-/// behind it where it has blanks, which ends it.
+/// A name as `diff` and `patch` write it: in quotes and with escapes where it has a control
+/// character, a quote or a backslash; with a tab behind it where it has blanks, which ends it.
 fn shown(name: &OsStr) -> Vec<u8> {
     let name = bytes(name);
     let plain = |byte: &u8| !byte.is_ascii_control() && !matches!(byte, b'"' | b'\\');
@@ -78,17 +82,22 @@ pub fn bytes(name: &OsStr) -> Vec<u8> {
     name.to_string_lossy().into_owned().into_bytes()
 }
 
-/// Lines of the old text, counted from 0, in whose place lines of the new text stand. One of the two may be empty.
+/// Lines of the old text, counted from 0, in whose place lines of the new text stand. One of the
+/// two may be empty.
 #[derive(Debug, PartialEq, Eq)]
 struct Change {
     old: Range<usize>,
     new: Range<usize>,
 }
 
-/// How many of the first changes stand in one hunk, since no more lines are between them than their contexts have; none of none.
+/// How many of the first changes stand in one hunk, since no more lines are between them than their
+/// contexts have; none of none.
 fn close(changes: &[Change]) -> Option<usize> {
     let apart = |pair: &[Change]| pair[1].old.start - pair[0].old.end > 2 * CONTEXT;
-    let first = changes.windows(2).position(apart).map_or(changes.len(), |at| at + 1);
+    let first = changes
+        .windows(2)
+        .position(apart)
+        .map_or(changes.len(), |at| at + 1);
     Some(first).filter(|count| *count > 0)
 }
 
@@ -99,7 +108,9 @@ fn write_hunk(hunk: &[Change], old: &[&[u8]], new: &[&[u8]], out: &mut Vec<u8>) 
     let after = (old.len() - last.old.end).min(CONTEXT);
     let its_old = first.old.start - before..last.old.end + after;
     let its_new = first.new.start - before..last.new.end + after;
-    out.extend_from_slice(format!("@@ -{} +{} @@\n", counted(&its_old), counted(&its_new)).as_bytes());
+    out.extend_from_slice(
+        format!("@@ -{} +{} @@\n", counted(&its_old), counted(&its_new)).as_bytes(),
+    );
     let mut at = its_old.start;
     for change in hunk {
         write_lines(b' ', &old[at..change.old.start], out);
@@ -110,7 +121,8 @@ fn write_hunk(hunk: &[Change], old: &[&[u8]], new: &[&[u8]], out: &mut Vec<u8>) 
     write_lines(b' ', &old[at..its_old.end], out);
 }
 
-/// Where lines stand, as the head of a hunk says it: the first, from 1, and how many. One alone isn't counted. Of none it is the line before.
+/// Where lines stand, as the head of a hunk says it: the first, from 1, and how many. One alone
+/// isn't counted. Of none it is the line before.
 fn counted(lines: &Range<usize>) -> String {
     match lines.len() {
         0 => format!("{},0", lines.start),
@@ -129,7 +141,8 @@ fn write_lines(mark: u8, lines: &[&[u8]], out: &mut Vec<u8>) {
     }
 }
 
-/// The changes that make the new lines of the old ones, in order. Between two of them stands a line at least that both have.
+/// The changes that make the new lines of the old ones, in order. Between two of them stands a line
+/// at least that both have.
 fn changes(old: &[&[u8]], new: &[&[u8]]) -> Vec<Change> {
     let mut numbers = HashMap::new();
     let mut number = |line| {
@@ -144,10 +157,21 @@ fn changes(old: &[&[u8]], new: &[&[u8]]) -> Vec<Change> {
     let (removed, added) = Search::new(old_side, new_side).run();
     let (mut found, mut at_old, mut at_new) = (Vec::new(), 0, 0);
     loop {
-        let old_end = at_old + removed[at_old..].iter().take_while(|changed| **changed).count();
-        let new_end = at_new + added[at_new..].iter().take_while(|changed| **changed).count();
+        let old_end = at_old
+            + removed[at_old..]
+                .iter()
+                .take_while(|changed| **changed)
+                .count();
+        let new_end = at_new
+            + added[at_new..]
+                .iter()
+                .take_while(|changed| **changed)
+                .count();
         if at_old < old_end || at_new < new_end {
-            found.push(Change { old: at_old..old_end, new: at_new..new_end });
+            found.push(Change {
+                old: at_old..old_end,
+                new: at_new..new_end,
+            });
         }
         if old_end == old.len() {
             return found;
@@ -177,7 +201,11 @@ impl Side {
         let changed: Vec<bool> = its.iter().map(|number| !there[*number]).collect();
         let places: Vec<usize> = (0..its.len()).filter(|place| !changed[*place]).collect();
         let shared = places.iter().map(|place| its[*place]).collect();
-        Side { changed, shared, places }
+        Side {
+            changed,
+            shared,
+            places,
+        }
     }
 
     fn change(&mut self, lines: Range<usize>) {
@@ -187,8 +215,9 @@ impl Side {
     }
 }
 
-/// The search for the lines that change, over those that both texts have. A place in the old lines is an `x`, one in the new lines a `y`, and
-/// what they differ by, `x - y`, is their diagonal. A step along a diagonal keeps a line, each other step removes or adds one.
+/// The search for the lines that change, over those that both texts have. A place in the old lines
+/// is an `x`, one in the new lines a `y`, and what they differ by, `x - y`, is their diagonal. A
+/// step along a diagonal keeps a line, each other step removes or adds one.
 struct Search {
     old: Side,
     new: Side,
@@ -201,7 +230,12 @@ struct Search {
 impl Search {
     fn new(old: Side, new: Side) -> Search {
         let diagonals = old.shared.len() + new.shared.len() + 3;
-        Search { old, new, forward: vec![0; diagonals], backward: vec![0; diagonals] }
+        Search {
+            old,
+            new,
+            forward: vec![0; diagonals],
+            backward: vec![0; diagonals],
+        }
     }
 
     /// Which of the old lines are removed, and which of the new ones are added.
@@ -222,7 +256,11 @@ impl Search {
     }
 
     /// The two without the lines at their ends that are the same.
-    fn without_ends(&self, mut old: Range<usize>, mut new: Range<usize>) -> (Range<usize>, Range<usize>) {
+    fn without_ends(
+        &self,
+        mut old: Range<usize>,
+        mut new: Range<usize>,
+    ) -> (Range<usize>, Range<usize>) {
         let (a, b) = (&self.old.shared, &self.new.shared);
         while !old.is_empty() && !new.is_empty() && a[old.start] == b[new.start] {
             old.start += 1;
@@ -235,7 +273,8 @@ impl Search {
         (old, new)
     }
 
-    /// A place on a shortest path of edits, about its middle. Neither range is empty, and their ends differ.
+    /// A place on a shortest path of edits, about its middle. Neither range is empty, and their
+    /// ends differ.
     fn middle(&mut self, old: &Range<usize>, new: &Range<usize>) -> (usize, usize) {
         let (a, b) = (&self.old.shared, &self.new.shared);
         let (left, right) = (old.start as isize, old.end as isize);
@@ -283,13 +322,17 @@ impl Search {
             let x = fore[at(diagonal)].min(right).min(bottom + diagonal);
             (x, x - diagonal)
         };
-        let places = ahead.each().map(place).filter(|place| *place != (right, bottom));
+        let places = ahead
+            .each()
+            .map(place)
+            .filter(|place| *place != (right, bottom));
         let (x, y) = places.max_by_key(|(x, y)| x + y).unwrap_or((right, top));
         (x as usize, y as usize)
     }
 }
 
-/// The diagonals that the paths from one end have come to: every second one from the least to the most.
+/// The diagonals that the paths from one end have come to: every second one from the least to the
+/// most.
 struct Diagonals {
     least: isize,
     most: isize,
@@ -301,10 +344,16 @@ struct Diagonals {
 
 impl Diagonals {
     fn new(first: isize, lowest: isize, highest: isize) -> Diagonals {
-        Diagonals { least: first, most: first, lowest, highest }
+        Diagonals {
+            least: first,
+            most: first,
+            lowest,
+            highest,
+        }
     }
 
-    /// Goes one diagonal on at each side, or one back where there is none. `bound` marks a diagonal that no path has come to.
+    /// Goes one diagonal on at each side, or one back where there is none. `bound` marks a diagonal
+    /// that no path has come to.
     fn widen(&mut self, mut bound: impl FnMut(isize)) {
         if self.least > self.lowest {
             self.least -= 1;
@@ -347,12 +396,24 @@ mod tests {
     #[test]
     fn the_form_is_that_of_diff() {
         assert_eq!(diff("a\n", "a\n"), "");
-        assert_eq!(diff("a\n", "b\n"), "--- a.rs\n+++ a.rs\n@@ -1 +1 @@\n-a\n+b\n");
-        assert_eq!(diff("", "a\nb\n"), "--- a.rs\n+++ a.rs\n@@ -0,0 +1,2 @@\n+a\n+b\n");
+        assert_eq!(
+            diff("a\n", "b\n"),
+            "--- a.rs\n+++ a.rs\n@@ -1 +1 @@\n-a\n+b\n"
+        );
+        assert_eq!(
+            diff("", "a\nb\n"),
+            "--- a.rs\n+++ a.rs\n@@ -0,0 +1,2 @@\n+a\n+b\n"
+        );
         assert_eq!(diff("a\n", ""), "--- a.rs\n+++ a.rs\n@@ -1 +0,0 @@\n-a\n");
         let no_end = "\\ No newline at end of file\n";
-        assert_eq!(diff("a", "a\n"), format!("--- a.rs\n+++ a.rs\n@@ -1 +1 @@\n-a\n{no_end}+a\n"));
-        assert_eq!(diff("b\na", "a"), format!("--- a.rs\n+++ a.rs\n@@ -1,2 +1 @@\n-b\n a\n{no_end}"));
+        assert_eq!(
+            diff("a", "a\n"),
+            format!("--- a.rs\n+++ a.rs\n@@ -1 +1 @@\n-a\n{no_end}+a\n")
+        );
+        assert_eq!(
+            diff("b\na", "a"),
+            format!("--- a.rs\n+++ a.rs\n@@ -1,2 +1 @@\n-b\n a\n{no_end}")
+        );
     }
 
     #[test]
@@ -360,11 +421,17 @@ mod tests {
         let old = numbers(10..30);
         let six = old.replace("15\n", "").replace("22\n", "a\nb\n");
         let hunk = " 12\n 13\n 14\n-15\n 16\n 17\n 18\n 19\n 20\n 21\n-22\n+a\n+b\n 23\n 24\n 25\n";
-        assert_eq!(diff(&old, &six), format!("--- a.rs\n+++ a.rs\n@@ -3,14 +3,14 @@\n{hunk}"));
+        assert_eq!(
+            diff(&old, &six),
+            format!("--- a.rs\n+++ a.rs\n@@ -3,14 +3,14 @@\n{hunk}")
+        );
         let seven = old.replace("15\n", "").replace("23\n", "a\nb\n");
         let first = "@@ -3,7 +3,6 @@\n 12\n 13\n 14\n-15\n 16\n 17\n 18\n";
         let second = "@@ -11,7 +10,8 @@\n 20\n 21\n 22\n-23\n+a\n+b\n 24\n 25\n 26\n";
-        assert_eq!(diff(&old, &seven), format!("--- a.rs\n+++ a.rs\n{first}{second}"));
+        assert_eq!(
+            diff(&old, &seven),
+            format!("--- a.rs\n+++ a.rs\n{first}{second}")
+        );
     }
 
     #[test]
@@ -385,9 +452,12 @@ mod tests {
             (self.0 % bound as u64) as usize
         }
 
-        /// A text of so many lines, of which so many kinds are drawn; its last line may have no end.
+        /// A text of so many lines, of which so many kinds are drawn; its last line may have no
+        /// end.
         fn text(&mut self, lines: usize, kinds: usize) -> String {
-            let mut text: String = (0..lines).map(|_| format!("{}\n", self.below(kinds))).collect();
+            let mut text: String = (0..lines)
+                .map(|_| format!("{}\n", self.below(kinds)))
+                .collect();
             if self.below(4) == 0 {
                 text.pop();
             }
@@ -413,7 +483,11 @@ mod tests {
             let (lines, kinds) = (self.below(most), 1 + self.below(12));
             let old = self.text(lines, kinds);
             let lines = self.below(most);
-            let new = if self.below(2) == 0 { self.edited(&old, kinds) } else { self.text(lines, kinds) };
+            let new = if self.below(2) == 0 {
+                self.edited(&old, kinds)
+            } else {
+                self.text(lines, kinds)
+            };
             (old, new)
         }
     }
@@ -426,11 +500,24 @@ mod tests {
         while let Some(line) = rest.next() {
             let no_end = rest.next_if(|next| next.starts_with('\\')).is_some();
             let (mark, text) = line.split_at(1);
-            let text = if no_end { text.trim_end_matches('\n') } else { text };
+            let text = if no_end {
+                text.trim_end_matches('\n')
+            } else {
+                text
+            };
             match mark {
                 "@" => {
-                    let place = line.split(['-', ' ', ',']).nth(2).unwrap().parse::<usize>().unwrap();
-                    let first = if line.contains(",0 +") { place } else { place - 1 };
+                    let place = line
+                        .split(['-', ' ', ','])
+                        .nth(2)
+                        .unwrap()
+                        .parse::<usize>()
+                        .unwrap();
+                    let first = if line.contains(",0 +") {
+                        place
+                    } else {
+                        place - 1
+                    };
                     out.extend(old[at..first].iter().copied());
                     at = first;
                 }
@@ -448,14 +535,19 @@ mod tests {
         out
     }
 
-    /// How many lines two texts have in common at most, in order, by the table of all their beginnings.
+    /// How many lines two texts have in common at most, in order, by the table of all their
+    /// beginnings.
     fn most_in_common(old: &str, new: &str) -> usize {
         let (old, new) = (lines(old.as_bytes()), lines(new.as_bytes()));
         let mut row = vec![0; new.len() + 1];
         for line in old {
             let before = row.clone();
             for (at, other) in new.iter().enumerate() {
-                row[at + 1] = if line == *other { before[at] + 1 } else { before[at + 1].max(row[at]) };
+                row[at + 1] = if line == *other {
+                    before[at] + 1
+                } else {
+                    before[at + 1].max(row[at])
+                };
             }
         }
         row[new.len()]
@@ -467,10 +559,26 @@ mod tests {
         for _ in 0..2000 {
             let (old, new) = draw.pair(40);
             let diff = diff(&old, &new);
-            assert_eq!(if diff.is_empty() { old.clone() } else { applied(&old, &diff) }, new, "{old:?}");
-            let changed = diff.lines().skip(2).filter(|line| line.starts_with(['-', '+'])).count();
+            assert_eq!(
+                if diff.is_empty() {
+                    old.clone()
+                } else {
+                    applied(&old, &diff)
+                },
+                new,
+                "{old:?}"
+            );
+            let changed = diff
+                .lines()
+                .skip(2)
+                .filter(|line| line.starts_with(['-', '+']))
+                .count();
             let all = lines(old.as_bytes()).len() + lines(new.as_bytes()).len();
-            assert_eq!(changed, all - 2 * most_in_common(&old, &new), "{old:?} {new:?}");
+            assert_eq!(
+                changed,
+                all - 2 * most_in_common(&old, &new),
+                "{old:?} {new:?}"
+            );
         }
     }
 
@@ -504,11 +612,27 @@ mod tests {
             fs::write(place("a.rs"), &old).unwrap();
             fs::write(place("new"), &new).unwrap();
             let ours = diff(&old, &new);
-            let theirs = Command::new("diff").args(["-u", "-d", "a.rs", "new"]).current_dir(&folder.0).output().unwrap();
-            let changed = |diff: &str| diff.lines().skip(2).filter(|line| line.starts_with(['-', '+'])).count();
-            assert_eq!(changed(&ours), changed(&String::from_utf8(theirs.stdout).unwrap()));
+            let theirs = Command::new("diff")
+                .args(["-u", "-d", "a.rs", "new"])
+                .current_dir(&folder.0)
+                .output()
+                .unwrap();
+            let changed = |diff: &str| {
+                diff.lines()
+                    .skip(2)
+                    .filter(|line| line.starts_with(['-', '+']))
+                    .count()
+            };
+            assert_eq!(
+                changed(&ours),
+                changed(&String::from_utf8(theirs.stdout).unwrap())
+            );
             fs::write(place("diff"), &ours).unwrap();
-            let run = Command::new("patch").args(["-s", "-p0", "-i", "diff"]).current_dir(&folder.0).status().unwrap();
+            let run = Command::new("patch")
+                .args(["-s", "-p0", "-i", "diff"])
+                .current_dir(&folder.0)
+                .status()
+                .unwrap();
             assert!(run.success() || ours.is_empty());
             // `patch` removes a file that becomes empty.
             assert_eq!(fs::read_to_string(place("a.rs")).unwrap_or_default(), new);

@@ -1,4 +1,5 @@
-//! The front that people and generators expect of a formatter: rustfmt's words, files in place, and diffs. It formats by the crate's call.
+//! The front that people and generators expect of a formatter: rustfmt's words, files in place, and
+//! diffs. It formats by the crate's call.
 #![forbid(unsafe_code)]
 mod diff;
 mod replace;
@@ -6,7 +7,7 @@ mod words;
 
 use diff::{bytes, unified};
 use froesaffron::format_bytes;
-use replace::{Replaced, folder, replace, sweep};
+use replace::{folder, replace, sweep, Replaced};
 use std::collections::HashSet;
 use std::env;
 use std::ffi::OsStr;
@@ -26,18 +27,25 @@ const STANDARD_INPUT: &str = "<stdin>";
 /// So often a file is begun anew that is changed by others while it is formatted.
 const TRIES: usize = 16;
 
-/// 0, or 1 where a file differs or anything failed. No other status is given: bindgen takes what is written with 3 as formatted.
+/// 0, or 1 where a file differs or anything failed. No other status is given: bindgen takes what is
+/// written with 3 as formatted.
 fn main() -> ExitCode {
     let done = match words::read(env::args_os().skip(1)) {
         Ok(Task::Help) => print(HELP.as_bytes()),
         Ok(Task::Version) => print(format!("{NAME} {VERSION}\n").as_bytes()),
         Ok(Task::Format(words)) => Run::new(words).run(),
         Err(fault) => {
-            tell(format_args!("{NAME}: {fault} ({NAME} --help tells the words)"));
+            tell(format_args!(
+                "{NAME}: {fault} ({NAME} --help tells the words)"
+            ));
             false
         }
     };
-    if done { ExitCode::SUCCESS } else { ExitCode::FAILURE }
+    if done {
+        ExitCode::SUCCESS
+    } else {
+        ExitCode::FAILURE
+    }
 }
 
 /// Writes a line to standard error. Where that fails the status still tells.
@@ -45,7 +53,8 @@ fn tell(line: impl Display) {
     let _ = io::stderr().write_all(format!("{line}\n").as_bytes());
 }
 
-/// Writes to standard output, and answers whether it was written. A pipe that its reader has closed is no fault to tell of.
+/// Writes to standard output, and answers whether it was written. A pipe that its reader has closed
+/// is no fault to tell of.
 fn print(text: &[u8]) -> bool {
     let mut out = io::stdout().lock();
     match out.write_all(text).and_then(|()| out.flush()) {
@@ -91,12 +100,19 @@ struct Cause<'a>(&'a io::Error);
 impl Display for Cause<'_> {
     fn fmt(&self, out: &mut fmt::Formatter<'_>) -> fmt::Result {
         let text = self.0.to_string();
-        let number = self.0.raw_os_error().map(|number| format!(" (os error {number})"));
-        out.write_str(text.strip_suffix(&number.unwrap_or_default()).unwrap_or(&text))
+        let number = self
+            .0
+            .raw_os_error()
+            .map(|number| format!(" (os error {number})"));
+        out.write_str(
+            text.strip_suffix(&number.unwrap_or_default())
+                .unwrap_or(&text),
+        )
     }
 }
 
-/// Tells why an input isn't formatted: `NAME:LINE:COLUMN: CAUSE`, or `NAME: CAUSE` where the cause has no place.
+/// Tells why an input isn't formatted: `NAME:LINE:COLUMN: CAUSE`, or `NAME: CAUSE` where the cause
+/// has no place.
 fn tell_fault(name: &OsStr, fault: &Fault) {
     let name = name.to_string_lossy();
     match fault {
@@ -106,10 +122,14 @@ fn tell_fault(name: &OsStr, fault: &Fault) {
         Fault::Unwritten(error) => tell(format_args!("{name}: not written: {}", Cause(error))),
         Fault::Folder => {
             let all = format!("find {name} -name '*.rs' -exec {NAME} {{}} +");
-            tell(format_args!("{name}: is a folder; its files are formatted by: {all}"))
+            tell(format_args!(
+                "{name}: is a folder; its files are formatted by: {all}"
+            ))
         }
         Fault::NoFile => tell(format_args!("{name}: not written: is no regular file")),
-        Fault::Changing => tell(format_args!("{name}: not written: others change it meanwhile")),
+        Fault::Changing => tell(format_args!(
+            "{name}: not written: others change it meanwhile"
+        )),
         Fault::Unprinted => {}
     }
 }
@@ -123,10 +143,14 @@ struct Run {
 
 impl Run {
     fn new(words: Words) -> Run {
-        Run { words, swept: HashSet::new() }
+        Run {
+            words,
+            swept: HashSet::new(),
+        }
     }
 
-    /// Formats each input, and goes on after one that failed. The answer is whether none failed and none differs.
+    /// Formats each input, and goes on after one that failed. The answer is whether none failed and
+    /// none differs.
     fn run(mut self) -> bool {
         for option in &self.words.unused {
             self.note(format_args!("{NAME}: {option} has no effect"));
@@ -163,7 +187,10 @@ impl Run {
     /// Standard input, which is written to standard output or checked.
     fn standard(&self) -> Result<Came, Fault> {
         let mut source = Vec::new();
-        io::stdin().lock().read_to_end(&mut source).map_err(Fault::Unread)?;
+        io::stdin()
+            .lock()
+            .read_to_end(&mut source)
+            .map_err(Fault::Unread)?;
         let text = format_bytes(&source).map_err(Fault::Refused)?;
         match self.words.mode {
             Mode::Files | Mode::Stdout => printed(&text),
@@ -178,7 +205,11 @@ impl Run {
             return Err(Fault::Folder);
         }
         if self.words.mode == Mode::Files {
-            return if found.is_file() { self.in_place(path) } else { Err(Fault::NoFile) };
+            return if found.is_file() {
+                self.in_place(path)
+            } else {
+                Err(Fault::NoFile)
+            };
         }
         let (source, _) = read(path).map_err(Fault::Unread)?;
         let text = format_bytes(&source).map_err(Fault::Refused)?;
@@ -191,7 +222,8 @@ impl Run {
         printed(&text)
     }
 
-    /// Writes the text of a file in the file's place, by its own path where links lead to it. One that is formatted isn't written.
+    /// Writes the text of a file in the file's place, by its own path where links lead to it. One
+    /// that is formatted isn't written.
     fn in_place(&mut self, path: &Path) -> Result<Came, Fault> {
         let own = fs::canonicalize(path).map_err(Fault::Unread)?;
         if self.swept.insert(folder(&own).to_path_buf()) {
@@ -206,7 +238,11 @@ impl Run {
             }
             if replace(&own, &found, &text).map_err(Fault::Unwritten)? == Replaced::Done {
                 self.note(format_args!("{}: written", path.display()));
-                return if self.words.names { print_name(path.as_os_str()) } else { Ok(Came::Formatted) };
+                return if self.words.names {
+                    print_name(path.as_os_str())
+                } else {
+                    Ok(Came::Formatted)
+                };
             }
         }
         Err(Fault::Changing)
@@ -241,7 +277,11 @@ fn read(path: &Path) -> io::Result<(Vec<u8>, Metadata)> {
 
 /// Prints what is all that is wanted of an input.
 fn printed(text: &[u8]) -> Result<Came, Fault> {
-    if print(text) { Ok(Came::Formatted) } else { Err(Fault::Unprinted) }
+    if print(text) {
+        Ok(Came::Formatted)
+    } else {
+        Err(Fault::Unprinted)
+    }
 }
 
 fn print_name(name: &OsStr) -> Result<Came, Fault> {

@@ -1,13 +1,17 @@
-//! Another text in the place of a file, so that at each moment the file is the old one or the new one, whatever fails.
+//! Another text in the place of a file, so that at each moment the file is the old one or the new
+//! one, whatever fails.
 //!
-//! The text is written to a temporary file of the same folder, which gets the owner and the permissions of the file, is handed to the disk, and
-//! is then renamed over the file. A run that is killed leaves its temporary file behind; the next one that writes in the folder removes it.
-//! It is told by its name, `.froesaffron-PID-START-RANDOM.tmp`: the number of the process that made it, when that process was started, and a
-//! number that makes the name one of its own. Where no process has this number and this start, nobody writes to it any more.
+//! The text is written to a temporary file of the same folder, which gets the owner and the
+//! permissions of the file, is handed to the disk, and is then renamed over the file. A run that is
+//! killed leaves its temporary file behind; the next one that writes in the folder removes it. It
+//! is told by its name, `.froesaffron-PID-START-RANDOM.tmp`: the number of the process that made
+//! it, when that process was started, and a number that makes the name one of its own. Where no
+//! process has this number and this start, nobody writes to it any more.
 //!
-//! Two runs at once don't disturb each other: a run writes to no file that it hasn't made itself, and renames none that it hasn't written. One
-//! that can't see the other's process, as behind the wall of a container, may remove what the other writes. That one then finds its temporary
-//! file gone, and begins anew.
+//! Two runs at once don't disturb each other: a run writes to no file that it hasn't made itself,
+//! and renames none that it hasn't written. One that can't see the other's process, as behind the
+//! wall of a container, may remove what the other writes. That one then finds its temporary file
+//! gone, and begins anew.
 use std::collections::hash_map::RandomState;
 use std::ffi::OsStr;
 use std::fs::{self, File, Metadata, OpenOptions};
@@ -19,7 +23,8 @@ use std::time::{Duration, SystemTime};
 
 const PREFIX: &str = ".froesaffron-";
 const SUFFIX: &str = ".tmp";
-/// Where the system doesn't tell which processes there are, a temporary file is left behind that is older than this.
+/// Where the system doesn't tell which processes there are, a temporary file is left behind that is
+/// older than this.
 const LEFT_AFTER: Duration = Duration::from_secs(3600);
 
 /// What came of it.
@@ -27,24 +32,29 @@ const LEFT_AFTER: Duration = Duration::from_secs(3600);
 pub enum Replaced {
     /// The file has the new text.
     Done,
-    /// The file isn't the one that was read any more, or the temporary file was taken away. Nothing was changed.
+    /// The file isn't the one that was read any more, or the temporary file was taken away. Nothing
+    /// was changed.
     Disturbed,
 }
 
-/// Puts a text in the place of a file, by the file's own path and not by a link to it. `read` is what the system said of the file when it was
-/// read. Where it fails the file is as it was.
+/// Puts a text in the place of a file, by the file's own path and not by a link to it. `read` is
+/// what the system said of the file when it was read. Where it fails the file is as it was.
 pub fn replace(path: &Path, read: &Metadata, text: &[u8]) -> io::Result<Replaced> {
-    // Whoever may not write to the file doesn't get to replace it, though the folder would let them.
+    // Whoever may not write to the file doesn't get to replace it, though the folder would let
+    // them.
     OpenOptions::new().write(true).open(path)?;
     let temporary = Temporary::write(folder(path), read, text)?;
     if !is_same(read, &fs::metadata(path)?) {
         return Ok(Replaced::Disturbed);
     }
     match temporary.rename(path) {
-        Err(error) if error.kind() == ErrorKind::NotFound && path.exists() => return Ok(Replaced::Disturbed),
+        Err(error) if error.kind() == ErrorKind::NotFound && path.exists() => {
+            return Ok(Replaced::Disturbed)
+        }
         renamed => renamed?,
     }
-    // The file is whole without this, and some systems can't do it: it hastens the new name's way to the disk.
+    // The file is whole without this, and some systems can't do it: it hastens the new name's way
+    // to the disk.
     let _ = File::open(folder(path)).and_then(|folder| folder.sync_all());
     Ok(Replaced::Done)
 }
@@ -57,12 +67,19 @@ pub fn folder(path: &Path) -> &Path {
     }
 }
 
-/// Removes from a folder the temporary files that runs left behind which were killed. What can't be removed stays.
+/// Removes from a folder the temporary files that runs left behind which were killed. What can't be
+/// removed stays.
 pub fn sweep(folder: &Path) {
-    let Ok(entries) = fs::read_dir(folder) else { return };
+    let Ok(entries) = fs::read_dir(folder) else {
+        return;
+    };
     for entry in entries.flatten() {
-        let Some(maker) = Maker::of(&entry.file_name()) else { continue };
-        let Ok(found) = entry.metadata() else { continue };
+        let Some(maker) = Maker::of(&entry.file_name()) else {
+            continue;
+        };
+        let Ok(found) = entry.metadata() else {
+            continue;
+        };
         if found.is_file() && maker.is_gone().unwrap_or_else(|| is_old(&found)) {
             let _ = fs::remove_file(entry.path());
         }
@@ -70,18 +87,22 @@ pub fn sweep(folder: &Path) {
 }
 
 fn is_old(found: &Metadata) -> bool {
-    let Ok(then) = found.modified() else { return false };
+    let Ok(then) = found.modified() else {
+        return false;
+    };
     SystemTime::now().duration_since(then).unwrap_or_default() > LEFT_AFTER
 }
 
-/// A temporary file with its whole text, which is removed when it is dropped, unless it was renamed.
+/// A temporary file with its whole text, which is removed when it is dropped, unless it was
+/// renamed.
 struct Temporary {
     path: PathBuf,
     renamed: bool,
 }
 
 impl Temporary {
-    /// Writes a text to a file that wasn't there, with the owner and the permissions of the one that was read, and hands it to the disk.
+    /// Writes a text to a file that wasn't there, with the owner and the permissions of the one
+    /// that was read, and hands it to the disk.
     fn write(folder: &Path, read: &Metadata, text: &[u8]) -> io::Result<Temporary> {
         let mut options = OpenOptions::new();
         options.write(true).create_new(true);
@@ -89,7 +110,10 @@ impl Temporary {
         std::os::unix::fs::OpenOptionsExt::mode(&mut options, 0o600);
         let path = folder.join(Maker::this().name());
         let mut file = options.open(&path)?;
-        let temporary = Temporary { path, renamed: false };
+        let temporary = Temporary {
+            path,
+            renamed: false,
+        };
         file.write_all(text)?;
         keep_access(&file, read)?;
         file.sync_all()?;
@@ -114,7 +138,7 @@ impl Drop for Temporary {
 /// Gives a file the owner, the group and the permissions of another.
 #[cfg(unix)]
 fn keep_access(file: &File, read: &Metadata) -> io::Result<()> {
-    use std::os::unix::fs::{MetadataExt, fchown};
+    use std::os::unix::fs::{fchown, MetadataExt};
     let made = file.metadata()?;
     if (made.uid(), made.gid()) != (read.uid(), read.gid()) {
         fchown(file, Some(read.uid()), Some(read.gid()))?;
@@ -127,7 +151,8 @@ fn keep_access(file: &File, read: &Metadata) -> io::Result<()> {
     file.set_permissions(read.permissions())
 }
 
-/// Whether a file is the one that was read, and nobody has written to it since, as far as the system's clock tells.
+/// Whether a file is the one that was read, and nobody has written to it since, as far as the
+/// system's clock tells.
 #[cfg(unix)]
 fn is_same(read: &Metadata, found: &Metadata) -> bool {
     use std::os::unix::fs::MetadataExt;
@@ -141,7 +166,8 @@ fn is_same(read: &Metadata, found: &Metadata) -> bool {
     read.len() == found.len() && read.modified().ok() == found.modified().ok()
 }
 
-/// The process that makes a temporary file: its number, and when it was started, by a clock of the system; 0 where the system doesn't tell.
+/// The process that makes a temporary file: its number, and when it was started, by a clock of the
+/// system; 0 where the system doesn't tell.
 #[derive(Debug, PartialEq, Eq)]
 struct Maker {
     process: u32,
@@ -151,14 +177,20 @@ struct Maker {
 impl Maker {
     fn this() -> Maker {
         let process = process::id();
-        Maker { process, start: start(process).unwrap_or(0) }
+        Maker {
+            process,
+            start: start(process).unwrap_or(0),
+        }
     }
 
     /// A name for a temporary file that none has.
     fn name(&self) -> String {
         // The keys of a hash are drawn by the system.
         let random = RandomState::new().build_hasher().finish();
-        format!("{PREFIX}{}-{}-{random:016x}{SUFFIX}", self.process, self.start)
+        format!(
+            "{PREFIX}{}-{}-{random:016x}{SUFFIX}",
+            self.process, self.start
+        )
     }
 
     /// The maker of the temporary file with this name, if it is one.
@@ -167,7 +199,10 @@ impl Maker {
         let mut parts = inner.split('-');
         let (process, start, random) = (parts.next()?, parts.next()?, parts.next()?);
         let is_random = random.len() == 16 && random.bytes().all(|byte| byte.is_ascii_hexdigit());
-        let maker = Maker { process: process.parse().ok()?, start: start.parse().ok()? };
+        let maker = Maker {
+            process: process.parse().ok()?,
+            start: start.parse().ok()?,
+        };
         (is_random && parts.next().is_none()).then_some(maker)
     }
 
@@ -178,10 +213,12 @@ impl Maker {
     }
 }
 
-/// When a process was started, in ticks since the system was. None where the process isn't there or has ended, or where there is no `/proc`.
+/// When a process was started, in ticks since the system was. None where the process isn't there or
+/// has ended, or where there is no `/proc`.
 fn start(process: u32) -> Option<u64> {
     let stat = fs::read_to_string(format!("/proc/{process}/stat")).ok()?;
-    // The second field is the program's name in parentheses, which may hold anything. The third is the state, the 22nd the start.
+    // The second field is the program's name in parentheses, which may hold anything. The third is
+    // the state, the 22nd the start.
     let (_, fields) = stat.rsplit_once(") ")?;
     let mut fields = fields.split(' ');
     let state = fields.next()?;
@@ -221,7 +258,21 @@ mod tests {
         let this = Maker::this();
         assert!(this.start > 0);
         assert_eq!(this.is_gone(), Some(false));
-        assert_eq!(Maker { start: this.start + 1, ..this }.is_gone(), Some(true));
-        assert_eq!(Maker { process: this.process, start: 0 }.is_gone(), None);
+        assert_eq!(
+            Maker {
+                start: this.start + 1,
+                ..this
+            }
+            .is_gone(),
+            Some(true)
+        );
+        assert_eq!(
+            Maker {
+                process: this.process,
+                start: 0
+            }
+            .is_gone(),
+            None
+        );
     }
 }

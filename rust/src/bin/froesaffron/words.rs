@@ -65,22 +65,70 @@ enum Value {
 }
 
 const CHOICES: [Choice; 12] = [
-    Choice { letter: None, name: "check", value: Value::Never },
-    Choice { letter: None, name: "emit", value: Value::Once },
-    Choice { letter: None, name: "edition", value: Value::Once },
-    Choice { letter: None, name: "style-edition", value: Value::Once },
-    Choice { letter: None, name: "color", value: Value::Once },
-    Choice { letter: None, name: "config-path", value: Value::Once },
-    Choice { letter: None, name: "config", value: Value::Often },
-    Choice { letter: Some('l'), name: "files-with-diff", value: Value::Never },
-    Choice { letter: Some('v'), name: "verbose", value: Value::Never },
-    Choice { letter: Some('q'), name: "quiet", value: Value::Never },
-    Choice { letter: Some('V'), name: "version", value: Value::Never },
-    Choice { letter: Some('h'), name: "help", value: Value::Maybe },
+    Choice {
+        letter: None,
+        name: "check",
+        value: Value::Never,
+    },
+    Choice {
+        letter: None,
+        name: "emit",
+        value: Value::Once,
+    },
+    Choice {
+        letter: None,
+        name: "edition",
+        value: Value::Once,
+    },
+    Choice {
+        letter: None,
+        name: "style-edition",
+        value: Value::Once,
+    },
+    Choice {
+        letter: None,
+        name: "color",
+        value: Value::Once,
+    },
+    Choice {
+        letter: None,
+        name: "config-path",
+        value: Value::Once,
+    },
+    Choice {
+        letter: None,
+        name: "config",
+        value: Value::Often,
+    },
+    Choice {
+        letter: Some('l'),
+        name: "files-with-diff",
+        value: Value::Never,
+    },
+    Choice {
+        letter: Some('v'),
+        name: "verbose",
+        value: Value::Never,
+    },
+    Choice {
+        letter: Some('q'),
+        name: "quiet",
+        value: Value::Never,
+    },
+    Choice {
+        letter: Some('V'),
+        name: "version",
+        value: Value::Never,
+    },
+    Choice {
+        letter: Some('h'),
+        name: "help",
+        value: Value::Maybe,
+    },
 ];
 
-/// Reads the words behind the program's name, or says what is wrong with them. Help is given where it is asked for in words that are right,
-/// and before the version.
+/// Reads the words behind the program's name, or says what is wrong with them. Help is given where
+/// it is asked for in words that are right, and before the version.
 pub fn read(words: impl IntoIterator<Item = OsString>) -> Result<Task, String> {
     let given = Given::read(words.into_iter())?;
     if given.has("help") {
@@ -95,7 +143,9 @@ pub fn read(words: impl IntoIterator<Item = OsString>) -> Result<Task, String> {
     given.one_of("color", &["always", "never", "auto"])?;
     let emit = given.one_of("emit", &["files", "stdout"])?;
     let mode = match emit {
-        Some(_) if given.has("check") => return Err("--emit and --check exclude each other".to_string()),
+        Some(_) if given.has("check") => {
+            return Err("--emit and --check exclude each other".to_string())
+        }
         _ if given.has("check") => Mode::Check,
         Some("stdout") => Mode::Stdout,
         _ => Mode::Files,
@@ -104,7 +154,11 @@ pub fn read(words: impl IntoIterator<Item = OsString>) -> Result<Task, String> {
     if quiet && verbose {
         return Err("--quiet and --verbose exclude each other".to_string());
     }
-    let standard = given.inputs.iter().filter(|input| **input == Input::Standard).count();
+    let standard = given
+        .inputs
+        .iter()
+        .filter(|input| **input == Input::Standard)
+        .count();
     if emit == Some("files") && (given.inputs.is_empty() || standard > 0) {
         return Err("--emit files: standard input is no file".to_string());
     }
@@ -114,8 +168,20 @@ pub fn read(words: impl IntoIterator<Item = OsString>) -> Result<Task, String> {
     let names = given.has("files-with-diff");
     let headings = mode == Mode::Stdout && given.inputs.len() > 1 && !quiet;
     let unused = given.unused();
-    let inputs = if given.inputs.is_empty() { vec![Input::Standard] } else { given.inputs };
-    Ok(Task::Format(Words { inputs, mode, names, quiet, headings, verbose, unused }))
+    let inputs = if given.inputs.is_empty() {
+        vec![Input::Standard]
+    } else {
+        given.inputs
+    };
+    Ok(Task::Format(Words {
+        inputs,
+        mode,
+        names,
+        quiet,
+        headings,
+        verbose,
+        unused,
+    }))
 }
 
 /// The options that were given, with their values, and the inputs.
@@ -127,7 +193,10 @@ struct Given {
 impl Given {
     /// Sorts the words. Behind `--` all are inputs, and `-` is one everywhere.
     fn read(mut words: impl Iterator<Item = OsString>) -> Result<Given, String> {
-        let mut given = Given { options: Vec::new(), inputs: Vec::new() };
+        let mut given = Given {
+            options: Vec::new(),
+            inputs: Vec::new(),
+        };
         let mut options_end = false;
         while let Some(word) = words.next() {
             let text = word.to_string_lossy().into_owned();
@@ -149,10 +218,18 @@ impl Given {
         Ok(given)
     }
 
-    /// An option by its name and what may stand behind it, `=` and a value; else the value is the next word.
-    fn long(&mut self, text: &str, words: &mut impl Iterator<Item = OsString>) -> Result<(), String> {
-        let (name, behind) = text.split_once('=').map_or((text, None), |(name, value)| (name, Some(value.to_string())));
-        let choice = find(|choice| choice.name == name).ok_or(format!("no such option: --{name}"))?;
+    /// An option by its name and what may stand behind it, `=` and a value; else the value is the
+    /// next word.
+    fn long(
+        &mut self,
+        text: &str,
+        words: &mut impl Iterator<Item = OsString>,
+    ) -> Result<(), String> {
+        let (name, behind) = text.split_once('=').map_or((text, None), |(name, value)| {
+            (name, Some(value.to_string()))
+        });
+        let choice =
+            find(|choice| choice.name == name).ok_or(format!("no such option: --{name}"))?;
         let value = match (&choice.value, behind) {
             (Value::Never, Some(_)) => return Err(format!("--{name} takes no value")),
             (Value::Once | Value::Often, None) => {
@@ -183,14 +260,20 @@ impl Given {
         };
         match values.iter().find(|value| given == *value) {
             Some(value) => Ok(Some(*value)),
-            None => Err(format!("--{name} is one of {}, not {given}", values.join(", "))),
+            None => Err(format!(
+                "--{name} is one of {}, not {given}",
+                values.join(", ")
+            )),
         }
     }
 
     /// The options that are taken for the sake of callers, and change nothing.
     fn unused(&self) -> Vec<String> {
         let without_effect = ["edition", "style-edition", "color", "config-path", "config"];
-        let given = self.options.iter().filter(|(name, _)| without_effect.contains(name));
+        let given = self
+            .options
+            .iter()
+            .filter(|(name, _)| without_effect.contains(name));
         given
             .map(|(name, value)| match value {
                 Some(value) => format!("--{name} {value}"),
@@ -225,11 +308,25 @@ mod tests {
 
     #[test]
     fn inputs_and_options_stand_in_any_order() {
-        assert_eq!(format(&[]), Words { inputs: vec![Input::Standard], ..Words::default() });
+        assert_eq!(
+            format(&[]),
+            Words {
+                inputs: vec![Input::Standard],
+                ..Words::default()
+            }
+        );
         let words = format(&["a", "--edition", "2021", "b", "--check", "--", "-q", "--"]);
         let inputs = vec![file("a"), file("b"), file("-q"), file("--")];
         let unused = vec!["--edition 2021".to_string()];
-        assert_eq!(words, Words { inputs, mode: Mode::Check, unused, ..Words::default() });
+        assert_eq!(
+            words,
+            Words {
+                inputs,
+                mode: Mode::Check,
+                unused,
+                ..Words::default()
+            }
+        );
         assert_eq!(format(&["--", "-"]).inputs, [Input::Standard]);
     }
 
@@ -237,7 +334,10 @@ mod tests {
     fn a_value_stands_behind_a_sign_or_next() {
         assert_eq!(format(&["--emit=stdout"]).mode, Mode::Stdout);
         assert_eq!(format(&["--emit", "stdout"]).mode, Mode::Stdout);
-        assert_eq!(format(&["--config-path", "-q", "--config=a=b"]).unused, ["--config-path -q", "--config a=b"]);
+        assert_eq!(
+            format(&["--config-path", "-q", "--config=a=b"]).unused,
+            ["--config-path -q", "--config a=b"]
+        );
     }
 
     #[test]
@@ -250,7 +350,13 @@ mod tests {
 
     #[test]
     fn wrong_words_are_refused_before_help() {
-        assert_eq!(read_all(&["--help", "--bogus"]), Err("no such option: --bogus".to_string()));
-        assert_eq!(read_all(&["-h", "--help"]), Err("--help is given more than once".to_string()));
+        assert_eq!(
+            read_all(&["--help", "--bogus"]),
+            Err("no such option: --bogus".to_string())
+        );
+        assert_eq!(
+            read_all(&["-h", "--help"]),
+            Err("--help is given more than once".to_string())
+        );
     }
 }
