@@ -1,16 +1,18 @@
-//! Tells the crate whether `core` has the trait `Error`, as it has since Rust 1.81. Before that
-//! only `std` has it.
+//! Tells the crate what the compiler's library has: `core_error`, the trait `Error` in `core`, which
+//! before only `std` has; and `fchown`, by which a file is given to another user.
 use std::process::Command;
 use std::{env, str};
 
-/// The first Rust 1 with `core::error::Error`.
-const FIRST: u32 = 81;
+/// What is told, and the first Rust 1 that has it.
+const FIRST: [(&str, u32); 2] = [("core_error", 81), ("fchown", 73)];
 
 fn main() {
     println!("cargo:rerun-if-changed=build.rs");
-    println!("cargo:rustc-check-cfg=cfg(core_error)");
-    if minor_version().map_or(false, |minor| minor >= FIRST) {
-        println!("cargo:rustc-cfg=core_error");
+    for (name, first) in FIRST {
+        println!("cargo:rustc-check-cfg=cfg({name})");
+        if minor_version() >= Some(first) {
+            println!("cargo:rustc-cfg={name}");
+        }
     }
 }
 
@@ -18,5 +20,11 @@ fn main() {
 fn minor_version() -> Option<u32> {
     let rustc = env::var_os("RUSTC")?;
     let said = Command::new(rustc).arg("--version").output().ok()?.stdout;
-    str::from_utf8(&said).ok()?.strip_prefix("rustc 1.")?.split('.').next()?.parse().ok()
+    str::from_utf8(&said)
+        .ok()?
+        .strip_prefix("rustc 1.")?
+        .split('.')
+        .next()?
+        .parse()
+        .ok()
 }

@@ -70,15 +70,11 @@ pub fn folder(path: &Path) -> &Path {
 /// Removes from a folder the temporary files that runs left behind which were killed. What can't be
 /// removed stays.
 pub fn sweep(folder: &Path) {
-    let Ok(entries) = fs::read_dir(folder) else {
-        return;
-    };
-    for entry in entries.flatten() {
-        let Some(maker) = Maker::of(&entry.file_name()) else {
-            continue;
-        };
-        let Ok(found) = entry.metadata() else {
-            continue;
+    // Of what can't be read nothing is known, and so nothing is removed.
+    for entry in fs::read_dir(folder).into_iter().flatten().flatten() {
+        let (maker, found) = match (Maker::of(&entry.file_name()), entry.metadata()) {
+            (Some(maker), Ok(found)) => (maker, found),
+            _ => continue,
         };
         if found.is_file() && maker.is_gone().unwrap_or_else(|| is_old(&found)) {
             let _ = fs::remove_file(entry.path());
@@ -87,10 +83,10 @@ pub fn sweep(folder: &Path) {
 }
 
 fn is_old(found: &Metadata) -> bool {
-    let Ok(then) = found.modified() else {
-        return false;
-    };
-    SystemTime::now().duration_since(then).unwrap_or_default() > LEFT_AFTER
+    match found.modified() {
+        Ok(then) => SystemTime::now().duration_since(then).unwrap_or_default() > LEFT_AFTER,
+        Err(_) => false,
+    }
 }
 
 /// A temporary file with its whole text, which is removed when it is dropped, unless it was
@@ -138,10 +134,10 @@ impl Drop for Temporary {
 /// Gives a file the owner, the group and the permissions of another.
 #[cfg(unix)]
 fn keep_access(file: &File, read: &Metadata) -> io::Result<()> {
-    use std::os::unix::fs::{fchown, MetadataExt};
+    use std::os::unix::fs::MetadataExt;
     let made = file.metadata()?;
     if (made.uid(), made.gid()) != (read.uid(), read.gid()) {
-        fchown(file, Some(read.uid()), Some(read.gid()))?;
+        give(file, read.uid(), read.gid())?;
     }
     file.set_permissions(read.permissions())
 }
@@ -149,6 +145,17 @@ fn keep_access(file: &File, read: &Metadata) -> io::Result<()> {
 #[cfg(not(unix))]
 fn keep_access(file: &File, read: &Metadata) -> io::Result<()> {
     file.set_permissions(read.permissions())
+}
+
+#[cfg(all(unix, fchown))]
+fn give(file: &File, owner: u32, group: u32) -> io::Result<()> {
+    std::os::unix::fs::fchown(file, Some(owner), Some(group))
+}
+
+/// Before Rust 1.73 no file is given to another, and so another's file isn't replaced.
+#[cfg(all(unix, not(fchown)))]
+fn give(_: &File, _: u32, _: u32) -> io::Result<()> {
+    Err(io::Error::from(ErrorKind::PermissionDenied))
 }
 
 /// Whether a file is the one that was read, and nobody has written to it since, as far as the

@@ -255,8 +255,9 @@ impl Given {
 
     /// The value of an option, if it was given, which has to be one of these.
     fn one_of(&self, name: &str, values: &[&'static str]) -> Result<Option<&'static str>, String> {
-        let Some((_, Some(given))) = self.options.iter().find(|(option, _)| *option == name) else {
-            return Ok(None);
+        let given = match self.options.iter().find(|(option, _)| *option == name) {
+            Some((_, Some(given))) => given,
+            _ => return Ok(None),
         };
         match values.iter().find(|value| given == *value) {
             Some(value) => Ok(Some(*value)),
