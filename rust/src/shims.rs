@@ -21,8 +21,8 @@ pub struct AllocFailed<T> {
     pub value: T,
 }
 
-/// A vector.
-#[derive(Debug)]
+/// A vector. Its clone ends the program where memory isn't found, as that of Rust's own does.
+#[derive(Clone, Debug, PartialEq, Eq)]
 pub struct Vec<T>(alloc::vec::Vec<T>);
 
 impl<T> Vec<T> {
@@ -198,7 +198,8 @@ impl<T> DerefMut for Vec<T> {
 }
 
 /// A box. Rust's own has no stable call that answers want of memory, but a boxed array of one item is had from a vector.
-#[derive(Debug)]
+/// Its clone ends the program where memory isn't found.
+#[derive(Clone, Debug, PartialEq, Eq)]
 pub struct Box<T>(alloc::boxed::Box<[T; 1]>);
 
 impl<T> Box<T> {
@@ -238,8 +239,8 @@ impl<T> DerefMut for Box<T> {
 }
 
 /// A list of bytes, of which up to `N` stand in the value itself. More of them stand in a vector, which is boxed: so with room for 22 it takes
-/// 24 bytes.
-#[derive(Debug)]
+/// 24 bytes. Its clone ends the program where memory isn't found.
+#[derive(Clone, Debug)]
 pub enum SmallVec<T, const N: usize> {
     Inline { length: u8, items: [T; N] },
     Heap(Box<Vec<T>>),
@@ -317,6 +318,15 @@ impl<const N: usize> SmallVec<u8, N> {
         Ok(())
     }
 }
+
+/// Lists of the same bytes are equal, wherever these stand.
+impl<const N: usize> PartialEq for SmallVec<u8, N> {
+    fn eq(&self, other: &Self) -> bool {
+        self.as_slice() == other.as_slice()
+    }
+}
+
+impl<const N: usize> Eq for SmallVec<u8, N> {}
 
 /// A queue that holds as many items as it has room for, and grows only where it is told to.
 #[derive(Debug)]

@@ -2,75 +2,58 @@
 mod draws;
 
 use draws::Draw;
-use froesaffron::build::*;
+use froesaffron::build::{self, raw, *};
+use froesaffron::tree::Global;
 use froesaffron::{Cause, format, unparse};
 
-/// A list of these items.
-fn list<T>(items: impl IntoIterator<Item = T>) -> List<T> {
-    let mut list = List::new(Global);
-    for item in items {
-        assert!(list.push(item).is_ok());
-    }
-    list
-}
-
 fn named(text: &str) -> BuiltName {
-    name(Global, text.as_bytes()).unwrap()
-}
-
-/// The names of a path, the first by itself.
-fn segments(path: &str) -> (BuiltName, List<BuiltName>) {
-    let (first, rest) = path.split_once("::").unwrap_or((path, ""));
-    (named(first), list(rest.split("::").filter(|it| !it.is_empty()).map(named)))
+    name(text).unwrap()
 }
 
 fn ty(path: &str) -> BuiltType {
-    type_with(path, [])
+    build::ty(path).unwrap()
 }
 
 fn type_with(path: &str, args: impl IntoIterator<Item = BuiltType>) -> BuiltType {
-    let (first, rest) = segments(path);
-    type_path(Global, first, rest, list(args)).unwrap()
+    type_path(path, args).unwrap()
 }
 
 fn path(path: &str) -> BuiltExpr {
-    let (first, rest) = segments(path);
-    expr_path(Global, first, rest).unwrap()
+    expr_path(path).unwrap()
 }
 
 fn int(value: u128) -> BuiltExpr {
-    expr_int(Global, value).unwrap()
+    expr_int(value).unwrap()
 }
 
 fn binary(op: Op, left: BuiltExpr, right: BuiltExpr) -> BuiltExpr {
-    expr_binary(Global, op, left, right).unwrap()
+    expr_binary(op, left, right).unwrap()
 }
 
 fn with_field(base: BuiltExpr, field: &str) -> BuiltExpr {
-    expr_field(Global, base, named(field)).unwrap()
+    expr_field(base, named(field)).unwrap()
 }
 
 fn method(base: BuiltExpr, method: &str, args: impl IntoIterator<Item = BuiltExpr>) -> BuiltExpr {
-    expr_method(Global, base, named(method), list(args)).unwrap()
+    expr_method(base, named(method), args).unwrap()
 }
 
 fn call(base: BuiltExpr, args: impl IntoIterator<Item = BuiltExpr>) -> BuiltExpr {
-    expr_call(Global, base, list(args)).unwrap()
+    expr_call(base, args).unwrap()
 }
 
 /// A struct literal with one field.
 fn literal(name: &str, field_name: &str, value: BuiltExpr) -> BuiltExpr {
-    let (first, rest) = segments(name);
-    expr_struct(Global, first, rest, list([field(named(field_name), value).unwrap()])).unwrap()
+    expr_struct(name, [field(field_name, value).unwrap()]).unwrap()
 }
 
 /// A struct literal without fields.
 fn empty_literal() -> BuiltExpr {
-    expr_struct(Global, named("S"), list([]), list([])).unwrap()
+    expr_struct("S", []).unwrap()
 }
 
 fn body(stmts: impl IntoIterator<Item = BuiltStmt>, tail: Option<BuiltExpr>) -> BuiltBlock {
-    block(Global, list(stmts), tail).unwrap()
+    block(stmts, tail).unwrap()
 }
 
 fn empty() -> BuiltBlock {
@@ -78,24 +61,24 @@ fn empty() -> BuiltBlock {
 }
 
 fn if_of(test: BuiltExpr) -> BuiltExpr {
-    expr_if(Global, test, empty(), None).unwrap()
+    expr_if(test, empty(), None).unwrap()
 }
 
 fn constant(ty: BuiltType, value: BuiltExpr) -> BuiltItem {
-    item_const(Global, false, named("A"), ty, value).unwrap()
+    item_const(false, "A", ty, value).unwrap()
 }
 
 /// The function `f` of this body.
 fn function(body: BuiltBlock) -> BuiltItem {
-    item_fn(Global, false, named("f"), list([]), None, body).unwrap()
+    item_fn(false, "f", [], None, body).unwrap()
 }
 
 fn module(items: impl IntoIterator<Item = BuiltItem>) -> Result<BuiltItem, BuildError> {
-    item_mod(Global, false, named("a"), list(items))
+    item_mod(false, "a", items)
 }
 
 fn file_of(items: impl IntoIterator<Item = BuiltItem>) -> File {
-    file(Global, list(items)).unwrap()
+    file(items).unwrap()
 }
 
 /// The text of a file of these items, which is laid out again to itself.
@@ -119,29 +102,29 @@ fn type_text(ty: BuiltType) -> String {
 
 #[test]
 fn a_text_is_a_name_or_none() {
-    let named = |text: &[u8]| name(Global, text).map(|made| made.node().raw);
+    let named = |text: &str| name(text).map(|made| made.node().raw);
     for text in ["a", "A1", "é", "__", "union", "macro_rules", "raw", "safe", "auto", "dyn1"] {
-        assert_eq!(named(text.as_bytes()), Ok(false), "{text}");
+        assert_eq!(named(text), Ok(false), "{text}");
     }
     for text in ["type", "fn", "true", "false", "await", "async", "dyn", "try", "yield", "macro", "gen"] {
-        assert_eq!(named(text.as_bytes()), Ok(text != "gen"), "{text}");
+        assert_eq!(named(text), Ok(text != "gen"), "{text}");
     }
     for text in ["self", "Self", "super", "crate", "_", "", "a b", " a", "a ", "1", "r#a", "r#type", "'a", "a'", "a-b", "a\n"] {
-        assert_eq!(named(text.as_bytes()), Err(BuildError::BadName), "{text}");
+        assert_eq!(named(text), Err(BuildError::BadName(text.to_string())), "{text}");
     }
-    assert_eq!(named(b"a\xff"), Err(BuildError::BadName));
+    assert_eq!(raw::name(Global, b"a\xff").err(), Some(raw::BuildError::BadName));
 }
 
 #[test]
 fn a_keyword_is_raw_wherever_it_is_a_name() {
-    let fields = list([param(named("type"), ty("fn")).unwrap()]);
-    let structure = item_struct(Global, false, named("struct"), fields).unwrap();
+    let fields = [param("type", ty("fn")).unwrap()];
+    let structure = item_struct(false, "struct", fields).unwrap();
     assert_eq!(text_of([structure]), "struct r#struct {\n    r#type: r#fn,\n}\n");
     let test = method(with_field(path("in::a::mod"), "use"), "loop", [literal("match", "as", path("true"))]);
-    let stmts = [stmt_let(Global, named("let"), None, test).unwrap()];
-    let params = list([param(named("ref"), ty("a::impl")).unwrap()]);
-    let made = item_fn(Global, false, named("fn"), params, None, body(stmts, None)).unwrap();
-    let module = item_mod(Global, false, named("mod"), list([made])).unwrap();
+    let stmts = [stmt_let("let", None, test).unwrap()];
+    let params = [param("ref", ty("a::impl")).unwrap()];
+    let made = item_fn(false, "fn", params, None, body(stmts, None)).unwrap();
+    let module = item_mod(false, "mod", [made]).unwrap();
     assert_eq!(
         text_of([module]),
         "mod r#mod {\n    fn r#fn(r#ref: a::r#impl) {\n        let r#let = r#in::a::r#mod.r#use.r#loop(r#match { r#as: r#true });\n    }\n}\n"
@@ -153,11 +136,11 @@ fn types_are_paths_references_and_tuples() {
     assert_eq!(type_text(ty("a")), "a");
     assert_eq!(type_text(ty("a::b::C")), "a::b::C");
     assert_eq!(type_text(type_with("a::Map", [ty("B"), type_with("Vec", [ty("u8")])])), "a::Map<B, Vec<u8>>");
-    assert_eq!(type_text(type_ref(Global, false, ty("A")).unwrap()), "&A");
-    assert_eq!(type_text(type_ref(Global, true, type_ref(Global, false, ty("A")).unwrap()).unwrap()), "&mut &A");
-    assert_eq!(type_text(type_tuple(Global, list([])).unwrap()), "()");
-    assert_eq!(type_text(type_tuple(Global, list([ty("A")])).unwrap()), "(A,)");
-    assert_eq!(type_text(type_tuple(Global, list([ty("A"), ty("B")])).unwrap()), "(A, B)");
+    assert_eq!(type_text(type_ref(false, ty("A")).unwrap()), "&A");
+    assert_eq!(type_text(type_ref(true, type_ref(false, ty("A")).unwrap()).unwrap()), "&mut &A");
+    assert_eq!(type_text(type_tuple([]).unwrap()), "()");
+    assert_eq!(type_text(type_tuple([ty("A")]).unwrap()), "(A,)");
+    assert_eq!(type_text(type_tuple([ty("A"), ty("B")]).unwrap()), "(A, B)");
 }
 
 #[test]
@@ -188,7 +171,7 @@ fn text_in(literal: &str) -> String {
 
 #[test]
 fn a_string_reads_back_to_its_text() {
-    let written = |text: &str| value(expr_str(Global, text.as_bytes()).unwrap());
+    let written = |text: &str| value(expr_str(text).unwrap());
     assert_eq!(written(""), r#""""#);
     assert_eq!(written("a\"b\\c\nd\re\tf"), "\"a\\\"b\\\\c\\nd\\re\tf\"");
     // A backslash before a line end would leave out what follows it.
@@ -199,8 +182,8 @@ fn a_string_reads_back_to_its_text() {
             assert_eq!(text_in(&written(&text)), text);
         }
     }
-    assert_eq!(expr_str(Global, b"\xff").err(), Some(BuildError::BadText));
-    assert_eq!(expr_str(Global, b"a\xc3").err(), Some(BuildError::BadText));
+    assert_eq!(raw::expr_str(Global, b"\xff").err(), Some(raw::BuildError::BadText));
+    assert_eq!(raw::expr_str(Global, b"a\xc3").err(), Some(raw::BuildError::BadText));
 }
 
 #[test]
@@ -264,7 +247,7 @@ fn struct_literals_have_their_fields() {
     assert_eq!(value(empty_literal()), "S {}");
     assert_eq!(value(literal("a::S", "b", binary(Op::Add, int(1), int(2)))), "a::S { b: 1 + 2 }");
     let fields = [("a", int(1)), ("b", empty_literal())].map(|(name, value)| field(named(name), value).unwrap());
-    assert_eq!(value(expr_struct(Global, named("S"), list([]), list(fields)).unwrap()), "S { a: 1, b: S {} }");
+    assert_eq!(value(expr_struct("S", fields).unwrap()), "S { a: 1, b: S {} }");
 }
 
 #[test]
@@ -275,24 +258,24 @@ fn what_an_if_tests_is_put_in_parentheses_where_it_must_be() {
     assert_eq!(value(if_of(literal("S", "a", int(1)))), "if (S { a: 1 }) {}");
     assert_eq!(value(if_of(binary(Op::EqEq, path("a"), empty_literal()))), "if a == (S {}) {}");
     assert_eq!(value(if_of(if_of(path("a")))), "if (if a {}) {}");
-    let both = expr_if(Global, path("a"), body([], Some(int(1))), Some(body([], Some(int(2))))).unwrap();
+    let both = expr_if(path("a"), body([], Some(int(1))), Some(body([], Some(int(2))))).unwrap();
     assert_eq!(value(both), "if a { 1 } else { 2 }");
-    let chain = expr_if(Global, path("a"), empty(), Some(body([], Some(if_of(path("b")))))).unwrap();
+    let chain = expr_if(path("a"), empty(), Some(body([], Some(if_of(path("b")))))).unwrap();
     assert_eq!(value(chain), "if a {} else { if b {} }");
-    let long = expr_if(Global, path("a"), body([stmt_expr(Global, path("b")).unwrap()], None), Some(empty())).unwrap();
+    let long = expr_if(path("a"), body([stmt_expr(path("b")).unwrap()], None), Some(empty())).unwrap();
     assert_eq!(value(long), "if a {\n    b;\n} else {}");
 }
 
 #[test]
 fn statements_stand_in_blocks() {
     let stmts = [
-        stmt_let(Global, named("a"), None, int(1)).unwrap(),
-        stmt_let(Global, named("b"), Some(ty("C")), binary(Op::Add, path("a"), int(2))).unwrap(),
-        stmt_expr(Global, call(path("d"), [path("b")])).unwrap(),
-        stmt_expr(Global, if_of(path("e"))).unwrap(),
-        stmt_expr(Global, binary(Op::Sub, if_of(path("f")), int(1))).unwrap(),
-        stmt_expr(Global, empty_literal()).unwrap(),
-        stmt_expr(Global, with_field(empty_literal(), "g")).unwrap(),
+        stmt_let("a", None, int(1)).unwrap(),
+        stmt_let("b", Some(ty("C")), binary(Op::Add, path("a"), int(2))).unwrap(),
+        stmt_expr(call(path("d"), [path("b")])).unwrap(),
+        stmt_expr(if_of(path("e"))).unwrap(),
+        stmt_expr(binary(Op::Sub, if_of(path("f")), int(1))).unwrap(),
+        stmt_expr(empty_literal()).unwrap(),
+        stmt_expr(with_field(empty_literal(), "g")).unwrap(),
     ];
     assert_eq!(
         text_of([function(body(stmts, Some(if_of(path("h")))))]),
@@ -306,15 +289,15 @@ fn statements_stand_in_blocks() {
 #[test]
 fn items_stand_in_files() {
     let params =
-        || list([param(named("a"), ty("B")).unwrap(), param(named("c"), type_ref(Global, false, ty("D")).unwrap()).unwrap()]);
+        || [param("a", ty("B")).unwrap(), param("c", type_ref(false, ty("D")).unwrap()).unwrap()];
     for (public, vis) in [(false, ""), (true, "pub ")] {
         let items = [
-            item_struct(Global, public, named("S"), params()).unwrap(),
-            item_struct(Global, public, named("T"), list([])).unwrap(),
-            item_const(Global, public, named("C"), ty("u8"), int(1)).unwrap(),
-            item_fn(Global, public, named("f"), params(), Some(ty("E")), body([], Some(path("a")))).unwrap(),
-            item_mod(Global, public, named("m"), list([constant(ty("B"), int(2)), function(empty())])).unwrap(),
-            item_mod(Global, public, named("n"), list([])).unwrap(),
+            item_struct(public, "S", params()).unwrap(),
+            item_struct(public, "T", []).unwrap(),
+            item_const(public, "C", ty("u8"), int(1)).unwrap(),
+            item_fn(public, "f", params(), Some(ty("E")), body([], Some(path("a")))).unwrap(),
+            item_mod(public, "m", [constant(ty("B"), int(2)), function(empty())]).unwrap(),
+            item_mod(public, "n", []).unwrap(),
         ];
         assert_eq!(
             text_of(items),
@@ -329,9 +312,9 @@ fn items_stand_in_files() {
 
 #[test]
 fn documentation_is_written_as_it_may_be() {
-    let fields = list([param(named("b"), type_with("Vec", [ty("u8")])).unwrap()]);
-    let structure = item_struct(Global, true, named("A"), fields).unwrap();
-    assert_eq!(text_of([with_doc(Global, structure, b" x").unwrap()]), "/// x\npub struct A {\n    b: Vec<u8>,\n}\n");
+    let fields = [param("b", type_with("Vec", [ty("u8")])).unwrap()];
+    let structure = item_struct(true, "A", fields).unwrap();
+    assert_eq!(text_of([with_doc(structure, " x").unwrap()]), "/// x\npub struct A {\n    b: Vec<u8>,\n}\n");
     let rows = [
         ("", "///"),
         ("*/", "///*/"),
@@ -345,21 +328,21 @@ fn documentation_is_written_as_it_may_be() {
         ("*\n\"\\", "#[doc = \"*\\n\\\"\\\\\"]"),
     ];
     for (text, written) in rows {
-        assert_eq!(text_of([with_doc(Global, function(empty()), text.as_bytes()).unwrap()]), format!("{written}\nfn f() {{}}\n"));
+        assert_eq!(text_of([with_doc(function(empty()), text).unwrap()]), format!("{written}\nfn f() {{}}\n"));
     }
-    let twice = with_doc(Global, with_doc(Global, module([]).unwrap(), b" a").unwrap(), b" b").unwrap();
+    let twice = with_doc(with_doc(module([]).unwrap(), " a").unwrap(), " b").unwrap();
     assert_eq!(text_of([twice]), "/// a\n/// b\nmod a {}\n");
-    assert_eq!(with_doc(Global, function(empty()), b"a\xff").err(), Some(BuildError::BadText));
+    assert_eq!(raw::with_doc(Global, function(empty()), b"a\xff").err(), Some(raw::BuildError::BadText));
 }
 
 #[test]
 fn what_is_built_can_be_looked_at() {
     assert_eq!(named("a").node().text.as_bytes(), b"a");
-    let given = field(named("a"), path("b")).unwrap();
+    let given = field("a", path("b")).unwrap();
     assert_eq!(given.node().name.text.as_bytes(), b"a");
-    let given = param(named("c"), ty("D")).unwrap();
+    let given = param("c", ty("D")).unwrap();
     assert_eq!(given.node().name.text.as_bytes(), b"c");
-    assert_eq!(body([stmt_expr(Global, int(1)).unwrap()], Some(int(2))).node().stmts.as_slice().len(), 2);
+    assert_eq!(body([stmt_expr(int(1)).unwrap()], Some(int(2))).node().stmts.as_slice().len(), 2);
 }
 
 /// How often a call makes something anew of what it made, before it refuses that as too deep.
@@ -387,27 +370,27 @@ fn over_module(made: BuiltItem) -> Result<BuiltItem, BuildError> {
 }
 
 fn over_call(made: BuiltExpr) -> Result<BuiltExpr, BuildError> {
-    expr_call(Global, path("a"), list([made]))
+    expr_call(path("a"), [made])
 }
 
 fn over_operator(made: BuiltExpr) -> Result<BuiltExpr, BuildError> {
-    expr_binary(Global, Op::Add, made, path("a"))
+    expr_binary(Op::Add, made, path("a"))
 }
 
 fn over_if(made: BuiltExpr) -> Result<BuiltExpr, BuildError> {
-    expr_if(Global, path("a"), block(Global, list([]), Some(made))?, None)
+    expr_if(path("a"), block([], Some(made))?, None)
 }
 
 fn over_else(made: BuiltExpr) -> Result<BuiltExpr, BuildError> {
-    expr_if(Global, path("a"), empty(), Some(block(Global, list([stmt_expr(Global, made)?]), None)?))
+    expr_if(path("a"), empty(), Some(block([stmt_expr(made)?], None)?))
 }
 
 fn over_literal(made: BuiltExpr) -> Result<BuiltExpr, BuildError> {
-    expr_struct(Global, named("S"), list([]), list([field(named("a"), made)?]))
+    expr_struct("S", [field("a", made)?])
 }
 
 fn over_reference(made: BuiltType) -> Result<BuiltType, BuildError> {
-    type_ref(Global, true, made)
+    type_ref(true, made)
 }
 
 #[test]
@@ -417,11 +400,11 @@ fn nodes_are_nested_as_deep_as_files_may_be() {
     // A path needs 1, and a call one more than its arguments.
     assert_eq!(levels(path("a"), over_call), 255);
     // The same of a method's arguments, of those of a type, and of what is referred to.
-    assert_eq!(levels(path("a"), |made| expr_method(Global, path("a"), named("b"), list([path("c"), made]))), 255);
-    assert_eq!(levels(ty("A"), |made| type_path(Global, named("A"), list([]), list([ty("B"), made]))), 255);
+    assert_eq!(levels(path("a"), |made| expr_method(path("a"), "b", [path("c"), made])), 255);
+    assert_eq!(levels(ty("A"), |made| type_path("A", [ty("B"), made])), 255);
     assert_eq!(levels(ty("A"), over_reference), 255);
     // An empty tuple needs 1, as a struct literal without fields does.
-    assert_eq!(levels(type_tuple(Global, list([])).unwrap(), |made| type_tuple(Global, list([made]))), 255);
+    assert_eq!(levels(type_tuple([]).unwrap(), |made| type_tuple([made])), 255);
     assert_eq!(levels(empty_literal(), over_literal), 255);
     // The first operator needs 2. Each one over it takes it in parentheses, which are a node of their own: 2 for each, so 128 of them.
     assert_eq!(levels(path("a"), over_operator), 128);
@@ -429,9 +412,9 @@ fn nodes_are_nested_as_deep_as_files_may_be() {
     assert_eq!(levels(if_of(path("a")), over_if), 254);
     assert_eq!(levels(if_of(path("a")), over_else), 254);
     // In a test an `if` is put in parentheses: 2 for each, on the 2 of the innermost.
-    assert_eq!(levels(if_of(path("a")), |made| expr_if(Global, made, empty(), None)), 127);
+    assert_eq!(levels(if_of(path("a")), |made| expr_if(made, empty(), None)), 127);
     // `(a.b)()` needs 4: a path, the field, its parentheses, the call. A further field is one more step of that, and the call over it takes 2 more.
-    assert_eq!(levels(path("a"), |made| expr_call(Global, expr_field(Global, made, named("b"))?, list([]))), 127);
+    assert_eq!(levels(path("a"), |made| expr_call(expr_field(made, "b")?, [])), 127);
 }
 
 #[test]
@@ -448,28 +431,28 @@ fn what_holds_a_node_is_one_level_deeper() {
     let type_deepest = || repeated(255, ty("A"), over_reference).unwrap();
     let type_less = || repeated(254, ty("A"), over_reference).unwrap();
     let too_deep = Some(BuildError::TooDeep);
-    assert_eq!(field(named("a"), deepest()).err(), too_deep);
-    assert!(field(named("a"), less()).is_ok());
-    assert_eq!(param(named("a"), type_deepest()).err(), too_deep);
-    assert!(param(named("a"), type_less()).is_ok());
-    assert_eq!(stmt_expr(Global, deepest()).err(), too_deep);
-    assert!(stmt_expr(Global, less()).is_ok());
-    assert_eq!(stmt_let(Global, named("a"), None, deepest()).err(), too_deep);
-    assert_eq!(stmt_let(Global, named("a"), Some(type_deepest()), int(1)).err(), too_deep);
-    assert!(stmt_let(Global, named("a"), Some(type_less()), less()).is_ok());
-    assert_eq!(block(Global, list([]), Some(deepest())).err(), too_deep);
-    assert!(block(Global, list([]), Some(less())).is_ok());
-    assert_eq!(expr_if(Global, deepest(), empty(), None).err(), too_deep);
-    assert!(expr_if(Global, less(), empty(), None).is_ok());
-    assert_eq!(expr_field(Global, repeated(128, path("a"), over_operator).unwrap(), named("b")).err(), too_deep);
-    assert_eq!(item_const(Global, false, named("A"), ty("B"), deepest()).err(), too_deep);
-    assert_eq!(item_const(Global, false, named("A"), type_deepest(), int(1)).err(), too_deep);
-    assert!(item_const(Global, false, named("A"), type_less(), less()).is_ok());
-    assert_eq!(item_fn(Global, false, named("f"), list([]), Some(type_deepest()), empty()).err(), too_deep);
-    assert!(item_fn(Global, false, named("f"), list([]), Some(type_less()), body([], Some(less()))).is_ok());
+    assert_eq!(field("a", deepest()).err(), too_deep);
+    assert!(field("a", less()).is_ok());
+    assert_eq!(param("a", type_deepest()).err(), too_deep);
+    assert!(param("a", type_less()).is_ok());
+    assert_eq!(stmt_expr(deepest()).err(), too_deep);
+    assert!(stmt_expr(less()).is_ok());
+    assert_eq!(stmt_let("a", None, deepest()).err(), too_deep);
+    assert_eq!(stmt_let("a", Some(type_deepest()), int(1)).err(), too_deep);
+    assert!(stmt_let("a", Some(type_less()), less()).is_ok());
+    assert_eq!(block([], Some(deepest())).err(), too_deep);
+    assert!(block([], Some(less())).is_ok());
+    assert_eq!(expr_if(deepest(), empty(), None).err(), too_deep);
+    assert!(expr_if(less(), empty(), None).is_ok());
+    assert_eq!(expr_field(repeated(128, path("a"), over_operator).unwrap(), "b").err(), too_deep);
+    assert_eq!(item_const(false, "A", ty("B"), deepest()).err(), too_deep);
+    assert_eq!(item_const(false, "A", type_deepest(), int(1)).err(), too_deep);
+    assert!(item_const(false, "A", type_less(), less()).is_ok());
+    assert_eq!(item_fn(false, "f", [], Some(type_deepest()), empty()).err(), too_deep);
+    assert!(item_fn(false, "f", [], Some(type_less()), body([], Some(less()))).is_ok());
     // With documentation an item is no deeper.
     let modules = repeated(255, module([]).unwrap(), over_module).unwrap();
-    assert!(with_doc(Global, modules, b" a").is_ok());
+    assert!(with_doc(modules, " a").is_ok());
 }
 
 #[test]
@@ -494,15 +477,99 @@ fn the_deepest_items_are_written() {
 #[test]
 #[cfg(feature = "std")]
 fn a_long_body_is_written() {
-    let stmts = (0..100_000).map(|number| stmt_let(Global, named("a"), None, int(number)).unwrap());
+    let stmts = (0..100_000).map(|number| stmt_let("a", None, int(number)).unwrap());
     let text = unparse(&file_of([function(body(stmts, None))])).unwrap();
     assert_eq!((text.lines().count(), text.lines().nth(100_000)), (100_002, Some("    let a = 99999;")));
 }
 
 #[test]
 fn an_operator_that_assigns_makes_no_source() {
-    let made = expr_binary(Global, Op::Set, path("a"), path("b")).unwrap();
-    assert_eq!(unparse(&file_of([constant(ty("B"), made)])).unwrap_err().cause(), Cause::NotWritten);
+    let operators = [
+        (Op::Set, "="),
+        (Op::AddSet, "+="),
+        (Op::SubSet, "-="),
+        (Op::MulSet, "*="),
+        (Op::DivSet, "/="),
+        (Op::RemSet, "%="),
+        (Op::XorSet, "^="),
+        (Op::AndSet, "&="),
+        (Op::OrSet, "|="),
+        (Op::ShlSet, "<<="),
+        (Op::ShrSet, ">>="),
+        (Op::Upto, ".."),
+        (Op::UptoEq, "..="),
+    ];
+    for (op, text) in operators {
+        let why = expr_binary(op, path("a"), path("b")).unwrap_err();
+        assert_eq!(why, BuildError::BadOperator(op));
+        assert_eq!(why.to_string(), format!("no operator between two values: {text}"));
+        // What would be made is no source.
+        let made = raw::expr_binary(Global, op, path("a"), path("b")).unwrap();
+        assert_eq!(unparse(&file_of([constant(ty("B"), made)])).unwrap_err().cause(), Cause::NotWritten);
+    }
+}
+
+#[test]
+fn an_error_says_why() {
+    assert_eq!(name("a b").unwrap_err().to_string(), "no name: \"a b\"");
+    assert_eq!(name("\n").unwrap_err().to_string(), "no name: \"\\n\"");
+    assert_eq!(BuildError::TooDeep.to_string(), "too deep");
+    assert_eq!(BuildError::NoMemory.to_string(), "no memory");
+    let error: Box<dyn std::error::Error + Send + Sync> = name("").unwrap_err().into();
+    assert_eq!(error.to_string(), "no name: \"\"");
+}
+
+#[test]
+fn each_call_with_a_name_says_which_is_none() {
+    let bad = |text: &str| Some(BuildError::BadName(text.to_string()));
+    assert_eq!(build::path(["a", "b c"]).err(), bad("b c"));
+    assert_eq!(build::path(["", "a"]).err(), bad(""));
+    assert_eq!(build::path::<&str>([]).err(), bad(""));
+    assert_eq!(build::ty("a::1").err(), bad("1"));
+    assert_eq!(build::ty("").err(), bad(""));
+    assert_eq!(build::ty("::a").err(), bad(""));
+    assert_eq!(build::ty("a::").err(), bad(""));
+    assert_eq!(build::ty("a:b").err(), bad("a:b"));
+    assert_eq!(build::ty("Vec<u8>").err(), bad("Vec<u8>"));
+    assert_eq!(type_path("a:: b", []).err(), bad(" b"));
+    assert_eq!(expr_path("self::a").err(), bad("self"));
+    assert_eq!(expr_field(path("a"), "0").err(), bad("0"));
+    assert_eq!(expr_method(path("a"), "b()", []).err(), bad("b()"));
+    assert_eq!(expr_struct("Self", []).err(), bad("Self"));
+    assert_eq!(field("'a", int(1)).err(), bad("'a"));
+    assert_eq!(param("_", ty("A")).err(), bad("_"));
+    assert_eq!(stmt_let("r#a", None, int(1)).err(), bad("r#a"));
+    assert_eq!(item_struct(false, "A<B>", []).err(), bad("A<B>"));
+    assert_eq!(item_const(false, "a.b", ty("A"), int(1)).err(), bad("a.b"));
+    assert_eq!(item_fn(false, "a!", [], None, empty()).err(), bad("a!"));
+    assert_eq!(item_mod(false, "a/b", []).err(), bad("a/b"));
+}
+
+#[test]
+fn names_and_paths_are_given_as_texts_or_as_what_was_built() {
+    let owned = String::from("b");
+    assert_eq!(param(&owned, ty("C")), param("b", ty("C")));
+    assert_eq!(param(named("b"), ty("C")), param("b", ty("C")));
+    let of = type_path("std::vec::Vec", [ty("u8")]);
+    assert_eq!(type_path(&String::from("std::vec::Vec"), [ty("u8")]), of);
+    assert_eq!(type_path(build::path(["std", "vec", "Vec"]).unwrap(), [ty("u8")]), of);
+    assert_eq!(type_path(build::path("std::vec::Vec".split("::")).unwrap(), vec![ty("u8")]), of);
+    assert_eq!(build::ty(named("A")), build::ty("A"));
+    assert_eq!(build::path([named("a"), named("b")]), build::path(["a", "b"]));
+    assert_eq!(type_text(ty("in::type")), "r#in::r#type");
+}
+
+#[test]
+fn what_is_built_is_a_value() {
+    let made = binary(Op::Add, path("a"), int(1));
+    assert_eq!(made.clone(), made);
+    assert_ne!(made, binary(Op::Sub, path("a"), int(1)));
+    assert_eq!(value(binary(Op::Mul, made.clone(), made)), "(a + 1) * (a + 1)");
+    let structure = item_struct(true, "A", [param("b", ty("C")).unwrap()]).unwrap();
+    assert_eq!(text_of([structure.clone(), structure.clone()]).matches("pub struct A").count(), 2);
+    assert_eq!(format!("{:?}", named("type").node()), "Name { raw: true, text: \"type\" }");
+    assert!(format!("{structure:?}").contains("text: \"b\""), "{structure:?}");
+    assert_eq!(file_of([structure.clone()]), file_of([structure]));
 }
 
 /// Words that are special somewhere, and others.
@@ -543,12 +610,18 @@ impl Program {
         WORDS[self.0.below(WORDS.len() as u64) as usize]
     }
 
-    fn text(&mut self) -> &'static [u8] {
-        TEXTS[self.0.below(TEXTS.len() as u64) as usize].as_bytes()
+    fn text(&mut self) -> &'static str {
+        TEXTS[self.0.below(TEXTS.len() as u64) as usize]
     }
 
     fn name(&mut self) -> BuiltName {
         named(self.word())
+    }
+
+    /// A path of one name or more.
+    fn path(&mut self) -> BuiltPath {
+        let first = self.name();
+        build::path([vec![first], self.some(Program::name)].concat()).unwrap()
     }
 
     fn public(&mut self) -> bool {
@@ -556,9 +629,9 @@ impl Program {
     }
 
     /// As many as are drawn, up to three.
-    fn some<T>(&mut self, mut one: impl FnMut(&mut Program) -> T) -> List<T> {
+    fn some<T>(&mut self, mut one: impl FnMut(&mut Program) -> T) -> Vec<T> {
         let count = self.0.below(4);
-        list((0..count).map(|_| one(self)))
+        (0..count).map(|_| one(self)).collect()
     }
 
     fn maybe<T>(&mut self, one: impl FnOnce(&mut Program) -> T) -> Option<T> {
@@ -567,10 +640,10 @@ impl Program {
 
     fn ty(&mut self, depth: u64) -> BuiltType {
         match self.0.below(if depth == 0 { 1 } else { 4 }) {
-            0 => type_path(Global, self.name(), self.some(Program::name), list([])),
-            1 => type_path(Global, self.name(), self.some(Program::name), self.some(|it| it.ty(depth - 1))),
-            2 => type_ref(Global, self.public(), self.ty(depth - 1)),
-            _ => type_tuple(Global, self.some(|it| it.ty(depth - 1))),
+            0 => type_path(self.path(), []),
+            1 => type_path(self.path(), self.some(|it| it.ty(depth - 1))),
+            2 => type_ref(self.public(), self.ty(depth - 1)),
+            _ => type_tuple(self.some(|it| it.ty(depth - 1))),
         }
         .unwrap()
     }
@@ -595,15 +668,15 @@ impl Program {
 
     fn expr(&mut self, depth: u64) -> BuiltExpr {
         match self.0.below(if depth == 0 { 3 } else { 12 }) {
-            0 => expr_int(Global, self.0.below(1000).into()),
-            1 => expr_str(Global, self.text()),
-            2 => expr_path(Global, self.name(), self.some(Program::name)),
-            3 | 4 => expr_field(Global, self.expr(depth - 1), self.name()),
-            5 => expr_method(Global, self.expr(depth - 1), self.name(), self.some(|it| it.expr(depth - 1))),
-            6 | 7 => expr_call(Global, self.expr(depth - 1), self.some(|it| it.expr(depth - 1))),
-            8 | 9 => expr_binary(Global, self.op(), self.expr(depth - 1), self.expr(depth - 1)),
-            10 => expr_struct(Global, self.name(), self.some(Program::name), self.some(|it| it.field(depth - 1))),
-            _ => expr_if(Global, self.expr(depth - 1), self.block(depth - 1), self.maybe(|it| it.block(depth - 1))),
+            0 => expr_int(self.0.below(1000).into()),
+            1 => expr_str(self.text()),
+            2 => expr_path(self.path()),
+            3 | 4 => expr_field(self.expr(depth - 1), self.name()),
+            5 => expr_method(self.expr(depth - 1), self.name(), self.some(|it| it.expr(depth - 1))),
+            6 | 7 => expr_call(self.expr(depth - 1), self.some(|it| it.expr(depth - 1))),
+            8 | 9 => expr_binary(self.op(), self.expr(depth - 1), self.expr(depth - 1)),
+            10 => expr_struct(self.path(), self.some(|it| it.field(depth - 1))),
+            _ => expr_if(self.expr(depth - 1), self.block(depth - 1), self.maybe(|it| it.block(depth - 1))),
         }
         .unwrap()
     }
@@ -618,26 +691,26 @@ impl Program {
 
     fn stmt(&mut self, depth: u64) -> BuiltStmt {
         match self.0.below(2) {
-            0 => stmt_let(Global, self.name(), self.maybe(|it| it.ty(1)), self.expr(depth)),
-            _ => stmt_expr(Global, self.expr(depth)),
+            0 => stmt_let(self.name(), self.maybe(|it| it.ty(1)), self.expr(depth)),
+            _ => stmt_expr(self.expr(depth)),
         }
         .unwrap()
     }
 
     fn block(&mut self, depth: u64) -> BuiltBlock {
-        block(Global, self.some(|it| it.stmt(depth)), self.maybe(|it| it.expr(depth))).unwrap()
+        block(self.some(|it| it.stmt(depth)), self.maybe(|it| it.expr(depth))).unwrap()
     }
 
     fn item(&mut self, depth: u64) -> BuiltItem {
         let item = match self.0.below(if depth == 0 { 3 } else { 4 }) {
-            0 => item_struct(Global, self.public(), self.name(), self.some(Program::param)),
-            1 => item_const(Global, self.public(), self.name(), self.ty(2), self.expr(4)),
-            2 => item_fn(Global, self.public(), self.name(), self.some(Program::param), self.maybe(|it| it.ty(2)), self.block(3)),
-            _ => item_mod(Global, self.public(), self.name(), self.some(|it| it.item(depth - 1))),
+            0 => item_struct(self.public(), self.name(), self.some(Program::param)),
+            1 => item_const(self.public(), self.name(), self.ty(2), self.expr(4)),
+            2 => item_fn(self.public(), self.name(), self.some(Program::param), self.maybe(|it| it.ty(2)), self.block(3)),
+            _ => item_mod(self.public(), self.name(), self.some(|it| it.item(depth - 1))),
         };
         let item = item.unwrap();
         match self.0.below(3) {
-            0 => with_doc(Global, item, self.text()).unwrap(),
+            0 => with_doc(item, self.text()).unwrap(),
             _ => item,
         }
     }
@@ -648,7 +721,7 @@ fn programs_that_are_drawn_read_back() {
     let mut program = Program(Draw(1));
     for _ in 0..500 {
         let items = program.some(|it| it.item(3));
-        let text = unparse(&file(Global, items).unwrap()).unwrap();
+        let text = unparse(&file(items).unwrap()).unwrap();
         assert_eq!(format(&text).as_ref(), Ok(&text));
     }
 }

@@ -5,7 +5,7 @@ mod refusing;
 mod trees;
 
 use froesaffron::build::*;
-use froesaffron::tree::FREE;
+use froesaffron::tree::{FREE, Global, List};
 use froesaffron::{Cause, Error, format, is_loose, parenthesize, unparse};
 use refusing::with_refusal;
 use trees::{TREES, constant};
@@ -47,48 +47,41 @@ fn each_refused_request_of_a_call_over_an_expression_is_an_error() {
     }
 }
 
-/// A list of an item.
-fn one<T>(item: T) -> Result<List<T>, BuildError> {
-    let mut list = List::new(Global);
-    list.push(item).map_err(|_| BuildError::NoMemory)?;
-    Ok(list)
-}
-
 /// A name that is too long to be kept without memory.
-fn long_name() -> Result<BuiltName, BuildError> {
-    name(Global, b"a_name_that_is_too_long_to_be_kept_without_memory")
-}
+const LONG_NAME: &str = "a_name_that_is_too_long_to_be_kept_without_memory";
+/// A path of two such.
+const LONG_PATH: &str = "a_name_that_is_too_long_to_be_kept_without_memory::a_name_that_is_too_long_to_be_kept_without_memory";
 
 fn path() -> Result<BuiltExpr, BuildError> {
-    expr_path(Global, long_name()?, one(long_name()?)?)
+    expr_path(LONG_PATH)
 }
 
 /// A file in which each call has a part.
 fn built() -> Result<File, BuildError> {
-    let of = || {
-        type_path(Global, long_name()?, List::new(Global), one(type_ref(Global, false, type_tuple(Global, List::new(Global))?)?)?)
-    };
-    let text = expr_str(Global, b"a text that is too long to be kept without memory\n")?;
-    let literal = expr_struct(Global, long_name()?, one(long_name()?)?, one(field(long_name()?, text)?)?)?;
-    let sum = expr_binary(Global, Op::Add, literal, expr_int(Global, u128::MAX)?)?;
-    let called = expr_call(
-        Global,
-        expr_field(Global, sum, long_name()?)?,
-        one(expr_method(Global, path()?, long_name()?, one(path()?)?)?)?,
-    )?;
-    let stmts = one(stmt_let(Global, long_name()?, Some(of()?), called)?)?;
-    let inner = block(Global, one(stmt_expr(Global, path()?)?)?, Some(path()?))?;
-    let body =
-        block(Global, stmts, Some(expr_if(Global, path()?, inner, Some(block(Global, List::new(Global), Some(path()?))?))?))?;
-    let function = item_fn(Global, true, long_name()?, one(param(long_name()?, of()?)?)?, Some(of()?), body)?;
-    let structure = item_struct(Global, true, long_name()?, one(param(long_name()?, of()?)?)?)?;
-    let mut items = one(with_doc(Global, function, b" A text that is too long to be kept without memory.")?)?;
-    for item in [structure, item_const(Global, true, long_name()?, of()?, path()?)?] {
-        items
-            .push(with_doc(Global, item, b"a text that is too long to be kept without memory ")?)
-            .map_err(|_| BuildError::NoMemory)?;
-    }
-    Ok(file(Global, one(item_mod(Global, true, long_name()?, items)?)?)?)
+    let of = || type_path(LONG_NAME, [type_ref(false, type_tuple([])?)?]);
+    let text = expr_str("a text that is too long to be kept without memory\n")?;
+    let literal = expr_struct(LONG_PATH, [field(LONG_NAME, text)?])?;
+    let sum = expr_binary(Op::Add, literal, expr_int(u128::MAX)?)?;
+    let called = expr_call(expr_field(sum, LONG_NAME)?, [expr_method(path()?, LONG_NAME, [path()?])?])?;
+    let stmts = [stmt_let(LONG_NAME, Some(of()?), called)?];
+    let inner = block([stmt_expr(path()?)?], Some(path()?))?;
+    let body = block(stmts, Some(expr_if(path()?, inner, Some(block([], Some(path()?))?))?))?;
+    let function = item_fn(true, LONG_NAME, [param(LONG_NAME, of()?)?], Some(of()?), body)?;
+    let structure = item_struct(true, LONG_NAME, [param(LONG_NAME, of()?)?])?;
+    let constant = item_const(true, LONG_NAME, of()?, path()?)?;
+    let text = "a text that is too long to be kept without memory ";
+    let items = [
+        with_doc(function, " A text that is too long to be kept without memory.")?,
+        with_doc(structure, text)?,
+        with_doc(constant, text)?,
+    ];
+    file([item_mod(true, LONG_NAME, items)?])
+}
+
+#[test]
+fn each_refused_request_of_a_name_that_is_none_is_an_error() {
+    assert_eq!(with_refusal(0, || name("a b")), Err(BuildError::NoMemory));
+    assert_eq!(with_refusal(1, || name("a b")), Err(BuildError::BadName("a b".to_string())));
 }
 
 #[test]

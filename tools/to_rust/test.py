@@ -1,6 +1,6 @@
 #!/usr/bin/env python3
-"""Tests the translator: what it doesn't know has to end its run with the file and the line where it stands, and trees are offered
-whole, and so are the calls that build them.
+"""Tests the translator: what it doesn't know has to end its run with the file and the line where it stands, trees are offered
+whole, with what Rust users derive, and so are the calls that build them, and each condition of a call is seen to.
 
 usage: test.py"""
 import os
@@ -9,8 +9,8 @@ import subprocess
 import sys
 import tempfile
 
+import to_rust
 from passed import CHANGES
-from to_rust import ROOTS
 
 HERE = os.path.dirname(os.path.abspath(__file__))
 TOP = os.path.dirname(os.path.dirname(HERE))
@@ -38,6 +38,11 @@ PLANTED = [
     ('fn a() {\n    let Some((b, c)) = d else {\n        return;\n    };\n}', 2, 'what a let with an else binds'),
     ('fn a() {\n    let Some(mut b) = c else {\n        return;\n    };\n}', 2, 'what a let with an else binds'),
     ('fn a() {\n    let A { b } = c else {\n        return;\n    };\n}', 2, 'what a let with an else binds'),
+    ('pub fn a(b: u8)\n    requires { b ≡ 1 }\n{}', 2, 'what sees to the condition of a'),
+    ('pub fn a(b: u8) -> Result<u8, B>\n    ensures { c }\n    requires little { b ≤ 1 }\n{}', 3, 'what sees to the condition of a'),
+    ('pub struct A;\nimpl A {\n    fn b() {}\n    pub fn c(&self)\n        requires { d }\n    {}\n}', 5,
+     'what sees to the condition of A::c'),
+    ('impl<T: B<C>> A<T> {\n    pub fn b()\n        requires { c }\n    {}\n}', 3, 'what sees to the condition of A::b'),
 ]
 # Statements, and what becomes of each.
 LETS = [
@@ -57,8 +62,20 @@ ghost use Rattle.std.specs.Prelude.{◌≡◌};
 
 /// A number.
 pub fn number(of: u8) -> u8
-    requires { of ≡ 1 }
     ensures same { result ≡ of } // and no other
+{
+    one(of)
+}
+
+/// The number 1. Its condition is no public call's.
+fn one(of: u8) -> u8
+    requires { of ≡ 1 }
+{
+    of
+}
+
+pub(crate) fn two(of: u8) -> u8
+    requires { of ≡ 2 }
 {
     of
 }
@@ -71,10 +88,10 @@ def translate(source, more=()):
     with tempfile.TemporaryDirectory() as top:
         below = sorted({crate for crate, _, _ in more})
         lines = [*(f'{crate}:' for crate in below), f"lay_front: {' '.join(['regex smallvec', *below])}",
-                 *(f'{crate}: lay_front' for crate in ROOTS if crate != 'lay_front')]
+                 *(f'{crate}: lay_front' for crate in to_rust.ROOTS if crate != 'lay_front')]
         with open(os.path.join(top, 'crates.txt'), 'w', encoding='utf-8') as file:
             file.write('\n'.join(lines) + '\n')
-        for crate, path, text in [*((crate, 'lib.rt', source if crate == 'lay_front' else KNOWN) for crate in ROOTS), *more]:
+        for crate, path, text in [*((crate, 'lib.rt', source if crate == 'lay_front' else KNOWN) for crate in to_rust.ROOTS), *more]:
             os.makedirs(os.path.join(top, 'crates', crate, 'src'), exist_ok=True)
             with open(os.path.join(top, 'crates', crate, 'src', path), 'w', encoding='utf-8') as file:
                 file.write(text)
@@ -142,20 +159,90 @@ def tree_failures():
 
 
 def build_failures():
-    """The crate's calls that build files are all that lay_build passes on but laws."""
-    ours = listed('rust/src/build.rs', 'pub use crate::generated::lay_build::{')
+    """The crate's calls that build files stand over all that lay_build passes on but laws, and each has the name of the one below it."""
+    ours = listed('rust/src/build.rs', 'mod raw {\n    pub use crate::generated::lay_build::{')
     with open(os.path.join(TOP, 'crates/lay_build/src/lib.rt'), encoding='utf-8') as file:
         passed_on = re.findall(r'^pub use \w+::([^;]*);', file.read(), re.M)
     theirs = {name for names in passed_on for name in re.findall(r'\w+', names) if not name.endswith('_law')}
     if ours != theirs:
         yield f'rust/src/build.rs and lay_build differ in {sorted(ours ^ theirs)}'
+    with open(os.path.join(TOP, 'rust/src/build.rs'), encoding='utf-8') as file:
+        calls = set(re.findall(r'^pub fn (\w+)', file.read(), re.M))
+    for lacking in sorted(name for name in ours if name[0].islower() and name not in calls):
+        yield f'rust/src/build.rs has no call {lacking}'
+
+
+# Types in a crate, and how they stand in the cargo crate.
+TYPES = [
+    ('lay_code', 'pub enum A { B }', '#[derive(Clone, Debug, PartialEq, Eq)] #[non_exhaustive] pub enum A { B }'),
+    ('lay_code', 'pub struct A;', '#[derive(Clone, Debug, PartialEq, Eq)] pub struct A;'),
+    ('lay_node', '#[derive(Copy, Eq)]\npub enum Site { B }', '#[derive(Copy, Eq, Clone, Debug, PartialEq)] pub enum Site { B }'),
+    ('lay_node', '#[derive(Debug)]\npub struct Boxed;', '#[derive(Clone, PartialEq, Eq)] pub struct Boxed;'),
+    ('lay_text', '/// A.\n#[must_use]\npub enum A { B }', '/// A. #[must_use] #[derive(Clone, Debug, PartialEq, Eq)] pub enum A { B }'),
+    ('lay_code', 'enum A { B }\npub(crate) struct C;', 'enum A { B } pub(crate) struct C;'),
+    ('lay_front', 'pub struct A;', 'pub struct A;'),
+]
+# A public type, with what stands before it.
+PUBLIC_TYPE = re.compile(r'((?:^#\[.*\]\n)*)^pub (enum|struct) (\w+)', re.M)
+
+
+def derive_failures():
+    """Each public type of the trees has all derives, but for those that are written by hand, and the enums that may grow are marked."""
+    for crate, source, wanted in TYPES:
+        tokens = to_rust.tree_attributes(to_rust.rust_items(to_rust.Lexer(source).run(), ()), crate)
+        made = ' '.join(to_rust.text_of(tokens).split())
+        if made != wanted:
+            yield f'{source!r} becomes {made!r} and not {wanted!r}'
+    seen = set()
+    for crate in sorted(to_rust.TREE_CRATES):
+        for folder, _, names in os.walk(os.path.join(TOP, 'crates', crate, 'src')):
+            seen |= {os.path.relpath(os.path.join(folder, name), os.path.join(TOP, 'crates')) for name in names}
+    types = set()
+    for path in sorted(seen):
+        crate, _, rest = path.split(os.sep, 2)
+        made = os.path.join(TOP, 'rust/src/generated', crate + '.rs' if rest == 'lib.rt' else os.path.join(crate, rest[:-3] + '.rs'))
+        if not os.path.exists(made):
+            continue
+        with open(made, encoding='utf-8') as file:
+            for attributes, kind, name in PUBLIC_TYPE.findall(file.read()):
+                types.add(name)
+                wanted = set(to_rust.DERIVES) - ({'Debug'} if name in to_rust.SHOWN_BY_HAND else set())
+                if not wanted <= set(re.findall(r'\w+', attributes)):
+                    yield f'{made}: {name} has {attributes!r}'
+                is_open = kind == 'enum' and crate in to_rust.OPEN_CRATES and name not in to_rust.CLOSED
+                if is_open != ('#[non_exhaustive]' in attributes):
+                    yield f'{made}: {name} has {attributes!r}'
+    for name in sorted((to_rust.CLOSED | to_rust.SHOWN_BY_HAND) - types):
+        yield f'to_rust.py names {name}, which is no public type of a tree'
+
+
+def condition_failures():
+    """Each condition of a call that the cargo crate offers is known, and each that is known is there: without the list the run ends."""
+    sources = to_rust.Sources(TOP)
+    found = {(offering, name) for offering, name, *_ in sources.offered_conditions()}
+    for offering, name in sorted(set(to_rust.CONDITIONS) ^ found):
+        yield f'to_rust.py and the sources differ in the condition of {name} in {offering}'
+    for left_out in sorted(to_rust.CONDITIONS):
+        known = dict(to_rust.CONDITIONS)
+        try:
+            del to_rust.CONDITIONS[left_out]
+            sources.known_conditions()
+            yield f'the condition of {left_out[1]} is not asked for'
+        except SystemExit as end:
+            if f"what sees to the condition of {left_out[1]} isn't known" not in str(end):
+                yield f'{left_out[1]}: {end}'
+        finally:
+            to_rust.CONDITIONS = known
 
 
 def main():
     if sys.argv[1:]:
         print('usage: test.py')
         sys.exit(0 if sys.argv[1:] == ['--help'] else 2)
-    failures = [*planted_failures(), *let_failures(), *change_failures(), *tree_failures(), *build_failures()]
+    failures = [
+        *planted_failures(), *let_failures(), *change_failures(), *tree_failures(), *build_failures(),
+        *derive_failures(), *condition_failures(),
+    ]
     for failure in failures:
         print(failure)
     print(f'{len(PLANTED)} planted, {len(failures)} failures')

@@ -45,6 +45,24 @@ CHECKED_TEXT = 'crate::shims::text'
 # The call that makes a vector of an item as often as is asked for.
 FILLED = 'crate::shims::filled'
 CLAUSES = {'requires', 'ensures', 'invariant', 'decreases'}
+# The crates of the trees and of what is built, whose public types get DERIVES, whatever the proved sources derive.
+TREE_CRATES = {'lay_text', 'lay_piece', 'lay_node', 'lay_code', 'lay_build_types', 'lay_build_exprs', 'lay_build'}
+DERIVES = ['Clone', 'Debug', 'PartialEq', 'Eq']
+# The types for which `rust/src/tree.rs` writes `Debug` by hand: they are shown as what they hold.
+SHOWN_BY_HAND = {'Boxed', 'List', 'Text'}
+# The enums of trees to which a version of the language may add. Rust users match them with a `_`.
+OPEN_CRATES = {'lay_node', 'lay_code'}
+# Those of them that are whole: each asks a question that has no more answers.
+CLOSED = {'Fields', 'GivenName', 'Listed', 'PatPlace', 'PathStyle', 'Site', 'Start', 'TypePlace'}
+# What the cargo crate offers: the calls of the roots, and the types of lay_tree.
+OFFERED = ROOTS + ['lay_tree']
+# The calls among these whose contract has a condition, which no Rust compiler sees, and what in the cargo crate sees to it.
+CONDITIONS = {
+    ('lay_build', 'expr_binary'): 'rust/src/build.rs refuses the operators that are none of a chain',
+    ('lay_front', 'run'): 'it is hidden, and src/bin hands in inputs of which none was chosen',
+    ('lay_front', 'unparse'): 'rust/src/calls.rs has a call of its own, which asks whether the tree can be written',
+    ('lay_tree', 'Tokens::new'): 'unparse asks whether the tree can be written, and so whether delimiters are balanced',
+}
 KEPT_ATTRIBUTES = {'inline', 'must_use'}
 DROPPED_ATTRIBUTES = {'tactic', 'cycle', 'error'}
 KEPT_DERIVES = {'Clone', 'Copy', 'Debug', 'PartialEq', 'Eq'}
@@ -102,6 +120,8 @@ class Lexer:
 
     def __init__(self, text):
         self.text, self.at, self.line, self.space, self.tokens = text, 0, 1, '', []
+        # Before which token each condition stands, and in which line.
+        self.conditions = []
 
     def run(self):
         while self.at < len(self.text):
@@ -161,6 +181,8 @@ class Lexer:
         """A word, or a clause or a ghost member, which it begins."""
         head = CLAUSE_HEAD.match(self.text, found.end())
         if found[0] in CLAUSES and head:
+            if found[0] == 'requires':
+                self.conditions.append((len(self.tokens), self.line))
             self.skip(self.brace_end(head.end()))
         elif found[0] == 'ghost':
             self.ghost(found.end())
@@ -338,6 +360,44 @@ def rust_items(tokens, left_out):
         else:
             out.append(token)
             at += 1
+    return out
+
+
+def last_derives(out):
+    """Takes the derives behind which an item stands away, and answers the names in them."""
+    names, others = [], []
+    while out and out[-1].is_sign(']'):
+        start = max(at for at, token in enumerate(out) if token.is_sign('#'))
+        attribute_tokens = out[start:]
+        del out[start:]
+        if attribute_tokens[2].text == 'derive':
+            names += [token.text for token in attribute_tokens[3:] if token.kind == 'word']
+        else:
+            others = attribute_tokens + others
+    out += others
+    return names
+
+
+def attribute_of(text, line):
+    """An attribute without space in it, on a line of its own."""
+    return [Token('item', f'#[{text}]', line, '\n')]
+
+
+def tree_attributes(tokens, crate):
+    """With the derives of public types of trees, and the enums among them to which the language may add marked so."""
+    if crate not in TREE_CRATES:
+        return tokens
+    out = []
+    for at, token in enumerate(tokens):
+        if token.is_word('pub') and tokens[at + 1].is_word('enum', 'struct'):
+            name = tokens[at + 2].text
+            derives = last_derives(out)
+            derives += [added for added in DERIVES if added not in derives]
+            derives = [kept for kept in derives if kept != 'Debug' or name not in SHOWN_BY_HAND]
+            out += attribute_of(f"derive({', '.join(derives)})", token.line)
+            if tokens[at + 1].is_word('enum') and crate in OPEN_CRATES and name not in CLOSED:
+                out += attribute_of('non_exhaustive', token.line)
+        out.append(token)
     return out
 
 
@@ -566,6 +626,49 @@ def texts(tokens):
     return [token.text for token in tokens]
 
 
+def public_calls(tokens, conditions):
+    """The public calls before whose bodies conditions stand, each with the type that it belongs to, or none, and the line of the condition."""
+    for end, line in conditions:
+        start = next((at for at in reversed(range(end)) if tokens[at].is_word('fn')), None)
+        if start is None or any(token.is_sign('{') for token in tokens[start:end]):
+            continue
+        if tokens[start - 1].is_word('pub'):
+            yield impl_type(tokens, start), tokens[start + 1].text, line
+
+
+def impl_type(tokens, at):
+    """The type of the impl in which a place stands, if it stands in one."""
+    depth = 0
+    while depth >= 0:
+        at -= 1
+        if at < 0:
+            return None
+        depth += tokens[at].is_sign('}') - tokens[at].is_sign('{')
+    while at >= 0 and not tokens[at].is_word('impl'):
+        if tokens[at].is_sign(';}'):
+            return None
+        at -= 1
+    at += 1
+    if tokens[at].is_sign('<'):
+        depth = 0
+        while depth or not is_name(tokens[at]):
+            depth += tokens[at].is_sign('<') - tokens[at].is_sign('>')
+            at += 1
+    return tokens[at].text
+
+
+def passed_on(tokens):
+    """The paths that a crate's `pub use`s pass on, each with the name that it has there."""
+    for at in range(1, len(tokens)):
+        if tokens[at].is_word('use') and tokens[at - 1].is_word('pub'):
+            for path, name in leaves(tokens, at + 1, [])[0]:
+                yield path, name or path[-1]
+
+
+def public_modules(tokens):
+    return {tokens[at + 2].text for at in range(len(tokens) - 2) if tokens[at].is_word('pub') and tokens[at + 1].is_word('mod')}
+
+
 def token_text(tokens):
     return ''.join(token.text for token in tokens)
 
@@ -611,11 +714,13 @@ class Sources:
             self.add(root)
         Paths.libraries = frozenset(name for uses in self.uses.values() for name in uses if name not in self.uses)
         self.tokens = {}
+        self.conditions = {}
         for crate in self.crates:
             self.read(crate)
         for crate, path in CHANGES:
             if crate in self.crates and (crate, path) not in self.tokens:
                 sys.exit(f"crates/{crate}/src/{path}, which is to be changed, isn't there")
+        self.known_conditions()
         self.laws = {name for tokens in self.tokens.values() for name in law_names(tokens)}
         for crate in LAWS & set(self.uses):
             self.laws |= self.laws_of(crate)
@@ -637,15 +742,51 @@ class Sources:
                     yield path
 
     def lexed(self, crate, path):
+        return self.lexer(crate, path).run()
+
+    def lexer(self, crate, path):
         with open(os.path.join(self.top, 'crates', crate, 'src', path), encoding='utf-8') as file:
-            return Lexer(file.read()).run()
+            return Lexer(file.read())
 
     def read(self, crate):
         for path in self.files(crate):
             with naming(crate, path):
-                tokens = filled_vectors(checked_texts(self.lexed(crate, path)))
+                lexer = self.lexer(crate, path)
+                tokens = lexer.run()
+                self.conditions[crate, path] = list(public_calls(tokens, lexer.conditions))
+                tokens = filled_vectors(checked_texts(tokens))
                 known_words(tokens)
                 self.tokens[crate, path] = tokens
+
+    def home(self, crate, name):
+        """The crate that has what another passes on under a name, and its name there."""
+        for path, given in passed_on(self.tokens[crate, 'lib.rt']):
+            if given == name and path[0] in self.crates:
+                return self.home(path[0], path[-1])
+        return crate, name
+
+    def offered_conditions(self):
+        """The calls with conditions that the cargo crate offers: by the crate that offers it and its name there, and where it stands."""
+        for offering in OFFERED:
+            if offering not in self.crates:
+                continue
+            head = self.tokens[offering, 'lib.rt']
+            homes = {self.home(offering, name): name for _, name in passed_on(head)}
+            modules = public_modules(head)
+            for (crate, path), calls in self.conditions.items():
+                for of, call, line in calls:
+                    name = homes.get((crate, of or call))
+                    if name is None and crate == offering and re.split(r'[/.]', path)[0] in modules | {'lib'}:
+                        name = of or call
+                    if name is not None:
+                        yield offering, f'{name}::{call}' if of else name, crate, path, line
+
+    def known_conditions(self):
+        """Stops at a call that the cargo crate offers and that has a condition which nothing is known to see to."""
+        for offering, name, crate, path, line in self.offered_conditions():
+            if (offering, name) not in CONDITIONS:
+                with naming(crate, path):
+                    raise Unknown(line, f'what sees to the condition of {name}')
 
     def laws_of(self, crate):
         found = set()
@@ -657,6 +798,7 @@ class Sources:
     def translated(self, crate, path):
         with naming(crate, path):
             tokens = matched_lets(rust_items(self.tokens[crate, path], LEFT_OUT.get(crate, ())))
+            tokens = tree_attributes(tokens, crate)
             tokens = rust_paths(tokens, Paths(crate, self.crates, self.laws))
             tokens = changed(tokens, CHANGES.get((crate, path), ()))
             return text_of(with_head(tokens, f'crates/{crate}/src/{path}'))

@@ -4,6 +4,7 @@
 use crate::generated::lay_build_types::{Built, Node};
 use crate::generated::lay_code::{Name, Ty};
 /// A name and the type behind its `:`, as in a struct or before the body of a function.
+#[derive(Clone, Debug, PartialEq, Eq)]
 pub struct NamedType {
     pub name: Name,
     pub ty: Ty,

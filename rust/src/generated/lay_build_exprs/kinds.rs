@@ -4,6 +4,7 @@
 use crate::generated::lay_build_types::{Built, Node};
 use crate::generated::lay_code::{Expr, Name};
 /// A name and the expression behind its `:`, as in a struct literal.
+#[derive(Clone, Debug, PartialEq, Eq)]
 pub struct NamedExpr {
     pub name: Name,
     pub value: Expr,

@@ -4,7 +4,7 @@
 /// The greatest depth of what stands in a file.
 const DEPTH: u32 = 256;
 /// Why nothing is built. What the call was given is let go.
-#[derive(Clone, Copy, Debug, PartialEq, Eq,)]
+#[derive(Clone, Copy, Debug, PartialEq, Eq)]
 pub enum BuildError {
     /// The text is no name: no identifier, or `crate`, `self`, `super` or `Self`.
     BadName,
@@ -18,6 +18,7 @@ pub enum BuildError {
 /// A kind of nodes that calls build.
 pub trait Node {}
 /// A node that was built. Contracts see the node alone; the least depth that it needs is kept beside it.
+#[derive(Clone, Debug, PartialEq, Eq)]
 pub struct Built<N: Node> {
     node: N,
     need: u32,

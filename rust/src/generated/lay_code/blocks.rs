@@ -14,6 +14,7 @@ use crate::generated::lay_code::item::Item;
 use crate::generated::lay_node::{Attr, Boxed, Pat, Ty};
 use crate::generated::lay_token::List;
 /// A block, with its inner attributes (Rust Reference, "Block expressions").
+#[derive(Clone, Debug, PartialEq, Eq)]
 pub struct Block {
     pub attrs: List<Attr>,
     pub stmts: List<Stmt>,
@@ -26,6 +27,8 @@ impl Block {
     }
 }
 /// A statement (Rust Reference, "Statements").
+#[derive(Clone, Debug, PartialEq, Eq)]
+#[non_exhaustive]
 pub enum Stmt {
     /// `let a: B = c else { d };`, where `else` stands behind a value alone
     Let {
@@ -56,6 +59,7 @@ impl Stmt {
     }
 }
 /// A condition, and the block that it leads to (Rust Reference, "`if` and `if let` expressions").
+#[derive(Clone, Debug, PartialEq, Eq)]
 pub struct Branch {
     pub condition: Condition,
     pub body: Block,
@@ -68,6 +72,7 @@ impl Branch {
     }
 }
 /// An arm of a match (Rust Reference, "Match expressions").
+#[derive(Clone, Debug, PartialEq, Eq)]
 pub struct Arm {
     pub attrs: List<Attr>,
     pub pat: Pat,

@@ -7,6 +7,7 @@ use crate::generated::lay_node::{Boxed, Pat};
 use crate::generated::lay_token::List;
 /// What decides a branch or a loop (Rust Reference, "`if` and `if let` expressions"): one link, or two or more with `&&` between
 /// them, at least one of which is a `let`. Expressions with `&&` between them are one link, a chain.
+#[derive(Clone, Debug, PartialEq, Eq)]
 pub struct Condition {
     pub links: List<Link>,
 }
@@ -18,6 +19,8 @@ impl Condition {
     }
 }
 /// A part of a condition.
+#[derive(Clone, Debug, PartialEq, Eq)]
+#[non_exhaustive]
 pub enum Link {
     /// `a`
     Expr {

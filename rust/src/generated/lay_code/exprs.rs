@@ -32,14 +32,14 @@ use crate::generated::lay_node::{
 };
 use crate::generated::lay_token::{List, Text};
 /// Whether an expression begins a statement or the body of an arm, and is the whole of it or a part.
-#[derive(Clone, Copy,)]
+#[derive(Clone, Copy, Debug, PartialEq, Eq)]
 pub enum Start {
     No,
     Whole,
     Part,
 }
 /// The place where an expression stands.
-#[derive(Clone, Copy,)]
+#[derive(Clone, Copy, Debug, PartialEq, Eq)]
 pub struct Place {
     /// The least level of an expression that may stand here, from 0 to 14.
     pub level: u8,
@@ -52,6 +52,8 @@ pub struct Place {
     pub lt_after: bool,
 }
 /// An expression (Rust Reference, "Expressions"). One within another stands one level deeper.
+#[derive(Clone, Debug, PartialEq, Eq)]
+#[non_exhaustive]
 pub enum Expr {
     /// `1`, `true`, `"a"`
     Lit {
@@ -207,12 +209,15 @@ impl Expr {
     }
 }
 /// A parameter of a closure.
+#[derive(Clone, Debug, PartialEq, Eq)]
 pub struct ClosureParam {
     pub attrs: List<Attr>,
     pub pat: Pat,
     pub ty: Option<Ty>,
 }
 /// A field in a struct literal (Rust Reference, "Struct expressions").
+#[derive(Clone, Debug, PartialEq, Eq)]
+#[non_exhaustive]
 pub enum FieldExpr {
     /// `a: b`
     Named {
@@ -233,6 +238,8 @@ pub enum FieldExpr {
     },
 }
 /// What follows the base of a postfix expression.
+#[derive(Clone, Debug, PartialEq, Eq)]
+#[non_exhaustive]
 pub enum Step {
     /// `.a`
     Field {

@@ -5,6 +5,7 @@ use crate::generated::lay_code::item::Item;
 use crate::generated::lay_node::Attr;
 use crate::generated::lay_token::{List, Text};
 /// A file (Rust Reference, "Crates and source files").
+#[derive(Clone, Debug, PartialEq, Eq)]
 pub struct File {
     /// The first line, without its line end, where it tells the system what runs the file.
     pub shebang: Option<Text>,

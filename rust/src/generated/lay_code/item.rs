@@ -31,6 +31,7 @@ use crate::generated::lay_node::{
 };
 use crate::generated::lay_token::List;
 /// An item with its outer attributes (Rust Reference, "Items"). One within another stands one level deeper.
+#[derive(Clone, Debug, PartialEq, Eq)]
 pub struct Item {
     pub attrs: List<Attr>,
     /// Nothing, where it is a macro call or declares a macro.
@@ -38,6 +39,8 @@ pub struct Item {
     pub kind: Boxed<ItemKind>,
 }
 /// What an item is.
+#[derive(Clone, Debug, PartialEq, Eq)]
+#[non_exhaustive]
 pub enum ItemKind {
     /// `extern crate a;`
     ExternCrate {

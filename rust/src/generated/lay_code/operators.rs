@@ -2,7 +2,8 @@
 //!
 //! Operators of expressions.
 /// An operator between two operands (Rust Reference, "Operator expressions").
-#[derive(Clone, Copy,)]
+#[derive(Clone, Copy, Debug, PartialEq, Eq)]
+#[non_exhaustive]
 pub enum Op {
     /// `=`
     Set,
@@ -107,7 +108,8 @@ impl Op {
     }
 }
 /// An operator before its operand (Rust Reference, "Borrow operators", "Dereference operator", "Negation operators").
-#[derive(Clone, Copy,)]
+#[derive(Clone, Copy, Debug, PartialEq, Eq)]
+#[non_exhaustive]
 pub enum Prefix {
     /// `-`
     Neg,

@@ -5,7 +5,8 @@ use crate::generated::lay_node::simple_path::SimplePath;
 use crate::generated::lay_node::tokens::{Group, Tokens};
 use crate::generated::lay_token::Text;
 /// An attribute (Rust Reference, "Attributes"). An inner one says something of what it stands in.
-#[derive(Debug,)]
+#[derive(Debug, Clone, PartialEq, Eq)]
+#[non_exhaustive]
 pub enum Attr {
     /// Documentation. It may be spelled as a comment or as `#[doc = "text"]`.
     Doc {
@@ -20,7 +21,8 @@ pub enum Attr {
     },
 }
 /// What an attribute is called.
-#[derive(Debug,)]
+#[derive(Debug, Clone, PartialEq, Eq)]
+#[non_exhaustive]
 pub enum MetaPath {
     /// `a::b`
     Path(SimplePath),
@@ -28,7 +30,8 @@ pub enum MetaPath {
     Unsafe,
 }
 /// What an attribute is given.
-#[derive(Debug,)]
+#[derive(Debug, Clone, PartialEq, Eq)]
+#[non_exhaustive]
 pub enum MetaInput {
     /// Nothing.
     Bare,

@@ -5,7 +5,7 @@ use crate::shims::Box;
 use crate::generated::lay_token::NoMemory;
 use crate::shims::Global;
 /// A box that contracts see as its value, so two boxes of equal values are equal, wherever they lie.
-#[derive(Debug,)]
+#[derive(Clone, PartialEq, Eq)]
 pub struct Boxed<T> {
     inner: Box<T>,
 }

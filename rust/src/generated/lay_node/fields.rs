@@ -8,6 +8,7 @@ use crate::generated::lay_node::types::Ty;
 use crate::generated::lay_node::vis::Vis;
 use crate::generated::lay_token::List;
 /// The fields of a struct or of a variant (Rust Reference, "Structs", "Enumerations").
+#[derive(Clone, Debug, PartialEq, Eq)]
 pub enum Fields {
     /// Nothing.
     Unit,
@@ -21,12 +22,14 @@ pub enum Fields {
     },
 }
 /// A field without a name. Behind `pub` its type is no `(crate)`, `(self)` or `(super)`, which would restrict it.
+#[derive(Clone, Debug, PartialEq, Eq)]
 pub struct TupleField {
     pub attrs: List<Attr>,
     pub vis: Vis,
     pub ty: Ty,
 }
 /// A field with a name.
+#[derive(Clone, Debug, PartialEq, Eq)]
 pub struct Field {
     pub attrs: List<Attr>,
     pub vis: Vis,
@@ -34,6 +37,7 @@ pub struct Field {
     pub ty: Ty,
 }
 /// A variant of an enumeration.
+#[derive(Clone, Debug, PartialEq, Eq)]
 pub struct Variant {
     pub attrs: List<Attr>,
     pub vis: Vis,

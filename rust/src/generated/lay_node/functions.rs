@@ -8,7 +8,8 @@ use crate::generated::lay_node::token::{Lifetime, Name};
 use crate::generated::lay_node::types::{Abi, Ty};
 use crate::generated::lay_token::List;
 /// What a function says of its safety.
-#[derive(Clone, Copy,)]
+#[derive(Clone, Copy, Debug, PartialEq, Eq)]
+#[non_exhaustive]
 pub enum Safety {
     /// `unsafe`
     Unsafe,
@@ -16,6 +17,7 @@ pub enum Safety {
     Safe,
 }
 /// The head of a function (Rust Reference, "Functions"): all up to its where clause.
+#[derive(Clone, Debug, PartialEq, Eq)]
 pub struct FnHead {
     pub is_const: bool,
     pub is_async: bool,
@@ -28,11 +30,14 @@ pub struct FnHead {
     pub output: Option<Ty>,
 }
 /// A parameter of a function.
+#[derive(Clone, Debug, PartialEq, Eq)]
 pub struct Param {
     pub attrs: List<Attr>,
     pub kind: ParamKind,
 }
 /// What a parameter of a function is.
+#[derive(Clone, Debug, PartialEq, Eq)]
+#[non_exhaustive]
 pub enum ParamKind {
     /// `&'a mut self`
     RefSelf {

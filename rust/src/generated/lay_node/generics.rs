@@ -6,10 +6,13 @@ use crate::generated::lay_node::token::{Lifetime, Name};
 use crate::generated::lay_node::types::{Binder, Bound, ConstArg, LifetimeParam, Ty};
 use crate::generated::lay_token::List;
 /// Generic parameters (Rust Reference, "Generic parameters"): `<'a, A: B = C, const D: E = 1>`, or none.
+#[derive(Clone, Debug, PartialEq, Eq)]
 pub struct Generics {
     pub params: List<GenericParam>,
 }
 /// A generic parameter.
+#[derive(Clone, Debug, PartialEq, Eq)]
+#[non_exhaustive]
 pub enum GenericParam {
     /// `'a: 'b`
     Region {
@@ -31,15 +34,20 @@ pub enum GenericParam {
     },
 }
 /// What a parameter that is a constant is by default.
+#[derive(Clone, Debug, PartialEq, Eq)]
+#[non_exhaustive]
 pub enum ConstDefault {
     Arg(ConstArg),
     Name(Name),
 }
 /// A where clause (Rust Reference, "Where clauses"), of no predicates where there is none.
+#[derive(Clone, Debug, PartialEq, Eq)]
 pub struct Wheres {
     pub predicates: List<Predicate>,
 }
 /// What a where clause says of a lifetime or of a type.
+#[derive(Clone, Debug, PartialEq, Eq)]
+#[non_exhaustive]
 pub enum Predicate {
     /// `'a: 'b + 'c`
     Region {

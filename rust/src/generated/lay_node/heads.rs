@@ -7,7 +7,7 @@ use crate::generated::lay_node::token::{GivenName, Name, Word};
 use crate::generated::lay_node::types::{Bound, Path, Ty};
 use crate::generated::lay_token::List;
 /// Where an item stands.
-#[derive(Clone, Copy,)]
+#[derive(Clone, Copy, Debug, PartialEq, Eq)]
 pub enum Site {
     /// In a file or a module.
     Module,
@@ -19,12 +19,14 @@ pub enum Site {
     Foreign,
 }
 /// `extern crate a as b` (Rust Reference, "Extern crate declarations")
+#[derive(Clone, Debug, PartialEq, Eq)]
 pub struct ExternCrate {
     /// A name, or `self`.
     pub word: Word,
     pub renamed: Option<GivenName>,
 }
 /// `type A<B>: C = D where E` (Rust Reference, "Type aliases", "Associated Items")
+#[derive(Clone, Debug, PartialEq, Eq)]
 pub struct Alias {
     pub name: Name,
     pub generics: Generics,
@@ -34,6 +36,7 @@ pub struct Alias {
 }
 /// `struct A<B>(C) where D` (Rust Reference, "Structs"). The where clause stands before fields with names, and behind
 /// others.
+#[derive(Clone, Debug, PartialEq, Eq)]
 pub struct Struct {
     pub name: Name,
     pub generics: Generics,
@@ -41,6 +44,7 @@ pub struct Struct {
     pub wheres: Wheres,
 }
 /// `union A<B> where C { d: E }` (Rust Reference, "Unions")
+#[derive(Clone, Debug, PartialEq, Eq)]
 pub struct Union {
     pub name: Name,
     pub generics: Generics,
@@ -48,6 +52,7 @@ pub struct Union {
     pub fields: List<Field>,
 }
 /// `enum A<B> where C { D }` (Rust Reference, "Enumerations")
+#[derive(Clone, Debug, PartialEq, Eq)]
 pub struct Enum {
     pub name: Name,
     pub generics: Generics,
@@ -55,6 +60,8 @@ pub struct Enum {
     pub variants: List<Variant>,
 }
 /// The head of a constant or of a static (Rust Reference, "Constant items", "Static items"): all up to its value.
+#[derive(Clone, Debug, PartialEq, Eq)]
+#[non_exhaustive]
 pub enum ValueHead {
     /// `const A: B`
     Const {
@@ -69,6 +76,7 @@ pub enum ValueHead {
     },
 }
 /// The head of a trait (Rust Reference, "Traits"): all up to its where clause.
+#[derive(Clone, Debug, PartialEq, Eq)]
 pub struct TraitHead {
     pub is_unsafe: bool,
     pub name: Name,
@@ -76,6 +84,7 @@ pub struct TraitHead {
     pub bounds: List<Bound>,
 }
 /// The head of an implementation (Rust Reference, "Implementations"): all up to its where clause.
+#[derive(Clone, Debug, PartialEq, Eq)]
 pub struct ImplHead {
     pub is_unsafe: bool,
     pub generics: Generics,
@@ -83,6 +92,7 @@ pub struct ImplHead {
     pub ty: Ty,
 }
 /// The trait that is implemented: `A for` or, where it is said that it isn't, `!A for`.
+#[derive(Clone, Debug, PartialEq, Eq)]
 pub struct TraitRef {
     pub negative: bool,
     pub path: Path,

@@ -8,12 +8,14 @@ use crate::generated::lay_node::tokens::MacroCall;
 use crate::generated::lay_node::types::Path;
 use crate::generated::lay_token::{List, Text};
 /// Where a pattern stands: where several alternatives may stand, or where one may.
-#[derive(Clone, Copy,)]
+#[derive(Clone, Copy, Debug, PartialEq, Eq)]
 pub enum PatPlace {
     Alternatives,
     Single,
 }
 /// A pattern (Rust Reference, "Patterns"). One within another stands one level deeper.
+#[derive(Clone, Debug, PartialEq, Eq)]
+#[non_exhaustive]
 pub enum Pat {
     /// `A | B`, of two alternatives at least
     Or {
@@ -78,6 +80,8 @@ pub enum Pat {
     },
 }
 /// A field in the pattern of a struct.
+#[derive(Clone, Debug, PartialEq, Eq)]
+#[non_exhaustive]
 pub enum FieldPat {
     /// `a: B`
     Named {
@@ -98,11 +102,14 @@ pub enum FieldPat {
     },
 }
 /// A literal in a pattern, or a number behind a `-`.
+#[derive(Clone, Debug, PartialEq, Eq)]
 pub struct PatValue {
     pub negative: bool,
     pub literal: Literal,
 }
 /// An end of a span of values.
+#[derive(Clone, Debug, PartialEq, Eq)]
+#[non_exhaustive]
 pub enum SpanEnd {
     /// `1`, `-1`
     Value(PatValue),

@@ -4,7 +4,7 @@
 use crate::generated::lay_node::token::Word;
 use crate::generated::lay_token::List;
 /// A path of words alone (Rust Reference, "Simple paths"), of one at least.
-#[derive(Debug,)]
+#[derive(Debug, Clone, PartialEq, Eq)]
 pub struct SimplePath {
     /// It begins with `::`.
     pub global: bool,

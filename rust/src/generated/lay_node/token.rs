@@ -3,26 +3,26 @@
 //! Tokens of a tree: names, words, and the tokens of token lists.
 use crate::generated::lay_token::{Kind, Text};
 /// A name: an identifier that is no keyword, or a raw identifier, whose text is without `r#`.
-#[derive(Debug,)]
+#[derive(Debug, Clone, PartialEq, Eq)]
 pub struct Name {
     pub raw: bool,
     pub text: Text,
 }
 /// A name that is given, or `_` where none is.
-#[derive(Debug,)]
+#[derive(Debug, Clone, PartialEq, Eq)]
 pub enum GivenName {
     Name(Name),
     /// `_`
     Underscore,
 }
 /// A word of a path: a name, or `crate`, `self`, `super` or `Self`.
-#[derive(Debug,)]
+#[derive(Debug, Clone, PartialEq, Eq)]
 pub struct Word {
     pub raw: bool,
     pub text: Text,
 }
 /// A token of a token list. Where it stood isn't in the tree, nor whether documentation was a block.
-#[derive(Debug,)]
+#[derive(Debug, Clone, PartialEq, Eq)]
 pub enum Listed {
     /// Any token but documentation, with its joint mark: another punctuation token stands directly behind it.
     Token {
@@ -37,10 +37,12 @@ pub enum Listed {
     },
 }
 /// A lifetime, with its `'` (Rust Reference, "Lifetimes and loop labels").
+#[derive(Clone, Debug, PartialEq, Eq)]
 pub struct Lifetime {
     pub text: Text,
 }
 /// A literal token, or `true` or `false`, which are identifiers (Rust Reference, "Literal expressions").
+#[derive(Clone, Debug, PartialEq, Eq)]
 pub struct Literal {
     pub kind: Kind,
     pub text: Text,

@@ -7,7 +7,7 @@ use crate::generated::lay_node::token::Listed;
 use crate::generated::lay_token::{Delim, Kind, List, NoMemory};
 use crate::shims::Global;
 /// A token list (Rust Reference, "Macros": token trees): tokens whose delimiters are balanced, as a flat list.
-#[derive(Debug,)]
+#[derive(Debug, Clone, PartialEq, Eq)]
 pub struct Tokens {
     list: List<Listed>,
 }
@@ -55,14 +55,14 @@ fn turn(opened: &mut Vec<Delim>, token: &Listed) -> Result<bool, NoMemory> {
     }
 }
 /// One delimited group.
-#[derive(Debug,)]
+#[derive(Debug, Clone, PartialEq, Eq)]
 pub struct Group {
     pub delim: Delim,
     /// What stands between the delimiters.
     pub tokens: Tokens,
 }
 /// A macro call (Rust Reference, "Macro invocation"): `a::m!(b, c)`.
-#[derive(Debug,)]
+#[derive(Debug, Clone, PartialEq, Eq)]
 pub struct MacroCall {
     pub path: SimplePath,
     pub tokens: Group,

@@ -8,18 +8,20 @@ use crate::generated::lay_node::tokens::{MacroCall, Tokens};
 use crate::generated::lay_token::List;
 /// How generic arguments are spelled in a path: in code behind `::`, and in what names a kind of things, as a type,
 /// behind an optional `::`, where they may also stand in parentheses.
-#[derive(Clone, Copy,)]
+#[derive(Clone, Copy, Debug, PartialEq, Eq)]
 pub enum PathStyle {
     Code,
     Kind,
 }
 /// Where a type stands: where several bounds may stand, or where one may.
-#[derive(Clone, Copy,)]
+#[derive(Clone, Copy, Debug, PartialEq, Eq)]
 pub enum TypePlace {
     Bounds,
     NoBounds,
 }
 /// A type (Rust Reference, "Types"). One within another stands one level deeper.
+#[derive(Clone, Debug, PartialEq, Eq)]
+#[non_exhaustive]
 pub enum Ty {
     /// `a::B<C>`
     Path {
@@ -77,18 +79,22 @@ pub enum Ty {
     },
 }
 /// A parameter of a function type.
+#[derive(Clone, Debug, PartialEq, Eq)]
 pub struct FuncParam {
     pub attrs: List<Attr>,
     pub name: Option<GivenName>,
     pub ty: Ty,
 }
 /// A path (Rust Reference, "Paths"), of one segment at least.
+#[derive(Clone, Debug, PartialEq, Eq)]
 pub struct Path {
     pub start: PathStart,
     /// Each word with its arguments. (A struct of their own can't stand in a list of another one of this cycle.)
     pub segments: List<(Word, Args)>,
 }
 /// What a path begins with, before its segments.
+#[derive(Clone, Debug, PartialEq, Eq)]
+#[non_exhaustive]
 pub enum PathStart {
     /// Nothing.
     Local,
@@ -101,6 +107,8 @@ pub enum PathStart {
     },
 }
 /// The generic arguments of a segment.
+#[derive(Clone, Debug, PartialEq, Eq)]
+#[non_exhaustive]
 pub enum Args {
     None,
     /// `<A, 'a, 1, B = C>`
@@ -114,6 +122,8 @@ pub enum Args {
     },
 }
 /// A generic argument.
+#[derive(Clone, Debug, PartialEq, Eq)]
+#[non_exhaustive]
 pub enum Arg {
     /// `'a`
     Region {
@@ -135,6 +145,8 @@ pub enum Arg {
     },
 }
 /// What is asked of a name among generic arguments. With the name it stands one level deeper.
+#[derive(Clone, Debug, PartialEq, Eq)]
+#[non_exhaustive]
 pub enum Constraint {
     /// ` = A`
     Equal {
@@ -150,6 +162,8 @@ pub enum Constraint {
     },
 }
 /// A bound (Rust Reference, "Trait and lifetime bounds").
+#[derive(Clone, Debug, PartialEq, Eq)]
+#[non_exhaustive]
 pub enum Bound {
     /// `'a`
     Outlives {
@@ -168,6 +182,8 @@ pub enum Bound {
     },
 }
 /// What a bound of captures names: a lifetime, a name, or `Self` (Rust Reference, "Use bounds").
+#[derive(Clone, Debug, PartialEq, Eq)]
+#[non_exhaustive]
 pub enum Capture {
     /// `'a`
     Region {
@@ -179,6 +195,8 @@ pub enum Capture {
     },
 }
 /// A generic argument that is a constant.
+#[derive(Clone, Debug, PartialEq, Eq)]
+#[non_exhaustive]
 pub enum ConstArg {
     /// `1`, `true`
     Literal(Literal),
@@ -188,16 +206,19 @@ pub enum ConstArg {
     Braces(Tokens),
 }
 /// `for<'a, 'b: 'a>`
+#[derive(Clone, Debug, PartialEq, Eq)]
 pub struct Binder {
     pub params: List<LifetimeParam>,
 }
 /// A generic parameter that is a lifetime: `#[a] 'b: 'c + 'd`
+#[derive(Clone, Debug, PartialEq, Eq)]
 pub struct LifetimeParam {
     pub attrs: List<Attr>,
     pub lifetime: Lifetime,
     pub bounds: List<Lifetime>,
 }
 /// `extern`, or `extern "C"`: a string without suffix
+#[derive(Clone, Debug, PartialEq, Eq)]
 pub struct Abi {
     pub name: Option<Literal>,
 }

@@ -4,7 +4,7 @@
 use crate::generated::lay_node::token::{GivenName, Word};
 use crate::generated::lay_token::List;
 /// What an import names (Rust Reference, "Use declarations"). One in a group stands one level deeper.
-#[derive(Debug,)]
+#[derive(Debug, Clone, PartialEq, Eq)]
 pub struct UseTree {
     /// It begins with `::`.
     pub global: bool,
@@ -13,7 +13,8 @@ pub struct UseTree {
     pub end: UseEnd,
 }
 /// What a use tree names behind its path.
-#[derive(Debug,)]
+#[derive(Debug, Clone, PartialEq, Eq)]
+#[non_exhaustive]
 pub enum UseEnd {
     /// `a`, or `a as b`
     Word {

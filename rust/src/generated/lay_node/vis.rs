@@ -3,7 +3,8 @@
 //! Visibilities.
 use crate::generated::lay_node::simple_path::SimplePath;
 /// Where an item or a field may be named (Rust Reference, "Visibility and privacy").
-#[derive(Debug,)]
+#[derive(Debug, Clone, PartialEq, Eq)]
+#[non_exhaustive]
 pub enum Vis {
     /// Nothing: where it stands.
     Inherited,

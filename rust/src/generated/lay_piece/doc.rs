@@ -2,7 +2,7 @@
 //!
 //! Texts of documentation.
 /// How a text of documentation may be written, so that the text is read again (Rust Reference, "Doc comments").
-#[derive(Clone, Copy, Debug, PartialEq, Eq,)]
+#[derive(Clone, Copy, Debug, PartialEq, Eq)]
 pub enum DocForm {
     /// On one line, behind `///` or `//!`.
     Line,

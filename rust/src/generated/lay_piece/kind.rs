@@ -2,7 +2,7 @@
 //!
 //! The kinds of tokens.
 /// What a delimiter is made of.
-#[derive(Clone, Copy, Debug, PartialEq, Eq,)]
+#[derive(Clone, Copy, Debug, PartialEq, Eq)]
 pub enum Delim {
     /// `(` and `)`
     Paren,
@@ -12,7 +12,7 @@ pub enum Delim {
     Brace,
 }
 /// The kind of a token (Rust Reference, "Tokens"). A kind's example is a whole piece of it.
-#[derive(Clone, Copy, Debug, PartialEq, Eq,)]
+#[derive(Clone, Copy, Debug, PartialEq, Eq)]
 pub enum Kind {
     /// `name`, a keyword too
     Ident,

@@ -9,7 +9,7 @@ mod words;
 use crate::generated::lay_piece::kind::{Delim, Kind};
 use chars::{CharSet, first};
 /// The kind of a piece and its length in bytes.
-#[derive(Clone, Copy, Debug, PartialEq, Eq,)]
+#[derive(Clone, Copy, Debug, PartialEq, Eq)]
 pub struct Piece {
     pub kind: Kind,
     pub len: usize,

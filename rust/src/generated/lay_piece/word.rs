@@ -2,7 +2,7 @@
 //!
 //! The words of the language.
 /// What a word is in Rust's edition 2021 (Rust Reference, "Keywords").
-#[derive(Clone, Copy, Debug, PartialEq, Eq,)]
+#[derive(Clone, Copy, Debug, PartialEq, Eq)]
 pub enum Class {
     /// No keyword: a word that may be a name.
     Plain,

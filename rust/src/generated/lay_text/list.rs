@@ -5,7 +5,7 @@ use crate::shims::Vec;
 use crate::shims::Global;
 /// A list of items, on std's vector. Contracts see the list alone, and neither room nor place, so two lists
 /// with the same items are equal.
-#[derive(Debug,)]
+#[derive(Clone, PartialEq, Eq)]
 pub struct List<T> {
     items: Vec<T>,
 }

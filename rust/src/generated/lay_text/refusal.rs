@@ -3,7 +3,7 @@
 //! Why no text is given.
 use crate::shims::{AllocError, AllocFailed};
 /// Memory was not found. It says nothing of the input.
-#[derive(Clone, Copy, Debug, PartialEq, Eq,)]
+#[derive(Clone, Copy, Debug, PartialEq, Eq)]
 pub struct NoMemory;
 impl From<AllocError> for NoMemory {
     fn from(_: AllocError) -> NoMemory {
@@ -19,7 +19,7 @@ impl<T> From<AllocFailed<T>> for NoMemory {
 ///
 /// `at` counts bytes from 0: in the input for `NotUtf8`, else in the text without a byte order mark in
 /// which each CR LF is one LF.
-#[derive(Clone, Copy, Debug, PartialEq, Eq,)]
+#[derive(Clone, Copy, Debug, PartialEq, Eq)]
 pub enum Refusal {
     /// The input is no UTF-8; `at` is the length of its longest valid prefix.
     NotUtf8 {
@@ -39,7 +39,7 @@ pub enum Refusal {
     },
 }
 /// Why a call that formats gives no text.
-#[derive(Clone, Copy, Debug, PartialEq, Eq,)]
+#[derive(Clone, Copy, Debug, PartialEq, Eq)]
 pub enum FormatError {
     /// The input has no reading.
     Refused(Refusal),

@@ -7,7 +7,7 @@ use crate::shims::Global;
 /// How many bytes a text keeps in the value itself.
 const INLINE: usize = 22;
 /// A list of bytes. Up to 22 of them are kept in the value itself, where no memory is taken.
-#[derive(Debug,)]
+#[derive(Clone, PartialEq, Eq)]
 pub struct Text {
     bytes: SmallVec<u8, 22>,
 }

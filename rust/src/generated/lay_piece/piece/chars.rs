@@ -3,7 +3,7 @@
 //! The characters at the front of a text, and runs of them.
 use crate::generated::lay_piece::piece::numbers::Base;
 /// A set of characters.
-#[derive(Clone, Copy, Debug, PartialEq, Eq,)]
+#[derive(Clone, Copy, Debug, PartialEq, Eq)]
 pub enum CharSet {
     /// What may begin a word.
     WordStart,

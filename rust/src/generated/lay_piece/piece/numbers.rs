@@ -4,7 +4,7 @@
 use crate::generated::lay_piece::kind::Kind;
 use crate::generated::lay_piece::piece::chars::{CharSet, first};
 /// The base of a number.
-#[derive(Clone, Copy, Debug, PartialEq, Eq,)]
+#[derive(Clone, Copy, Debug, PartialEq, Eq)]
 pub enum Base {
     Binary,
     Octal,
