@@ -53,6 +53,7 @@ pub mod raw {
         expr_str, expr_struct, field, file, item_const, item_fn, item_mod, item_struct, name, param, stmt_expr, stmt_let, type_path,
         type_ref, type_tuple, with_doc,
     };
+    pub use crate::generated::lay_files::read_bytes;
     pub use crate::shims::Global;
 }
 
