@@ -1,5 +1,6 @@
-//! Calls that build files: each makes one node of a syntax tree, and a call that would make a node which no source parses to
-//! refuses. So a generator puts no text together, and [`unparse`](crate::unparse) prints every file that [`file`] makes.
+//! Calls that build files: each makes one node of a syntax tree, and a call that would make a node
+//! which no source parses to refuses. So a generator puts no text together, and
+//! [`unparse`](crate::unparse) prints every file that [`file`] makes.
 //!
 //! ```
 //! use froesaffron::build::*;
@@ -16,42 +17,46 @@
 //! # Ok::<(), Box<dyn std::error::Error>>(())
 //! ```
 //!
-//! What the syntax asks for is put in: a name that is a keyword becomes a raw identifier, an operand gets the parentheses that
-//! it needs, a string is escaped. What can't be written is refused by the call that would make it, with a [`BuildError`]: a
-//! text that is no identifier for a name, an assignment for an operator between two values, a node that is nested more than
-//! 256 levels deep. So no call takes much of the stack. What a refused call was given is dropped.
+//! What the syntax asks for is put in: a name that is a keyword becomes a raw identifier, an
+//! operand gets the parentheses that it needs, a string is escaped. What can't be written is
+//! refused by the call that would make it, with a [`BuildError`]: a text that is no identifier for
+//! a name, an assignment for an operator between two values, a node that is nested more than 256
+//! levels deep. So no call takes much of the stack. What a refused call was given is dropped.
 //!
 //! ```
 //! use froesaffron::build::*;
 //!
 //! assert_eq!(ty("a b").unwrap_err().to_string(), "no name: \"a b\"");
-//! assert_eq!(expr_binary(Op::Set, expr_int(1)?, expr_int(2)?).unwrap_err().to_string(), "no operator between two values: =");
+//! let assigned = expr_binary(Op::Set, expr_path("a")?, expr_int(2)?);
+//! assert_eq!(assigned.unwrap_err().to_string(), "no operator between two values: =");
 //! # Ok::<(), BuildError>(())
 //! ```
 //!
-//! A name is given as a `&str`, or as what [`name`] made of one ([`IntoName`]). A path is given as a `&str` with `::` between
-//! its names, or as what [`path()`] made of many names ([`IntoPath`]). Lists are given as whatever can be iterated over: an array,
-//! a `Vec`, an iterator. What was built can be cloned, compared and shown by `{:?}`, and [`node`](Built::node) lends its node,
-//! of the types of [`tree`](crate::tree).
+//! A name is given as a `&str`, or as what [`name`] made of one ([`IntoName`]). A path is given as
+//! a `&str` with `::` between its names, or as what [`path()`] made of many names ([`IntoPath`]).
+//! Lists are given as whatever can be iterated over: an array, a `Vec`, an iterator. What was built
+//! can be cloned, compared and shown by `{:?}`, and [`node`](Built::node) lends its node, of the
+//! types of [`tree`](crate::tree).
 use crate::generated::lay_text::{List, NoMemory};
 use crate::shims::Global;
 use alloc::string::String;
 use core::fmt;
 
 pub use crate::generated::lay_build::{
-    Built, BuiltBlock, BuiltExpr, BuiltField, BuiltItem, BuiltName, BuiltParam, BuiltStmt, BuiltType, File, NamedExpr, NamedType,
-    Op,
+    Built, BuiltBlock, BuiltExpr, BuiltField, BuiltItem, BuiltName, BuiltParam, BuiltStmt,
+    BuiltType, File, NamedExpr, NamedType, Op,
 };
 
-/// The calls over which those of `build` stand, which name the place that memory comes from and ask more of who calls them. They
-/// aren't part of what a version of the crate promises.
+/// The calls over which those of `build` stand, which name the place that memory comes from and ask
+/// more of who calls them. They aren't part of what a version of the crate promises.
 #[doc(hidden)]
 pub mod raw {
     pub use crate::generated::lay_build::{
-        BuildError, Built, BuiltBlock, BuiltExpr, BuiltField, BuiltItem, BuiltName, BuiltParam, BuiltStmt, BuiltType, File, List,
-        NamedExpr, NamedType, NoMemory, Op, block, expr_binary, expr_call, expr_field, expr_if, expr_int, expr_method, expr_path,
-        expr_str, expr_struct, field, file, item_const, item_fn, item_mod, item_struct, name, param, stmt_expr, stmt_let, type_path,
-        type_ref, type_tuple, with_doc,
+        block, expr_binary, expr_call, expr_field, expr_if, expr_int, expr_method, expr_path,
+        expr_str, expr_struct, field, file, item_const, item_fn, item_mod, item_struct, name,
+        param, stmt_expr, stmt_let, type_path, type_ref, type_tuple, with_doc, BuildError, Built,
+        BuiltBlock, BuiltExpr, BuiltField, BuiltItem, BuiltName, BuiltParam, BuiltStmt, BuiltType,
+        File, List, NamedExpr, NamedType, NoMemory, Op,
     };
     pub use crate::generated::lay_files::read_bytes;
     pub use crate::shims::Global;
@@ -76,7 +81,11 @@ impl fmt::Display for BuildError {
         match self {
             BuildError::BadName(text) => write!(out, "no name: {text:?}"),
             BuildError::BadOperator(op) => {
-                write!(out, "no operator between two values: {}", String::from_utf8_lossy(op.text()))
+                write!(
+                    out,
+                    "no operator between two values: {}",
+                    String::from_utf8_lossy(op.text())
+                )
             }
             BuildError::TooDeep => out.write_str("too deep"),
             BuildError::NoMemory => out.write_str("no memory"),
@@ -96,7 +105,8 @@ impl From<NoMemory> for BuildError {
     }
 }
 
-/// Why a call with a `&str` for each text builds nothing. Only [`raw::name`] refuses a name, and [`name`] says itself which.
+/// Why a call with a `&str` for each text builds nothing. Only [`raw::name`] refuses a name, and
+/// [`name`] says itself which.
 impl From<raw::BuildError> for BuildError {
     fn from(why: raw::BuildError) -> BuildError {
         match why {
@@ -177,7 +187,8 @@ impl IntoPath for &String {
     }
 }
 
-/// The types for which [`IntoName`] and [`IntoPath`] are there. No others can be added, so that calls may be.
+/// The types for which [`IntoName`] and [`IntoPath`] are there. No others can be added, so that
+/// calls may be.
 mod given {
     pub trait Sealed {}
 
@@ -205,8 +216,8 @@ fn list<T>(items: impl IntoIterator<Item = T>) -> Result<List<T>, BuildError> {
 
 /// A name: an identifier. A keyword becomes a raw identifier where it may be one.
 ///
-/// [`BuildError::BadName`] has the text where it is no identifier, and where it is `_` or one of the path words `crate`, `self`,
-/// `super` and `Self`.
+/// [`BuildError::BadName`] has the text where it is no identifier, and where it is `_` or one of
+/// the path words `crate`, `self`, `super` and `Self`.
 ///
 /// ```
 /// use froesaffron::build::*;
@@ -235,13 +246,14 @@ fn bad_name(text: &str) -> BuildError {
     }
 }
 
-/// A path of these names, without arguments. One is there at least: of none, as of an empty text, [`BuildError::BadName`] comes.
+/// A path of these names, without arguments. One is there at least: of none, as of an empty text,
+/// [`BuildError::BadName`] comes.
 ///
 /// ```
-/// use froesaffron::build::*;
+/// use froesaffron::{build::*, unparse};
 ///
 /// let of = type_path(path(["std", "vec", "Vec"])?, [ty("u8")?])?;
-/// let text = froesaffron::unparse(&file([item_struct(false, "A", [param("b", of)?])?])?)?;
+/// let text = unparse(&file([item_struct(false, "A", [param("b", of)?])?])?)?;
 /// assert_eq!(text, "struct A {\n    b: std::vec::Vec<u8>,\n}\n");
 /// # Ok::<(), Box<dyn std::error::Error>>(())
 /// ```
@@ -261,9 +273,9 @@ pub fn path<N: IntoName>(names: impl IntoIterator<Item = N>) -> Result<BuiltPath
 /// The type of a path without generic arguments: `a::B`. [`type_path`] makes one with arguments.
 ///
 /// ```
-/// use froesaffron::build::*;
+/// use froesaffron::{build::*, unparse};
 ///
-/// let text = froesaffron::unparse(&file([item_const(false, "A", ty("u64")?, expr_int(1)?)?])?)?;
+/// let text = unparse(&file([item_const(false, "A", ty("u64")?, expr_int(1)?)?])?)?;
 /// assert_eq!(text, "const A: u64 = 1;\n");
 /// # Ok::<(), Box<dyn std::error::Error>>(())
 /// ```
@@ -274,14 +286,17 @@ pub fn ty(path: impl IntoPath) -> Result<BuiltType, BuildError> {
 /// The type of a path, whose last name has these generic arguments, if there are any: `a::B<C, D>`.
 ///
 /// ```
-/// use froesaffron::build::*;
+/// use froesaffron::{build::*, unparse};
 ///
 /// let of = type_path("std::collections::HashMap", [ty("Name")?, type_path("Vec", [ty("u8")?])?])?;
-/// let text = froesaffron::unparse(&file([item_const(false, "A", of, expr_path("B")?)?])?)?;
+/// let text = unparse(&file([item_const(false, "A", of, expr_path("B")?)?])?)?;
 /// assert_eq!(text, "const A: std::collections::HashMap<Name, Vec<u8>> = B;\n");
 /// # Ok::<(), Box<dyn std::error::Error>>(())
 /// ```
-pub fn type_path(path: impl IntoPath, args: impl IntoIterator<Item = BuiltType>) -> Result<BuiltType, BuildError> {
+pub fn type_path(
+    path: impl IntoPath,
+    args: impl IntoIterator<Item = BuiltType>,
+) -> Result<BuiltType, BuildError> {
     let BuiltPath { first, rest } = path.into_path()?;
     Ok(raw::type_path(Global, first, rest, list(args)?)?)
 }
@@ -289,10 +304,10 @@ pub fn type_path(path: impl IntoPath, args: impl IntoIterator<Item = BuiltType>)
 /// A reference type: `&A`, or `&mut A` where it is `writable`.
 ///
 /// ```
-/// use froesaffron::build::*;
+/// use froesaffron::{build::*, unparse};
 ///
 /// let item = item_struct(false, "A", [param("b", type_ref(true, ty("C")?)?)?])?;
-/// assert_eq!(froesaffron::unparse(&file([item])?)?, "struct A {\n    b: &mut C,\n}\n");
+/// assert_eq!(unparse(&file([item])?)?, "struct A {\n    b: &mut C,\n}\n");
 /// # Ok::<(), Box<dyn std::error::Error>>(())
 /// ```
 pub fn type_ref(writable: bool, of: BuiltType) -> Result<BuiltType, BuildError> {
@@ -302,10 +317,10 @@ pub fn type_ref(writable: bool, of: BuiltType) -> Result<BuiltType, BuildError> 
 /// A tuple type: `()`, `(A,)`, `(A, B)`.
 ///
 /// ```
-/// use froesaffron::build::*;
+/// use froesaffron::{build::*, unparse};
 ///
 /// let item = item_struct(false, "A", [param("b", type_tuple([ty("C")?])?)?])?;
-/// assert_eq!(froesaffron::unparse(&file([item])?)?, "struct A {\n    b: (C,),\n}\n");
+/// assert_eq!(unparse(&file([item])?)?, "struct A {\n    b: (C,),\n}\n");
 /// # Ok::<(), Box<dyn std::error::Error>>(())
 /// ```
 pub fn type_tuple(parts: impl IntoIterator<Item = BuiltType>) -> Result<BuiltType, BuildError> {
@@ -315,23 +330,24 @@ pub fn type_tuple(parts: impl IntoIterator<Item = BuiltType>) -> Result<BuiltTyp
 /// The integer literal of a number, in decimal digits and without a suffix.
 ///
 /// ```
-/// use froesaffron::build::*;
+/// use froesaffron::{build::*, unparse};
 ///
-/// let item = item_const(false, "A", ty("u128")?, expr_int(u128::MAX)?)?;
-/// assert_eq!(froesaffron::unparse(&file([item])?)?, "const A: u128 = 340282366920938463463374607431768211455;\n");
+/// let item = item_const(false, "A", ty("u64")?, expr_int(u64::MAX.into())?)?;
+/// assert_eq!(unparse(&file([item])?)?, "const A: u64 = 18446744073709551615;\n");
 /// # Ok::<(), Box<dyn std::error::Error>>(())
 /// ```
 pub fn expr_int(value: u128) -> Result<BuiltExpr, BuildError> {
     Ok(raw::expr_int(Global, value)?)
 }
 
-/// The string literal whose value is the text. Quotes, backslashes, line feeds and carriage returns in it are escaped.
+/// The string literal whose value is the text. Quotes, backslashes, line feeds and carriage returns
+/// in it are escaped.
 ///
 /// ```
-/// use froesaffron::build::*;
+/// use froesaffron::{build::*, unparse};
 ///
 /// let item = item_const(false, "A", type_ref(false, ty("str")?)?, expr_str("a\"b\\c\n")?)?;
-/// assert_eq!(froesaffron::unparse(&file([item])?)?, "const A: &str = \"a\\\"b\\\\c\\n\";\n");
+/// assert_eq!(unparse(&file([item])?)?, "const A: &str = \"a\\\"b\\\\c\\n\";\n");
 /// # Ok::<(), Box<dyn std::error::Error>>(())
 /// ```
 pub fn expr_str(text: &str) -> Result<BuiltExpr, BuildError> {
@@ -341,10 +357,10 @@ pub fn expr_str(text: &str) -> Result<BuiltExpr, BuildError> {
 /// A path without generic arguments: `a::B`.
 ///
 /// ```
-/// use froesaffron::build::*;
+/// use froesaffron::{build::*, unparse};
 ///
 /// let item = item_const(false, "A", ty("u8")?, expr_path("u8::MAX")?)?;
-/// assert_eq!(froesaffron::unparse(&file([item])?)?, "const A: u8 = u8::MAX;\n");
+/// assert_eq!(unparse(&file([item])?)?, "const A: u8 = u8::MAX;\n");
 /// # Ok::<(), Box<dyn std::error::Error>>(())
 /// ```
 pub fn expr_path(path: impl IntoPath) -> Result<BuiltExpr, BuildError> {
@@ -355,10 +371,10 @@ pub fn expr_path(path: impl IntoPath) -> Result<BuiltExpr, BuildError> {
 /// A field: `a.b`, or `(a + b).c` of a base that needs parentheses.
 ///
 /// ```
-/// use froesaffron::build::*;
+/// use froesaffron::{build::*, unparse};
 ///
 /// let item = item_const(false, "A", ty("u8")?, expr_field(expr_path("B")?, "type")?)?;
-/// assert_eq!(froesaffron::unparse(&file([item])?)?, "const A: u8 = B.r#type;\n");
+/// assert_eq!(unparse(&file([item])?)?, "const A: u8 = B.r#type;\n");
 /// # Ok::<(), Box<dyn std::error::Error>>(())
 /// ```
 pub fn expr_field(base: BuiltExpr, field: impl IntoName) -> Result<BuiltExpr, BuildError> {
@@ -368,10 +384,11 @@ pub fn expr_field(base: BuiltExpr, field: impl IntoName) -> Result<BuiltExpr, Bu
 /// A call of a method: `a.b(c, d)`. The base is put in parentheses where it needs them.
 ///
 /// ```
-/// use froesaffron::build::*;
+/// use froesaffron::{build::*, unparse};
 ///
-/// let item = item_const(false, "A", ty("u8")?, expr_method(expr_int(1)?, "max", [expr_path("B")?])?)?;
-/// assert_eq!(froesaffron::unparse(&file([item])?)?, "const A: u8 = 1.max(B);\n");
+/// let value = expr_method(expr_int(1)?, "max", [expr_path("B")?])?;
+/// let item = item_const(false, "A", ty("u8")?, value)?;
+/// assert_eq!(unparse(&file([item])?)?, "const A: u8 = 1.max(B);\n");
 /// # Ok::<(), Box<dyn std::error::Error>>(())
 /// ```
 pub fn expr_method(
@@ -382,33 +399,38 @@ pub fn expr_method(
     Ok(raw::expr_method(Global, base, method.into_name()?, list(args)?)?)
 }
 
-/// A call: `a(b, c)`. A base that ends in a field is put in parentheses, `(a.b)(c)`, since it would be the name of a method.
+/// A call: `a(b, c)`. A base that ends in a field is put in parentheses, `(a.b)(c)`, since it would
+/// be the name of a method.
 ///
 /// ```
-/// use froesaffron::build::*;
+/// use froesaffron::{build::*, unparse};
 ///
 /// let called = expr_call(expr_field(expr_path("B")?, "c")?, [expr_int(1)?])?;
 /// let item = item_const(false, "A", ty("u8")?, called)?;
-/// assert_eq!(froesaffron::unparse(&file([item])?)?, "const A: u8 = (B.c)(1);\n");
+/// assert_eq!(unparse(&file([item])?)?, "const A: u8 = (B.c)(1);\n");
 /// # Ok::<(), Box<dyn std::error::Error>>(())
 /// ```
-pub fn expr_call(base: BuiltExpr, args: impl IntoIterator<Item = BuiltExpr>) -> Result<BuiltExpr, BuildError> {
+pub fn expr_call(
+    base: BuiltExpr,
+    args: impl IntoIterator<Item = BuiltExpr>,
+) -> Result<BuiltExpr, BuildError> {
     Ok(raw::expr_call(Global, base, list(args)?)?)
 }
 
-/// An operator between two values: `a + b`. An operand is put in parentheses unless it is a literal, a path, a field or a call,
-/// so `(a + b) + c` has a pair that Rust doesn't need.
+/// An operator between two values: `a + b`. An operand is put in parentheses unless it is a
+/// literal, a path, a field or a call, so `(a + b) + c` has a pair that Rust doesn't need.
 ///
-/// The operators are those from `||` to `%` in the order of [`Op`]. Of one that assigns or makes a range
-/// [`BuildError::BadOperator`] comes.
+/// The operators are those from `||` to `%` in the order of [`Op`]. Of one that assigns or makes a
+/// range [`BuildError::BadOperator`] comes.
 ///
 /// ```
-/// use froesaffron::build::*;
+/// use froesaffron::{build::*, unparse};
 ///
 /// let sum = expr_binary(Op::Add, expr_path("B")?, expr_int(1)?)?;
 /// let item = item_const(false, "A", ty("u8")?, expr_binary(Op::Mul, sum, expr_int(2)?)?)?;
-/// assert_eq!(froesaffron::unparse(&file([item])?)?, "const A: u8 = (B + 1) * 2;\n");
-/// assert_eq!(expr_binary(Op::Upto, expr_int(1)?, expr_int(2)?), Err(BuildError::BadOperator(Op::Upto)));
+/// assert_eq!(unparse(&file([item])?)?, "const A: u8 = (B + 1) * 2;\n");
+/// let range = expr_binary(Op::Upto, expr_int(1)?, expr_int(2)?);
+/// assert_eq!(range, Err(BuildError::BadOperator(Op::Upto)));
 /// # Ok::<(), Box<dyn std::error::Error>>(())
 /// ```
 pub fn expr_binary(op: Op, left: BuiltExpr, right: BuiltExpr) -> Result<BuiltExpr, BuildError> {
@@ -450,31 +472,40 @@ pub fn expr_binary(op: Op, left: BuiltExpr, right: BuiltExpr) -> Result<BuiltExp
 /// A struct literal: `a::B { c: d, e: f }`.
 ///
 /// ```
-/// use froesaffron::build::*;
+/// use froesaffron::{build::*, unparse};
 ///
 /// let value = expr_struct("a::B", [field("c", expr_int(1)?)?, field("d", expr_int(2)?)?])?;
 /// let item = item_const(false, "A", ty("a::B")?, value)?;
-/// assert_eq!(froesaffron::unparse(&file([item])?)?, "const A: a::B = a::B { c: 1, d: 2 };\n");
+/// assert_eq!(unparse(&file([item])?)?, "const A: a::B = a::B { c: 1, d: 2 };\n");
 /// # Ok::<(), Box<dyn std::error::Error>>(())
 /// ```
-pub fn expr_struct(path: impl IntoPath, fields: impl IntoIterator<Item = BuiltField>) -> Result<BuiltExpr, BuildError> {
+pub fn expr_struct(
+    path: impl IntoPath,
+    fields: impl IntoIterator<Item = BuiltField>,
+) -> Result<BuiltExpr, BuildError> {
     let BuiltPath { first, rest } = path.into_path()?;
     Ok(raw::expr_struct(Global, first, rest, list(fields)?)?)
 }
 
-/// A branch: `if a { b }`, or with a block after `else`, `if a { b } else { c }`. What is tested is put in parentheses unless it
-/// is a literal, a path, a field, a call or an operator between two values.
+/// A branch: `if a { b }`, or with a block after `else`, `if a { b } else { c }`. What is tested is
+/// put in parentheses unless it is a literal, a path, a field, a call or an operator between two
+/// values.
 ///
 /// ```
-/// use froesaffron::build::*;
+/// use froesaffron::{build::*, unparse};
 ///
 /// let test = expr_binary(Op::EqEq, expr_path("B")?, expr_int(0)?)?;
-/// let value = expr_if(test, block([], Some(expr_int(1)?))?, Some(block([], Some(expr_int(2)?))?))?;
+/// let (then, other) = (block([], Some(expr_int(1)?))?, block([], Some(expr_int(2)?))?);
+/// let value = expr_if(test, then, Some(other))?;
 /// let item = item_const(false, "A", ty("u8")?, value)?;
-/// assert_eq!(froesaffron::unparse(&file([item])?)?, "const A: u8 = if B == 0 { 1 } else { 2 };\n");
+/// assert_eq!(unparse(&file([item])?)?, "const A: u8 = if B == 0 { 1 } else { 2 };\n");
 /// # Ok::<(), Box<dyn std::error::Error>>(())
 /// ```
-pub fn expr_if(test: BuiltExpr, then: BuiltBlock, other: Option<BuiltBlock>) -> Result<BuiltExpr, BuildError> {
+pub fn expr_if(
+    test: BuiltExpr,
+    then: BuiltBlock,
+    other: Option<BuiltBlock>,
+) -> Result<BuiltExpr, BuildError> {
     Ok(raw::expr_if(Global, test, then, other)?)
 }
 
@@ -483,7 +514,8 @@ pub fn field(name: impl IntoName, value: BuiltExpr) -> Result<BuiltField, BuildE
     Ok(raw::field(name.into_name()?, value)?)
 }
 
-/// A name with its type: a parameter, for [`item_fn`], or a field without visibility, for [`item_struct`]: `a: B`.
+/// A name with its type: a parameter, for [`item_fn`], or a field without visibility, for
+/// [`item_struct`]: `a: B`.
 pub fn param(name: impl IntoName, ty: BuiltType) -> Result<BuiltParam, BuildError> {
     Ok(raw::param(name.into_name()?, ty)?)
 }
@@ -491,53 +523,61 @@ pub fn param(name: impl IntoName, ty: BuiltType) -> Result<BuiltParam, BuildErro
 /// A statement that gives a value to a name, which has the type if one is given: `let a: B = c;`.
 ///
 /// ```
-/// use froesaffron::build::*;
+/// use froesaffron::{build::*, unparse};
 ///
-/// let stmts = [stmt_let("a", Some(ty("u8")?), expr_int(1)?)?, stmt_let("b", None, expr_path("a")?)?];
-/// let item = item_fn(false, "f", [], None, block(stmts, None)?)?;
-/// assert_eq!(froesaffron::unparse(&file([item])?)?, "fn f() {\n    let a: u8 = 1;\n    let b = a;\n}\n");
+/// let first = stmt_let("a", Some(ty("u8")?), expr_int(1)?)?;
+/// let second = stmt_let("b", None, expr_path("a")?)?;
+/// let item = item_fn(false, "f", [], None, block([first, second], None)?)?;
+/// assert_eq!(unparse(&file([item])?)?, "fn f() {\n    let a: u8 = 1;\n    let b = a;\n}\n");
 /// # Ok::<(), Box<dyn std::error::Error>>(())
 /// ```
-pub fn stmt_let(name: impl IntoName, ty: Option<BuiltType>, value: BuiltExpr) -> Result<BuiltStmt, BuildError> {
+pub fn stmt_let(
+    name: impl IntoName,
+    ty: Option<BuiltType>,
+    value: BuiltExpr,
+) -> Result<BuiltStmt, BuildError> {
     Ok(raw::stmt_let(Global, name.into_name()?, ty, value)?)
 }
 
 /// An expression as a statement, with its `;`: `a();`.
 ///
 /// ```
-/// use froesaffron::build::*;
+/// use froesaffron::{build::*, unparse};
 ///
 /// let body = block([stmt_expr(expr_call(expr_path("g")?, [])?)?], None)?;
 /// let item = item_fn(false, "f", [], None, body)?;
-/// assert_eq!(froesaffron::unparse(&file([item])?)?, "fn f() {\n    g();\n}\n");
+/// assert_eq!(unparse(&file([item])?)?, "fn f() {\n    g();\n}\n");
 /// # Ok::<(), Box<dyn std::error::Error>>(())
 /// ```
 pub fn stmt_expr(expr: BuiltExpr) -> Result<BuiltStmt, BuildError> {
     Ok(raw::stmt_expr(Global, expr)?)
 }
 
-/// A block of these statements. The expression, if there is one, stands last, without a `;`, and is the value of the block:
-/// `{ a; b }`.
+/// A block of these statements. The expression, if there is one, stands last, without a `;`, and is
+/// the value of the block: `{ a; b }`.
 ///
 /// ```
-/// use froesaffron::build::*;
+/// use froesaffron::{build::*, unparse};
 ///
-/// let body = block((0..2).map(|n| stmt_let("a", None, expr_int(n)?)).collect::<Result<Vec<_>, _>>()?, Some(expr_path("a")?))?;
-/// let item = item_fn(false, "f", [], Some(ty("u8")?), body)?;
-/// assert_eq!(froesaffron::unparse(&file([item])?)?, "fn f() -> u8 {\n    let a = 0;\n    let a = 1;\n    a\n}\n");
+/// let stmts = (0..2).map(|n| stmt_let("a", None, expr_int(n)?)).collect::<Result<Vec<_>, _>>()?;
+/// let item = item_fn(false, "f", [], None, block(stmts, Some(expr_path("a")?))?)?;
+/// assert_eq!(unparse(&file([item])?)?, "fn f() {\n    let a = 0;\n    let a = 1;\n    a\n}\n");
 /// # Ok::<(), Box<dyn std::error::Error>>(())
 /// ```
-pub fn block(stmts: impl IntoIterator<Item = BuiltStmt>, tail: Option<BuiltExpr>) -> Result<BuiltBlock, BuildError> {
+pub fn block(
+    stmts: impl IntoIterator<Item = BuiltStmt>,
+    tail: Option<BuiltExpr>,
+) -> Result<BuiltBlock, BuildError> {
     Ok(raw::block(Global, list(stmts)?, tail)?)
 }
 
 /// A struct whose fields have names, and no visibility: `pub struct A { b: C }`.
 ///
 /// ```
-/// use froesaffron::build::*;
+/// use froesaffron::{build::*, unparse};
 ///
 /// let item = item_struct(true, "A", [param("b", ty("u8")?)?, param("fn", ty("u8")?)?])?;
-/// assert_eq!(froesaffron::unparse(&file([item])?)?, "pub struct A {\n    b: u8,\n    r#fn: u8,\n}\n");
+/// assert_eq!(unparse(&file([item])?)?, "pub struct A {\n    b: u8,\n    r#fn: u8,\n}\n");
 /// # Ok::<(), Box<dyn std::error::Error>>(())
 /// ```
 pub fn item_struct(
@@ -551,24 +591,30 @@ pub fn item_struct(
 /// A constant: `const A: B = c;`.
 ///
 /// ```
-/// use froesaffron::build::*;
+/// use froesaffron::{build::*, unparse};
 ///
 /// let item = item_const(true, "A", ty("u8")?, expr_int(1)?)?;
-/// assert_eq!(froesaffron::unparse(&file([item])?)?, "pub const A: u8 = 1;\n");
+/// assert_eq!(unparse(&file([item])?)?, "pub const A: u8 = 1;\n");
 /// # Ok::<(), Box<dyn std::error::Error>>(())
 /// ```
-pub fn item_const(public: bool, name: impl IntoName, ty: BuiltType, value: BuiltExpr) -> Result<BuiltItem, BuildError> {
+pub fn item_const(
+    public: bool,
+    name: impl IntoName,
+    ty: BuiltType,
+    value: BuiltExpr,
+) -> Result<BuiltItem, BuildError> {
     Ok(raw::item_const(Global, public, name.into_name()?, ty, value)?)
 }
 
-/// A function of these parameters, with a result of the type if one is given: `fn a(b: C) -> D { e }`.
+/// A function of these parameters, with a result of the type if one is given: `fn a(b: C) -> D { e
+/// }`.
 ///
 /// ```
-/// use froesaffron::build::*;
+/// use froesaffron::{build::*, unparse};
 ///
 /// let body = block([], Some(expr_path("a")?))?;
 /// let item = item_fn(true, "same", [param("a", ty("u8")?)?], Some(ty("u8")?), body)?;
-/// assert_eq!(froesaffron::unparse(&file([item])?)?, "pub fn same(a: u8) -> u8 {\n    a\n}\n");
+/// assert_eq!(unparse(&file([item])?)?, "pub fn same(a: u8) -> u8 {\n    a\n}\n");
 /// # Ok::<(), Box<dyn std::error::Error>>(())
 /// ```
 pub fn item_fn(
@@ -584,10 +630,10 @@ pub fn item_fn(
 /// A module of these items: `mod a { struct B {} }`.
 ///
 /// ```
-/// use froesaffron::build::*;
+/// use froesaffron::{build::*, unparse};
 ///
 /// let item = item_mod(true, "a", [item_struct(false, "B", [])?])?;
-/// assert_eq!(froesaffron::unparse(&file([item])?)?, "pub mod a {\n    struct B {}\n}\n");
+/// assert_eq!(unparse(&file([item])?)?, "pub mod a {\n    struct B {}\n}\n");
 /// # Ok::<(), Box<dyn std::error::Error>>(())
 /// ```
 pub fn item_mod(
@@ -598,14 +644,14 @@ pub fn item_mod(
     Ok(raw::item_mod(Global, public, name.into_name()?, list(items)?)?)
 }
 
-/// The item with one more piece of documentation, after those that it has: a comment or, where no comment can say the text, the
-/// attribute `#[doc = "text"]`. No blank is put before the text.
+/// The item with one more piece of documentation, after those that it has: a comment or, where no
+/// comment can say the text, the attribute `#[doc = "text"]`. No blank is put before the text.
 ///
 /// ```
-/// use froesaffron::build::*;
+/// use froesaffron::{build::*, unparse};
 ///
 /// let item = with_doc(with_doc(item_mod(false, "a", [])?, " One line.")?, "*/\n")?;
-/// assert_eq!(froesaffron::unparse(&file([item])?)?, "/// One line.\n#[doc = \"*/\\n\"]\nmod a {}\n");
+/// assert_eq!(unparse(&file([item])?)?, "/// One line.\n#[doc = \"*/\\n\"]\nmod a {}\n");
 /// # Ok::<(), Box<dyn std::error::Error>>(())
 /// ```
 pub fn with_doc(item: BuiltItem, text: &str) -> Result<BuiltItem, BuildError> {
@@ -615,11 +661,11 @@ pub fn with_doc(item: BuiltItem, text: &str) -> Result<BuiltItem, BuildError> {
 /// The file of these items. [`unparse`](crate::unparse) prints it.
 ///
 /// ```
-/// use froesaffron::build::*;
+/// use froesaffron::{build::*, unparse};
 ///
 /// let items = ["A", "B"].map(|name| item_struct(false, name, []));
 /// let made = file(items.into_iter().collect::<Result<Vec<_>, _>>()?)?;
-/// assert_eq!(froesaffron::unparse(&made)?, "struct A {}\nstruct B {}\n");
+/// assert_eq!(unparse(&made)?, "struct A {}\nstruct B {}\n");
 /// # Ok::<(), Box<dyn std::error::Error>>(())
 /// ```
 pub fn file(items: impl IntoIterator<Item = BuiltItem>) -> Result<File, BuildError> {

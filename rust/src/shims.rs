@@ -21,9 +21,21 @@ pub struct AllocFailed<T> {
     pub value: T,
 }
 
-/// A vector. Its clone ends the program where memory isn't found, as that of Rust's own does.
-#[derive(Clone, Debug, PartialEq, Eq)]
+/// A vector.
+#[derive(Debug, PartialEq, Eq)]
 pub struct Vec<T>(alloc::vec::Vec<T>);
+
+/// A clone ends the program where memory isn't found, as that of Rust's own vector does. This one
+/// takes less of the stack for trees that are deep, where nothing is optimised.
+impl<T: Clone> Clone for Vec<T> {
+    fn clone(&self) -> Self {
+        let mut items = alloc::vec::Vec::with_capacity(self.0.len());
+        for item in &self.0 {
+            items.push(item.clone());
+        }
+        Vec(items)
+    }
+}
 
 impl<T> Vec<T> {
     #[inline]
@@ -198,9 +210,15 @@ impl<T> DerefMut for Vec<T> {
 }
 
 /// A box. Rust's own has no stable call that answers want of memory, but a boxed array of one item is had from a vector.
-/// Its clone ends the program where memory isn't found.
-#[derive(Clone, Debug, PartialEq, Eq)]
+#[derive(Debug, PartialEq, Eq)]
 pub struct Box<T>(alloc::boxed::Box<[T; 1]>);
+
+/// As that of a vector.
+impl<T: Clone> Clone for Box<T> {
+    fn clone(&self) -> Self {
+        Box(alloc::boxed::Box::new([self.0[0].clone()]))
+    }
+}
 
 impl<T> Box<T> {
     #[inline]

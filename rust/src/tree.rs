@@ -1,4 +1,5 @@
-//! Trees of Rust files, for a generator that writes no text: it builds a [`File`], and [`unparse`](crate::unparse) gives the text that reads to it.
+//! Trees of Rust files, for a generator that writes no text: it builds a [`File`], and
+//! [`unparse`](crate::unparse) gives the text that reads to it.
 //!
 //! ```
 //! use froesaffron::tree::*;
@@ -24,15 +25,17 @@
 //! # Ok::<(), NoMemory>(())
 //! ```
 //!
-//! An expression lacks parentheses where its parts don't fit their places: [`parenthesize`](crate::parenthesize) puts them in.
+//! An expression lacks parentheses where its parts don't fit their places:
+//! [`parenthesize`](crate::parenthesize) puts them in.
 //!
-//! Texts, lists and boxes answer want of memory instead of ending the program, and so each call that may take memory is told
-//! where from: [`Global`] is the one place.
+//! Texts, lists and boxes answer want of memory instead of ending the program, and so each call
+//! that may take memory is told where from: [`Global`] is the one place.
 //!
 //! # Copies, comparisons and `{:?}`
 //!
-//! Each type is `Clone`, `Debug`, `PartialEq` and `Eq`. Two trees are equal where their nodes are, whatever memory they take.
-//! `{:?}` shows a text as a string, a list as a list and a box as what it holds.
+//! Each type is `Clone`, `Debug`, `PartialEq` and `Eq`. Two trees are equal where their nodes are,
+//! whatever memory they take. `{:?}` shows a text as a string, a list as a list and a box as what
+//! it holds.
 //!
 //! ```
 //! use froesaffron::tree::*;
@@ -45,16 +48,17 @@
 //! # Ok::<(), NoMemory>(())
 //! ```
 //!
-//! A clone ends the program where memory isn't found, as a clone of a `Vec` does: it is no call of this crate that answers
-//! [`NoMemory`]. These three walk a tree down on the stack of who calls them, as dropping one does, and no level is counted:
-//! STACK
+//! A clone ends the program where memory isn't found, as a clone of a `Vec` does: it is no call of
+//! this crate that answers [`NoMemory`]. These three walk a tree down on the stack of who calls
+//! them, as dropping one does, and no level is counted: STACK
 //!
 //! # What may be added
 //!
-//! Enums whose variants are the forms of a part of the language, such as [`Expr`], [`Ty`] and [`ItemKind`], are
-//! `#[non_exhaustive]`: a later version of the crate may read more forms, so a `match` on one has a `_`. Their variants are
-//! made as those of other enums are. Structs and the fields of variants are written out, so that a compiler says which nodes
-//! want a field that a later version adds.
+//! Enums whose variants are the forms of a part of the language, such as [`Expr`], [`Ty`] and
+//! [`ItemKind`], are `#[non_exhaustive]`: a later version of the crate may read more forms, so a
+//! `match` on one has a `_`. Their variants are made as those of other enums are. Structs and the
+//! fields of variants are written out, so that a compiler says which nodes want a field that a
+//! later version adds.
 pub use crate::generated::lay_ops::places::{FREE, STATEMENT};
 pub use crate::generated::lay_text::{List, NoMemory, Text};
 pub use crate::generated::lay_token::{Delim, Kind};

@@ -345,7 +345,8 @@ fn what_is_built_can_be_looked_at() {
     assert_eq!(body([stmt_expr(int(1)).unwrap()], Some(int(2))).node().stmts.as_slice().len(), 2);
 }
 
-/// How often a call makes something anew of what it made, before it refuses that as too deep. It is asked 300 times at most.
+/// How often a call makes something anew of what it made, before it refuses that as too deep. It is
+/// asked 300 times at most.
 fn levels<T>(first: T, mut call: impl FnMut(T) -> Result<T, BuildError>) -> usize {
     let mut made = first;
     for count in 0..300 {
@@ -505,7 +506,8 @@ fn an_operator_that_assigns_makes_no_source() {
         assert_eq!(why.to_string(), format!("no operator between two values: {text}"));
         // What would be made is no source.
         let made = raw::expr_binary(Global, op, path("a"), path("b")).unwrap();
-        assert_eq!(unparse(&file_of([constant(ty("B"), made)])).unwrap_err().cause(), Cause::NotWritten);
+        let file = file_of([constant(ty("B"), made)]);
+        assert_eq!(unparse(&file).unwrap_err().cause(), Cause::NotWritten);
     }
 }
 

@@ -50,7 +50,8 @@ fn each_refused_request_of_a_call_over_an_expression_is_an_error() {
 /// A name that is too long to be kept without memory.
 const LONG_NAME: &str = "a_name_that_is_too_long_to_be_kept_without_memory";
 /// A path of two such.
-const LONG_PATH: &str = "a_name_that_is_too_long_to_be_kept_without_memory::a_name_that_is_too_long_to_be_kept_without_memory";
+const LONG_PATH: &str = "a_name_that_is_too_long_to_be_kept_without_memory::\
+                         a_name_that_is_too_long_to_be_kept_without_memory";
 
 fn path() -> Result<BuiltExpr, BuildError> {
     expr_path(LONG_PATH)
@@ -62,7 +63,8 @@ fn built() -> Result<File, BuildError> {
     let text = expr_str("a text that is too long to be kept without memory\n")?;
     let literal = expr_struct(LONG_PATH, [field(LONG_NAME, text)?])?;
     let sum = expr_binary(Op::Add, literal, expr_int(u128::MAX)?)?;
-    let called = expr_call(expr_field(sum, LONG_NAME)?, [expr_method(path()?, LONG_NAME, [path()?])?])?;
+    let method = expr_method(path()?, LONG_NAME, [path()?])?;
+    let called = expr_call(expr_field(sum, LONG_NAME)?, [method])?;
     let stmts = [stmt_let(LONG_NAME, Some(of()?), called)?];
     let inner = block([stmt_expr(path()?)?], Some(path()?))?;
     let body = block(stmts, Some(expr_if(path()?, inner, Some(block([], Some(path()?))?))?))?;

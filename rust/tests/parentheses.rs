@@ -7,8 +7,9 @@ use froesaffron::{Cause, format, is_loose, parenthesize, unparse};
 use holes::{expr, nested};
 use trees::{TREES, binary, constant, name, negated, test_of_literal};
 
-/// A node, behind `←` the one that stands in it for the path `p`, and behind a further `←` the one that stands in that; and what is
-/// made of it, as the value of a constant. Worked out by hand from the Rust Reference.
+/// A node, after `←` the one that stands in it for the path `p`, and after a further `←` the one
+/// that stands in that; and what is made of it, as the value of a constant. The proved calls are
+/// asked for the same rows.
 #[rustfmt::skip]
 const ROWS: [(&str, &str); 67] = [
     ("p*c←a+b", "(a + b) * c"),
@@ -80,7 +81,7 @@ const ROWS: [(&str, &str); 67] = [
     ("a+b", "a + b"),
 ];
 
-/// More such rows.
+/// More such rows, which aren't among those, worked out by hand from the Rust Reference.
 #[rustfmt::skip]
 const MORE_ROWS: [(&str, &str); 6] = [
     // An expression in an item of a trait, as a value and in a body.
@@ -89,12 +90,14 @@ const MORE_ROWS: [(&str, &str); 6] = [
     // A part that lacks a pair within a pair that the tree has.
     ("(p*c)←a+b", "((a + b) * c)"),
     ("-(p.b)←a as T", "-((a as T).b)"),
-    // A part whose place changes when its parent gets a pair: behind a parenthesis no statement begins, and a literal may stand.
+    // A part whose place changes when its parent gets a pair: after a parenthesis no statement
+    // begins, and a struct literal may stand.
     ("{p*b;}←p+a←loop{}", "{\n    (loop {} + a) * b;\n}"),
     ("if p*b{}←p+a←S{}", "if (S {} + a) * b {}"),
 ];
 
-/// An expression, behind `←` what it is spoilt with, and whether it then lacks nothing but parentheses.
+/// An expression, after `←` what it is spoilt with, and whether it then lacks nothing but
+/// parentheses.
 #[rustfmt::skip]
 const SPOILT: [(&str, bool); 12] = [
     ("a←b", true),
@@ -111,7 +114,8 @@ const SPOILT: [(&str, bool); 12] = [
     ("{ a; b; }←;", false),
 ];
 
-/// A node, behind `←` the one that stands in it for `p`, and whether that lacks nothing but parentheses.
+/// A node, after `←` the one that stands in it for `p`, and whether that lacks nothing but
+/// parentheses.
 const BODIES: [(&str, bool); 4] = [
     ("|| p←{ a; b }", true),
     ("|| p←{ a }", false),
@@ -146,8 +150,8 @@ fn each_row_gets_the_parentheses_that_it_lacks() {
     }
 }
 
-/// Renames a path, gives a literal another text, operands other operators and steps a call behind them, and ends no statement in
-/// a `;`.
+/// Renames a path, gives a literal another text, operands other operators and steps a call after
+/// them, and ends no statement in a `;`.
 fn spoil(tree: &mut Expr, with: &str) {
     let text = Text::from_bytes(Global, with.as_bytes()).unwrap();
     match tree {
@@ -158,7 +162,9 @@ fn spoil(tree: &mut Expr, with: &str) {
                 *op = if with == "<" { Op::Less } else { Op::Sub };
             }
         }
-        Expr::Postfix { steps, .. } => assert!(steps.push(Step::Apply { args: List::new(Global) }).is_ok()),
+        Expr::Postfix { steps, .. } => {
+            assert!(steps.push(Step::Apply { args: List::new(Global) }).is_ok());
+        }
         Expr::Block { body, .. } => {
             for stmt in body.stmts.as_mut_slice() {
                 if let Stmt::Expr { ended, .. } = stmt {

@@ -1,8 +1,10 @@
 #!/usr/bin/env python3
-"""Tests the translator: what it doesn't know has to end its run with the file and the line where it stands, trees are offered
-whole, with what Rust users derive, and so are the calls that build them, and each condition of a call is seen to.
+"""Tests the translator: what it doesn't know has to end its run with the file and the line where it
+stands, trees are offered whole, with what Rust users derive, and so are the calls that build them,
+and each condition of a call is seen to.
 
 usage: test.py"""
+import glob
 import os
 import re
 import subprocess
@@ -39,10 +41,12 @@ PLANTED = [
     ('fn a() {\n    let Some(mut b) = c else {\n        return;\n    };\n}', 2, 'what a let with an else binds'),
     ('fn a() {\n    let A { b } = c else {\n        return;\n    };\n}', 2, 'what a let with an else binds'),
     ('pub fn a(b: u8)\n    requires { b ≡ 1 }\n{}', 2, 'what sees to the condition of a'),
-    ('pub fn a(b: u8) -> Result<u8, B>\n    ensures { c }\n    requires little { b ≤ 1 }\n{}', 3, 'what sees to the condition of a'),
-    ('pub struct A;\nimpl A {\n    fn b() {}\n    pub fn c(&self)\n        requires { d }\n    {}\n}', 5,
-     'what sees to the condition of A::c'),
-    ('impl<T: B<C>> A<T> {\n    pub fn b()\n        requires { c }\n    {}\n}', 3, 'what sees to the condition of A::b'),
+    ('pub fn a(b: u8) -> Result<u8, B>\n    ensures { c }\n    requires little { b ≤ 1 }\n{}', 3,
+     'what sees to the condition of a'),
+    ('pub struct A;\nimpl A {\n    fn b() {}\n    pub fn c(&self)\n        requires { d }\n    {}\n}',
+     5, 'what sees to the condition of A::c'),
+    ('impl<T: B<C>> A<T> {\n    pub fn b()\n        requires { c }\n    {}\n}', 3,
+     'what sees to the condition of A::b'),
 ]
 # Statements, and what becomes of each.
 LETS = [
@@ -159,7 +163,8 @@ def tree_failures():
 
 
 def build_failures():
-    """The crate's calls that build files stand over all that lay_build passes on but laws, and each has the name of the one below it."""
+    """The crate's calls that build files stand over all that lay_build passes on but laws, and each
+    has the name of the one below it."""
     ours = listed('rust/src/build.rs', 'mod raw {\n    pub use crate::generated::lay_build::{')
     with open(os.path.join(TOP, 'crates/lay_build/src/lib.rt'), encoding='utf-8') as file:
         passed_on = re.findall(r'^pub use \w+::([^;]*);', file.read(), re.M)
@@ -172,13 +177,17 @@ def build_failures():
         yield f'rust/src/build.rs has no call {lacking}'
 
 
+ALL = 'Clone, Debug, PartialEq, Eq'
 # Types in a crate, and how they stand in the cargo crate.
 TYPES = [
-    ('lay_code', 'pub enum A { B }', '#[derive(Clone, Debug, PartialEq, Eq)] #[non_exhaustive] pub enum A { B }'),
-    ('lay_code', 'pub struct A;', '#[derive(Clone, Debug, PartialEq, Eq)] pub struct A;'),
-    ('lay_node', '#[derive(Copy, Eq)]\npub enum Site { B }', '#[derive(Copy, Eq, Clone, Debug, PartialEq)] pub enum Site { B }'),
-    ('lay_node', '#[derive(Debug)]\npub struct Boxed;', '#[derive(Clone, PartialEq, Eq)] pub struct Boxed;'),
-    ('lay_text', '/// A.\n#[must_use]\npub enum A { B }', '/// A. #[must_use] #[derive(Clone, Debug, PartialEq, Eq)] pub enum A { B }'),
+    ('lay_code', 'pub enum A { B }', f'#[derive({ALL})] #[non_exhaustive] pub enum A {{ B }}'),
+    ('lay_code', 'pub struct A;', f'#[derive({ALL})] pub struct A;'),
+    ('lay_node', '#[derive(Copy, Eq)]\npub enum Site { B }',
+     '#[derive(Copy, Eq, Clone, Debug, PartialEq)] pub enum Site { B }'),
+    ('lay_node', '#[derive(Debug)]\npub struct Boxed;',
+     '#[derive(Clone, PartialEq, Eq)] pub struct Boxed;'),
+    ('lay_text', '/// A.\n#[must_use]\npub enum A { B }',
+     f'/// A. #[must_use] #[derive({ALL})] pub enum A {{ B }}'),
     ('lay_code', 'enum A { B }\npub(crate) struct C;', 'enum A { B } pub(crate) struct C;'),
     ('lay_front', 'pub struct A;', 'pub struct A;'),
 ]
@@ -187,37 +196,34 @@ PUBLIC_TYPE = re.compile(r'((?:^#\[.*\]\n)*)^pub (enum|struct) (\w+)', re.M)
 
 
 def derive_failures():
-    """Each public type of the trees has all derives, but for those that are written by hand, and the enums that may grow are marked."""
+    """Each public type of the trees has all derives, but for those that are written by hand, and the
+    enums that may grow are marked."""
     for crate, source, wanted in TYPES:
         tokens = to_rust.tree_attributes(to_rust.rust_items(to_rust.Lexer(source).run(), ()), crate)
         made = ' '.join(to_rust.text_of(tokens).split())
         if made != wanted:
             yield f'{source!r} becomes {made!r} and not {wanted!r}'
-    seen = set()
-    for crate in sorted(to_rust.TREE_CRATES):
-        for folder, _, names in os.walk(os.path.join(TOP, 'crates', crate, 'src')):
-            seen |= {os.path.relpath(os.path.join(folder, name), os.path.join(TOP, 'crates')) for name in names}
     types = set()
-    for path in sorted(seen):
-        crate, _, rest = path.split(os.sep, 2)
-        made = os.path.join(TOP, 'rust/src/generated', crate + '.rs' if rest == 'lib.rt' else os.path.join(crate, rest[:-3] + '.rs'))
-        if not os.path.exists(made):
-            continue
-        with open(made, encoding='utf-8') as file:
-            for attributes, kind, name in PUBLIC_TYPE.findall(file.read()):
+    generated = os.path.join(TOP, 'rust/src/generated')
+    for crate in sorted(to_rust.TREE_CRATES):
+        for path in [crate + '.rs', *glob.glob(f'{crate}/**/*.rs', root_dir=generated, recursive=True)]:
+            with open(os.path.join(generated, path), encoding='utf-8') as file:
+                found = PUBLIC_TYPE.findall(file.read())
+            for attributes, kind, name in found:
                 types.add(name)
-                wanted = set(to_rust.DERIVES) - ({'Debug'} if name in to_rust.SHOWN_BY_HAND else set())
-                if not wanted <= set(re.findall(r'\w+', attributes)):
-                    yield f'{made}: {name} has {attributes!r}'
-                is_open = kind == 'enum' and crate in to_rust.OPEN_CRATES and name not in to_rust.CLOSED
-                if is_open != ('#[non_exhaustive]' in attributes):
-                    yield f'{made}: {name} has {attributes!r}'
+                by_hand = {'Debug'} if name in to_rust.SHOWN_BY_HAND else set()
+                derives = set(re.findall(r'\w+', attributes))
+                grows = crate in to_rust.OPEN_CRATES and name not in to_rust.CLOSED
+                is_marked = 'non_exhaustive' in derives
+                if not set(to_rust.DERIVES) - by_hand <= derives or is_marked != (kind == 'enum' and grows):
+                    yield f'{path}: {name} has {attributes!r}'
     for name in sorted((to_rust.CLOSED | to_rust.SHOWN_BY_HAND) - types):
         yield f'to_rust.py names {name}, which is no public type of a tree'
 
 
 def condition_failures():
-    """Each condition of a call that the cargo crate offers is known, and each that is known is there: without the list the run ends."""
+    """Each condition of a call that the cargo crate offers is known, and each that is known is there:
+    without its entry in the list the run ends."""
     sources = to_rust.Sources(TOP)
     found = {(offering, name) for offering, name, *_ in sources.offered_conditions()}
     for offering, name in sorted(set(to_rust.CONDITIONS) ^ found):

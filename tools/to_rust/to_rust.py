@@ -45,8 +45,10 @@ CHECKED_TEXT = 'crate::shims::text'
 # The call that makes a vector of an item as often as is asked for.
 FILLED = 'crate::shims::filled'
 CLAUSES = {'requires', 'ensures', 'invariant', 'decreases'}
-# The crates of the trees and of what is built, whose public types get DERIVES, whatever the proved sources derive.
-TREE_CRATES = {'lay_text', 'lay_piece', 'lay_node', 'lay_code', 'lay_build_types', 'lay_build_exprs', 'lay_build'}
+# The crates of the trees and of what is built, whose public types get DERIVES, whatever the proved
+# sources derive.
+TREE_CRATES = {'lay_text', 'lay_piece', 'lay_node', 'lay_code',
+               'lay_build_types', 'lay_build_exprs', 'lay_build'}
 DERIVES = ['Clone', 'Debug', 'PartialEq', 'Eq']
 # The types for which `rust/src/tree.rs` writes `Debug` by hand: they are shown as what they hold.
 SHOWN_BY_HAND = {'Boxed', 'List', 'Text'}
@@ -56,12 +58,13 @@ OPEN_CRATES = {'lay_node', 'lay_code'}
 CLOSED = {'Fields', 'GivenName', 'Listed', 'PatPlace', 'PathStyle', 'Site', 'Start', 'TypePlace'}
 # What the cargo crate offers: the calls of the roots, and the types of lay_tree.
 OFFERED = ROOTS + ['lay_tree']
-# The calls among these whose contract has a condition, which no Rust compiler sees, and what in the cargo crate sees to it.
+# The calls among these whose contract has a condition, which no Rust compiler sees, and what in the
+# cargo crate sees to it.
 CONDITIONS = {
-    ('lay_build', 'expr_binary'): 'rust/src/build.rs refuses the operators that are none of a chain',
-    ('lay_front', 'run'): 'it is hidden, and src/bin hands in inputs of which none was chosen',
-    ('lay_front', 'unparse'): 'rust/src/calls.rs has a call of its own, which asks whether the tree can be written',
-    ('lay_tree', 'Tokens::new'): 'unparse asks whether the tree can be written, and so whether delimiters are balanced',
+    ('lay_build', 'expr_binary'): 'rust/src/build.rs refuses an operator that is none between values',
+    ('lay_front', 'run'): 'it is hidden, and rust/src/bin hands in inputs of which none was chosen',
+    ('lay_front', 'unparse'): 'that of rust/src/calls.rs asks whether the tree can be written',
+    ('lay_tree', 'Tokens::new'): 'unparse refuses a tree whose token lists are not balanced',
 }
 KEPT_ATTRIBUTES = {'inline', 'must_use'}
 DROPPED_ATTRIBUTES = {'tactic', 'cycle', 'error'}
@@ -384,7 +387,8 @@ def attribute_of(text, line):
 
 
 def tree_attributes(tokens, crate):
-    """With the derives of public types of trees, and the enums among them to which the language may add marked so."""
+    """With the derives of public types of trees, and with a mark at the enums among them to which the
+    language may add."""
     if crate not in TREE_CRATES:
         return tokens
     out = []
@@ -627,7 +631,8 @@ def texts(tokens):
 
 
 def public_calls(tokens, conditions):
-    """The public calls before whose bodies conditions stand, each with the type that it belongs to, or none, and the line of the condition."""
+    """The public calls before whose bodies conditions stand, each with the type that it belongs to, or
+    none, and the line of the condition."""
     for end, line in conditions:
         start = next((at for at in reversed(range(end)) if tokens[at].is_word('fn')), None)
         if start is None or any(token.is_sign('{') for token in tokens[start:end]):
@@ -666,7 +671,8 @@ def passed_on(tokens):
 
 
 def public_modules(tokens):
-    return {tokens[at + 2].text for at in range(len(tokens) - 2) if tokens[at].is_word('pub') and tokens[at + 1].is_word('mod')}
+    return {name.text for public, mod, name in zip(tokens, tokens[1:], tokens[2:])
+            if public.is_word('pub') and mod.is_word('mod')}
 
 
 def token_text(tokens):
@@ -766,7 +772,8 @@ class Sources:
         return crate, name
 
     def offered_conditions(self):
-        """The calls with conditions that the cargo crate offers: by the crate that offers it and its name there, and where it stands."""
+        """The calls with conditions that the cargo crate offers: the crate that offers it, its name
+        there, and where it stands."""
         for offering in OFFERED:
             if offering not in self.crates:
                 continue
@@ -776,13 +783,15 @@ class Sources:
             for (crate, path), calls in self.conditions.items():
                 for of, call, line in calls:
                     name = homes.get((crate, of or call))
-                    if name is None and crate == offering and re.split(r'[/.]', path)[0] in modules | {'lib'}:
+                    module = re.split(r'[/.]', path)[0]
+                    if name is None and crate == offering and module in modules | {'lib'}:
                         name = of or call
                     if name is not None:
                         yield offering, f'{name}::{call}' if of else name, crate, path, line
 
     def known_conditions(self):
-        """Stops at a call that the cargo crate offers and that has a condition which nothing is known to see to."""
+        """Stops at a call that the cargo crate offers and that has a condition of which it isn't known
+        what sees to it."""
         for offering, name, crate, path, line in self.offered_conditions():
             if (offering, name) not in CONDITIONS:
                 with naming(crate, path):

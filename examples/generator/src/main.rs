@@ -25,7 +25,7 @@ fn main() -> Made<()> {
     for (number, line) in description.lines().enumerate() {
         module.add(line).map_err(|why| format!("{path}:{}: {why}", number + 1))?;
     }
-    print!("{}", unparse(&file(Global, list([module.finished()?])?)?)?);
+    print!("{}", unparse(&file([module.finished()?])?)?);
     Ok(())
 }
 
@@ -64,7 +64,7 @@ impl<'a> Module<'a> {
             }
             ("table", _) => {
                 let (name, of) = cut(rest, ": ")?;
-                let found = stmt_let(Global, named("found")?, Some(option_of(of)?), path("None")?)?;
+                let found = stmt_let("found", Some(option_of(of)?), expr_path("None")?)?;
                 let kind = Kind::Table { of, stmts: vec![found] };
                 self.begin(Part { name, doc, kind })?;
             }
@@ -87,7 +87,7 @@ impl<'a> Module<'a> {
         if let Some(part) = self.part.take() {
             self.items.extend(part.finished()?);
         }
-        documented(item_mod(Global, true, named(self.name)?, list(self.items)?)?, self.doc)
+        documented(item_mod(true, self.name, self.items)?, self.doc)
     }
 }
 
@@ -97,12 +97,13 @@ impl Part<'_> {
         let Kind::Struct { params, fields, getters } = &mut self.kind else { return Err("a field of no struct".into()) };
         let (name, rest) = cut(rest, ": ")?;
         let (of, given) = cut(rest, " = ")?;
-        params.push(param(named(name)?, ty(of)?)?);
-        fields.push(field(named(name)?, value(given, of)?)?);
+        params.push(param(name, type_of(of)?)?);
+        fields.push(field(name, value(given, of)?)?);
         let whole = snake(self.name);
-        let copy = expr_method(Global, expr_field(Global, path(&whole)?, named(name)?)?, named("clone")?, list([])?)?;
-        let taken = param(named(&whole)?, type_ref(Global, false, ty(self.name)?)?)?;
-        let getter = function(&format!("{whole}_{name}"), [taken], ty(of)?, block(Global, list([])?, Some(copy))?)?;
+        let copy = expr_method(expr_field(expr_path(&whole)?, name)?, "clone", [])?;
+        let taken = param(&whole, type_ref(false, ty(self.name)?)?)?;
+        let body = block([], Some(copy))?;
+        let getter = function(&format!("{whole}_{name}"), [taken], type_of(of)?, body)?;
         getters.push(documented(getter, &format!("The `{name}` of a [`{}`].", self.name))?);
         Ok(())
     }
@@ -111,15 +112,16 @@ impl Part<'_> {
     fn add_row(&mut self, rest: &str, doc: &str) -> Made<[BuiltItem; 2]> {
         let Kind::Table { of, stmts } = &mut self.kind else { return Err("a row of no table".into()) };
         let (name, given) = cut(rest, " = ")?;
-        let test = expr_binary(Global, Op::EqEq, path("name")?, expr_str(Global, name.as_bytes())?)?;
-        let then = block(Global, list([])?, Some(expr_call(Global, path("Some")?, list([path(name)?])?)?))?;
-        let other = block(Global, list([])?, Some(path("found")?))?;
-        stmts.push(stmt_let(Global, named("found")?, None, expr_if(Global, test, then, Some(other))?)?);
+        let test = expr_binary(Op::EqEq, expr_path("name")?, expr_str(name)?)?;
+        let then = block([], Some(expr_call(expr_path("Some")?, [expr_path(name)?])?))?;
+        let other = block([], Some(expr_path("found")?))?;
+        stmts.push(stmt_let("found", None, expr_if(test, then, Some(other))?)?);
         let whole = snake(self.name);
-        let same = expr_binary(Global, Op::EqEq, path(&whole)?, path(name)?)?;
-        let taken = param(named(&whole)?, ty(of)?)?;
-        let is_it = function(&format!("is_{}", snake(name)), [taken], ty("bool")?, block(Global, list([])?, Some(same))?)?;
-        let constant = item_const(Global, true, named(name)?, ty(of)?, value(given, of)?)?;
+        let same = expr_binary(Op::EqEq, expr_path(&whole)?, expr_path(name)?)?;
+        let taken = param(&whole, type_of(of)?)?;
+        let body = block([], Some(same))?;
+        let is_it = function(&format!("is_{}", snake(name)), [taken], ty("bool")?, body)?;
+        let constant = item_const(true, name, type_of(of)?, value(given, of)?)?;
         Ok([documented(constant, doc)?, documented(is_it, &format!("Whether it is [`{name}`]."))?])
     }
 
@@ -128,18 +130,17 @@ impl Part<'_> {
         let whole = snake(self.name);
         match self.kind {
             Kind::Struct { params, fields, getters } => {
-                let literal = expr_struct(Global, named(self.name)?, list([])?, list(fields)?)?;
-                let body = block(Global, list([])?, Some(literal))?;
+                let body = block([], Some(expr_struct(self.name, fields)?))?;
                 let default = function(&format!("default_{whole}"), [], ty(self.name)?, body)?;
-                let structure = item_struct(Global, true, named(self.name)?, list(params)?)?;
-                let mut items = vec![documented(structure, self.doc)?];
-                items.push(documented(default, &format!("The [`{}`] where nothing else is said.", self.name))?);
+                let mut items = vec![documented(item_struct(true, self.name, params)?, self.doc)?];
+                let doc = format!("The [`{}`] where nothing else is said.", self.name);
+                items.push(documented(default, &doc)?);
                 items.extend(getters);
                 Ok(items)
             }
             Kind::Table { of, stmts } => {
-                let body = block(Global, list(stmts)?, Some(path("found")?))?;
-                let taken = param(named("name")?, type_ref(Global, false, ty("str")?)?)?;
+                let body = block(stmts, Some(expr_path("found")?))?;
+                let taken = param("name", type_ref(false, ty("str")?)?)?;
                 let find = function(&format!("{whole}_of"), [taken], option_of(of)?, body)?;
                 Ok(vec![documented(find, &format!("{} It is found by its name.", self.doc))?])
             }
@@ -147,48 +148,30 @@ impl Part<'_> {
     }
 }
 
-fn named(text: &str) -> Made<BuiltName> {
-    Ok(name(Global, text.as_bytes()).map_err(|why| format!("{text:?}: {why}"))?)
-}
-
-fn list<T>(items: impl IntoIterator<Item = T>) -> Made<List<T>> {
-    let mut list = List::new(Global);
-    for item in items {
-        list.push(item).map_err(|_| BuildError::NoMemory)?;
-    }
-    Ok(list)
-}
-
-/// The first name of a path, and the others.
-fn names(path: &str) -> Made<(BuiltName, List<BuiltName>)> {
-    let mut names = path.split("::").map(|name| named(name.trim()));
-    let first = names.next().ok_or("no path")??;
-    Ok((first, list(names.collect::<Made<Vec<_>>>()?)?))
-}
-
-fn path(text: &str) -> Made<BuiltExpr> {
-    let (first, rest) = names(text)?;
-    Ok(expr_path(Global, first, rest)?)
-}
-
-fn function<const N: usize>(name: &str, params: [BuiltParam; N], output: BuiltType, body: BuiltBlock) -> Made<BuiltItem> {
-    Ok(item_fn(Global, true, named(name)?, list(params)?, Some(output), body)?)
+/// A public function with a result.
+fn function(
+    name: &str,
+    params: impl IntoIterator<Item = BuiltParam>,
+    output: BuiltType,
+    body: BuiltBlock,
+) -> Result<BuiltItem, BuildError> {
+    item_fn(true, name, params, Some(output), body)
 }
 
 /// With documentation, if there is any, a blank before it.
 fn documented(item: BuiltItem, text: &str) -> Made<BuiltItem> {
     match text {
         "" => Ok(item),
-        _ => Ok(with_doc(Global, item, format!(" {text}").as_bytes())?),
+        _ => Ok(with_doc(item, &format!(" {text}"))?),
     }
 }
 
 /// A value of a type: a text in quotes, which is as it stands, or terms with operators between them, from left to right.
 fn value(text: &str, of: &str) -> Made<BuiltExpr> {
     if let Some(text) = text.strip_prefix('"').and_then(|it| it.strip_suffix('"')) {
-        let literal = expr_str(Global, text.as_bytes())?;
+        let literal = expr_str(text)?;
         return Ok(match of {
-            "String" => expr_method(Global, literal, named("to_string")?, list([])?)?,
+            "String" => expr_method(literal, "to_string", [])?,
             _ => literal,
         });
     }
@@ -201,7 +184,7 @@ fn value(text: &str, of: &str) -> Made<BuiltExpr> {
             "*" => Op::Mul,
             _ => return Err(format!("no operator: {operator}").into()),
         };
-        made = expr_binary(Global, op, made, term(words.next().unwrap_or(""))?)?;
+        made = expr_binary(op, made, term(words.next().unwrap_or(""))?)?;
     }
     Ok(made)
 }
@@ -209,15 +192,16 @@ fn value(text: &str, of: &str) -> Made<BuiltExpr> {
 /// A number, a path, or a call without arguments.
 fn term(word: &str) -> Made<BuiltExpr> {
     if let Ok(number) = word.parse() {
-        return Ok(expr_int(Global, number)?);
+        return Ok(expr_int(number)?);
     }
-    match word.strip_suffix("()") {
-        Some(callee) => Ok(expr_call(Global, path(callee)?, list([])?)?),
-        None => path(word),
-    }
+    Ok(match word.strip_suffix("()") {
+        Some(callee) => expr_call(expr_path(callee)?, [])?,
+        None => expr_path(word)?,
+    })
 }
 
-fn ty(text: &str) -> Made<BuiltType> {
+/// The type that a text is.
+fn type_of(text: &str) -> Made<BuiltType> {
     match type_before(text)? {
         (made, "") => Ok(made),
         (_, rest) => Err(format!("no type ends before {rest:?}").into()),
@@ -225,7 +209,7 @@ fn ty(text: &str) -> Made<BuiltType> {
 }
 
 fn option_of(text: &str) -> Made<BuiltType> {
-    ty(&format!("Option<{text}>"))
+    Ok(type_path("Option", [type_of(text)?])?)
 }
 
 /// The type that a text begins with, and what follows it.
@@ -233,28 +217,27 @@ fn type_before(text: &str) -> Made<(BuiltType, &str)> {
     let text = text.trim_start();
     if let Some(rest) = text.strip_prefix('&') {
         let (of, rest) = type_before(rest)?;
-        return Ok((type_ref(Global, false, of)?, rest));
+        return Ok((type_ref(false, of)?, rest));
     }
     if let Some(rest) = text.strip_prefix('(') {
         let (parts, rest) = types_before(rest, ')')?;
-        return Ok((type_tuple(Global, parts)?, rest));
+        return Ok((type_tuple(parts)?, rest));
     }
     let (path, rest) = text.split_at(text.find(['<', '>', ',', ')']).unwrap_or(text.len()));
-    let (first, others) = names(path)?;
     let (args, rest) = match rest.strip_prefix('<') {
         Some(rest) => types_before(rest, '>')?,
-        None => (list([])?, rest),
+        None => (Vec::new(), rest),
     };
-    Ok((type_path(Global, first, others, args)?, rest))
+    Ok((type_path(path.trim(), args)?, rest))
 }
 
 /// The types that stand before a closing bracket, and what follows it.
-fn types_before(text: &str, close: char) -> Made<(List<BuiltType>, &str)> {
+fn types_before(text: &str, close: char) -> Made<(Vec<BuiltType>, &str)> {
     let mut types = Vec::new();
     let mut text = text;
     loop {
         if let Some(rest) = text.trim_start().strip_prefix(close) {
-            return Ok((list(types)?, rest));
+            return Ok((types, rest));
         }
         let (made, rest) = type_before(text)?;
         types.push(made);

@@ -1,4 +1,5 @@
-//! Trees that lack parentheses: a node that is read from a text, in which another stands for the path `p`.
+//! Trees that lack parentheses: a node that is read from a text, in which another stands for the
+//! path `p`.
 use froesaffron::build::raw::read_bytes;
 use froesaffron::tree::*;
 
@@ -10,7 +11,8 @@ pub fn expr(text: &str) -> Expr {
     value.take().unwrap().into_inner()
 }
 
-/// The tree of a row: nodes with `←` between them, each of which stands for `p` in the one before it.
+/// The tree of a row: nodes with `←` between them, each of which stands for `p` in the one before
+/// it.
 pub fn nested(row: &str) -> Expr {
     let (node, part) = row.split_once('←').map_or((row, None), |(node, part)| (node, Some(part)));
     let mut node = expr(node);
@@ -57,7 +59,10 @@ fn put(expr: &mut Expr, part: &mut Option<Expr>) {
         }
         Expr::Return { operand } | Expr::Break { operand, .. } => put_in_option(operand, part),
         Expr::If { branches, .. } => {
-            branches.as_mut_slice().iter_mut().for_each(|branch| put_in_condition(&mut branch.condition, part));
+            branches
+                .as_mut_slice()
+                .iter_mut()
+                .for_each(|branch| put_in_condition(&mut branch.condition, part));
         }
         Expr::While { condition, .. } => put_in_condition(condition, part),
         Expr::Block { body, .. } => put_in_block(body, part),
@@ -96,7 +101,9 @@ fn put_in_item(item: &mut Item, part: &mut Option<Expr>) {
     match item.kind.get_mut() {
         ItemKind::Value { value, .. } => put_in_option(value, part),
         ItemKind::Function { body: Some(body), .. } => put_in_block(body, part),
-        ItemKind::Trait { items, .. } => items.as_mut_slice().iter_mut().for_each(|item| put_in_item(item, part)),
+        ItemKind::Trait { items, .. } => {
+            items.as_mut_slice().iter_mut().for_each(|item| put_in_item(item, part))
+        }
         _ => {}
     }
 }
