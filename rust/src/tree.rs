@@ -50,7 +50,7 @@
 //!
 //! A clone ends the program where memory isn't found, as a clone of a `Vec` does: it is no call of
 //! this crate that answers [`NoMemory`]. These three walk a tree down on the stack of who calls
-//! them, as dropping one does, and no level is counted: STACK
+//! them, as dropping one does, and no level is counted: PLACEHOLDER
 //!
 //! # What may be added
 //!

@@ -262,7 +262,8 @@ fn what_an_if_tests_is_put_in_parentheses_where_it_must_be() {
     assert_eq!(value(both), "if a { 1 } else { 2 }");
     let chain = expr_if(path("a"), empty(), Some(body([], Some(if_of(path("b")))))).unwrap();
     assert_eq!(value(chain), "if a {} else { if b {} }");
-    let long = expr_if(path("a"), body([stmt_expr(path("b")).unwrap()], None), Some(empty())).unwrap();
+    let then = body([stmt_expr(path("b")).unwrap()], None);
+    let long = expr_if(path("a"), then, Some(empty())).unwrap();
     assert_eq!(value(long), "if a {\n    b;\n} else {}");
 }
 
@@ -314,7 +315,8 @@ fn items_stand_in_files() {
 fn documentation_is_written_as_it_may_be() {
     let fields = [param("b", type_with("Vec", [ty("u8")])).unwrap()];
     let structure = item_struct(true, "A", fields).unwrap();
-    assert_eq!(text_of([with_doc(structure, " x").unwrap()]), "/// x\npub struct A {\n    b: Vec<u8>,\n}\n");
+    let structure = with_doc(structure, " x").unwrap();
+    assert_eq!(text_of([structure]), "/// x\npub struct A {\n    b: Vec<u8>,\n}\n");
     let rows = [
         ("", "///"),
         ("*/", "///*/"),
@@ -328,11 +330,13 @@ fn documentation_is_written_as_it_may_be() {
         ("*\n\"\\", "#[doc = \"*\\n\\\"\\\\\"]"),
     ];
     for (text, written) in rows {
-        assert_eq!(text_of([with_doc(function(empty()), text).unwrap()]), format!("{written}\nfn f() {{}}\n"));
+        let documented = with_doc(function(empty()), text).unwrap();
+        assert_eq!(text_of([documented]), format!("{written}\nfn f() {{}}\n"));
     }
     let twice = with_doc(with_doc(module([]).unwrap(), " a").unwrap(), " b").unwrap();
     assert_eq!(text_of([twice]), "/// a\n/// b\nmod a {}\n");
-    assert_eq!(raw::with_doc(Global, function(empty()), b"a\xff").err(), Some(raw::BuildError::BadText));
+    let refused = raw::with_doc(Global, function(empty()), b"a\xff");
+    assert_eq!(refused.err(), Some(raw::BuildError::BadText));
 }
 
 #[test]
