@@ -1,6 +1,6 @@
 //! Made by scripts/rust.sh from crates/lay_read_blocks/src/lib.rt, which is proved: change that.
 //!
-//! From nested tokens to blocks, statements, branches, arms and closures: each rule by itself, over functions that read
+//! From nested tokens to blocks, statements, arms and closures: each rule by itself, over functions that read
 //! expressions, blocks and items one level deeper.
 //!
 //! Each rule is proved equal to a function of the tokens ahead that `lay_code` defines, and that function reads what is
@@ -10,12 +10,11 @@
 //! each rule is kept small (docs/DECISIONS.md, "Trees").
 mod alone;
 mod arms;
+mod block_heads;
 mod blocks;
-mod branches;
 mod closures;
-mod conditions;
 pub mod front;
-mod heads;
 mod rules;
 mod stmts;
+pub use block_heads::BlockHeads;
 pub use rules::BlockRules;

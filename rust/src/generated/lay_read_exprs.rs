@@ -1,25 +1,20 @@
 //! Made by scripts/rust.sh from crates/lay_read_exprs/src/lib.rt, which is proved: change that.
 //!
-//! From nested tokens to expressions: each rule by itself, over a function that reads expressions one level deeper, and the
-//! operators behind an expression, by precedence climbing.
+//! From nested tokens to expressions: what begins one, with the operators behind it.
 //!
-//! Each rule is proved equal to a function of the tokens ahead that `lay_code` defines, and that function reads what is
-//! spelled and nothing else.
+//! What begins an expression is read, and then the operators behind it that its place allows, by
+//! precedence climbing. Each rule stands over a function that reads expressions one level deeper,
+//! and over what reads those that begin with a block. It is proved equal to a function of the
+//! tokens ahead that `lay_code` defines, and that function reads what is spelled and nothing else.
 //!
-//! Most rules carry `#[inline(never)]`: what is nested 254 deep has to be read within the stack of a thread, so the frame of
-//! each rule is kept small (docs/DECISIONS.md, "Trees").
-mod assigns;
-mod casts;
-pub mod climb;
+//! Most rules carry `#[inline(never)]`: what is nested 254 deep has to be read within the stack of a
+//! thread, so the frame of each rule is kept small (docs/DECISIONS.md, "Trees").
+mod climber;
 mod groups;
-mod heads;
+mod head;
 mod jumps;
-mod numbers;
-mod operands;
+mod marked;
 mod paths;
-mod postfix;
 mod prefixes;
-mod ranges;
-mod rules;
 mod structs;
-pub use rules::ExprRules;
+pub use climber::Climber;

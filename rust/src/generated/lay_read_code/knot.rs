@@ -1,15 +1,6 @@
 //! Made by scripts/rust.sh from crates/lay_read_code/src/knot.rt, which is proved: change that.
 //!
 //! The knot of expressions, blocks and items, each read over what is one level deeper.
-use crate::generated::lay_read_code::begun::{Begun, read_begun};
-use crate::generated::lay_read_code::bodies::{
-    Body,
-    body_of,
-    with_block,
-    with_items,
-    with_value,
-};
-use crate::generated::lay_read_code::climbing::Climber;
 use crate::generated::lay_code::{
     Attr,
     Block,
@@ -21,10 +12,20 @@ use crate::generated::lay_code::{
     Site,
     Vis,
 };
+use crate::generated::lay_read_begun::begun::{Begun, read_begun};
+use crate::generated::lay_read_begun::bodies::{
+    Body,
+    body_of,
+    with_block,
+    with_items,
+    with_value,
+};
 use crate::generated::lay_read_blocks::BlockRules;
-use crate::generated::lay_read_exprs::ExprRules;
+use crate::generated::lay_read_branches::BranchRules;
+use crate::generated::lay_read_exprs::Climber;
 use crate::generated::lay_read_head_rules::level::kept_if;
 use crate::generated::lay_read_head_rules::vis::vis_ahead;
+use crate::generated::lay_read_operators::ExprRules;
 use crate::generated::lay_read_parts::joins::both;
 use crate::generated::lay_read_tokens::attributes::attrs_ahead;
 use crate::generated::lay_read_tokens::found::greater;
@@ -49,7 +50,7 @@ pub fn expr_ahead(
     if depth == 0 {
         return Err(ReadNone::NoReading);
     }
-    let heads = BlockRules {
+    let blocks = BlockRules {
         alloc,
         depth: depth - 1,
         exprs: expr_ahead,
@@ -57,6 +58,7 @@ pub fn expr_ahead(
         items: item_ahead,
     };
     let rules = ExprRules { alloc, depth: depth - 1, exprs: expr_ahead };
+    let heads = BranchRules { rules: blocks };
     Climber { rules, heads }.expr_by(at, place)
 }
 /// A block behind an `else`, within a depth. It stands one level deeper than what is around it.

@@ -1,11 +1,10 @@
 //! Made by scripts/rust.sh from crates/lay_read_exprs/src/groups.rt, which is proved: change that.
 //!
 //! Expressions in delimiters.
-use crate::generated::lay_read_exprs::rules::ExprRules;
+use crate::generated::lay_read_exprs::climber::Climber;
 use crate::generated::lay_code::{Boxed, Expr, Place};
 use crate::generated::lay_ops::places::FREE;
 use crate::generated::lay_read_parts::joins::{both, prepended, refused};
-use crate::generated::lay_read_parts::loops::{Closer, Part, read_elements};
 use crate::generated::lay_read_shared::boxes::{boxed_found, unboxed};
 use crate::generated::lay_read_tokens::found::greater;
 use crate::generated::lay_read_tokens::front::{takes_closer, takes_mark};
@@ -13,9 +12,6 @@ use crate::generated::lay_read_tokens::tokens::read_tokens;
 use crate::generated::lay_read_tokens::{Ahead, Found, ReadNone};
 use crate::generated::lay_token::{Delim, List};
 use crate::shims::Global;
-/// Expressions one level deeper, as elements of a list.
-pub struct Elements;
-impl Part<Boxed<Expr>, Place> for Elements {}
 /// How often an expression stands in an array, behind the `;`.
 fn repeat_by(
     alloc: Global,
@@ -30,33 +26,8 @@ fn repeat_by(
 }
 impl<
     P: Fn(Global, &mut Ahead<'_>, Place, u32) -> Result<Found<Boxed<Expr>>, ReadNone>,
-> ExprRules<P> {
-    /// Expressions with commas, and the closing delimiter behind them, each in its box.
-    #[inline(never)]
-    fn boxed_elements(
-        &self,
-        at: &mut Ahead<'_>,
-        delim: Delim,
-    ) -> Result<Found<List<Boxed<Expr>>>, ReadNone> {
-        read_elements::<
-            Elements,
-            ExprRules<P>,
-            Boxed<Expr>,
-            Place,
-            _,
-        >(self.alloc, at, self.depth, Closer::Group(delim), self, ExprRules::inner, FREE)
-    }
-    /// Expressions with commas, and the closing delimiter behind them.
-    #[inline(never)]
-    pub fn free_elements(
-        &self,
-        at: &mut Ahead<'_>,
-        delim: Delim,
-    ) -> Result<Found<List<Expr>>, ReadNone> {
-        let found = self.boxed_elements(at, delim)?;
-        let node = unboxed(self.alloc, found.node)?;
-        Ok(Found { node, need: found.need })
-    }
+    H,
+> Climber<P, H> {
     /// What stands behind a `(`.
     #[inline(never)]
     pub fn paren_expr(
@@ -65,12 +36,12 @@ impl<
     ) -> Result<Found<Boxed<Expr>>, ReadNone> {
         if takes_closer(at, Delim::Paren) {
             return boxed_found(
-                self.alloc,
-                Expr::Tuple { elements: List::new(self.alloc) },
+                self.rules.alloc,
+                Expr::Tuple { elements: List::new(self.rules.alloc) },
                 1,
             );
         }
-        let first = self.inner(at, FREE)?;
+        let first = self.rules.inner(at, FREE)?;
         self.paren_by(at, first)
     }
     /// What stands behind a `(` and an expression.
@@ -82,7 +53,7 @@ impl<
     ) -> Result<Found<Boxed<Expr>>, ReadNone> {
         if takes_closer(at, Delim::Paren) {
             return boxed_found(
-                self.alloc,
+                self.rules.alloc,
                 Expr::Paren { inner: first.node },
                 first.need + 1,
             );
@@ -90,10 +61,10 @@ impl<
         if !takes_mark(at, b",") {
             return refused(first);
         }
-        let (first, more) = both(first, self.boxed_elements(at, Delim::Paren))?;
-        let elements = unboxed(self.alloc, prepended(first.node, more.node)?)?;
+        let (first, more) = both(first, self.rules.boxed_elements(at, Delim::Paren))?;
+        let elements = unboxed(self.rules.alloc, prepended(first.node, more.node)?)?;
         boxed_found(
-            self.alloc,
+            self.rules.alloc,
             Expr::Tuple { elements },
             greater(first.need, more.need) + 1,
         )
@@ -106,13 +77,13 @@ impl<
     ) -> Result<Found<Boxed<Expr>>, ReadNone> {
         if takes_closer(at, Delim::Bracket) {
             return boxed_found(
-                self.alloc,
-                Expr::Array { elements: List::new(self.alloc) },
+                self.rules.alloc,
+                Expr::Array { elements: List::new(self.rules.alloc) },
                 1,
             );
         }
-        let first = self.inner(at, FREE)?;
-        if takes_mark(at, b";") { repeat_by(self.alloc, at, first) } else {
+        let first = self.rules.inner(at, FREE)?;
+        if takes_mark(at, b";") { repeat_by(self.rules.alloc, at, first) } else {
             self.array_by(at, first)
         }
     }
@@ -125,18 +96,22 @@ impl<
     ) -> Result<Found<Boxed<Expr>>, ReadNone> {
         if takes_closer(at, Delim::Bracket) {
             let elements = unboxed(
-                self.alloc,
-                prepended(first.node, List::new(self.alloc))?,
+                self.rules.alloc,
+                prepended(first.node, List::new(self.rules.alloc))?,
             )?;
-            return boxed_found(self.alloc, Expr::Array { elements }, first.need + 1);
+            return boxed_found(
+                self.rules.alloc,
+                Expr::Array { elements },
+                first.need + 1,
+            );
         }
         if !takes_mark(at, b",") {
             return refused(first);
         }
-        let (first, more) = both(first, self.boxed_elements(at, Delim::Bracket))?;
-        let elements = unboxed(self.alloc, prepended(first.node, more.node)?)?;
+        let (first, more) = both(first, self.rules.boxed_elements(at, Delim::Bracket))?;
+        let elements = unboxed(self.rules.alloc, prepended(first.node, more.node)?)?;
         boxed_found(
-            self.alloc,
+            self.rules.alloc,
             Expr::Array { elements },
             greater(first.need, more.need) + 1,
         )

@@ -1,7 +1,7 @@
 //! Made by scripts/rust.sh from crates/lay_read_exprs/src/paths.rt, which is proved: change that.
 //!
 //! What begins with a path.
-use crate::generated::lay_read_exprs::rules::ExprRules;
+use crate::generated::lay_read_exprs::climber::Climber;
 use crate::generated::lay_code::{Boxed, Expr, PathStyle, Place};
 use crate::generated::lay_read_parts::joins::refused;
 use crate::generated::lay_read_shared::boxes::boxed_found;
@@ -19,7 +19,8 @@ fn call_expr(alloc: Global, at: &mut Ahead<'_>) -> Result<Found<Boxed<Expr>>, Re
 }
 impl<
     P: Fn(Global, &mut Ahead<'_>, Place, u32) -> Result<Found<Boxed<Expr>>, ReadNone>,
-> ExprRules<P> {
+    H,
+> Climber<P, H> {
     /// A macro call, or what begins with a path.
     #[inline(never)]
     pub fn path_or_call(
@@ -27,7 +28,7 @@ impl<
         at: &mut Ahead<'_>,
         no_struct: bool,
     ) -> Result<Found<Boxed<Expr>>, ReadNone> {
-        if begins_call(self.alloc, at)? { call_expr(self.alloc, at) } else {
+        if begins_call(self.rules.alloc, at)? { call_expr(self.rules.alloc, at) } else {
             self.path_expr(at, no_struct)
         }
     }
@@ -38,12 +39,12 @@ impl<
         at: &mut Ahead<'_>,
         no_struct: bool,
     ) -> Result<Found<Boxed<Expr>>, ReadNone> {
-        let path = path_ahead(self.alloc, at, PathStyle::Code, self.depth)?;
+        let path = path_ahead(self.rules.alloc, at, PathStyle::Code, self.rules.depth)?;
         if !no_struct && is_at_opened(at, Delim::Brace) {
             pass(at);
             self.struct_expr(at, path)
         } else if at.op_is(b"!") { refused(path) } else {
-            boxed_found(self.alloc, Expr::Path { path: path.node }, path.need + 1)
+            boxed_found(self.rules.alloc, Expr::Path { path: path.node }, path.need + 1)
         }
     }
 }

@@ -1,24 +1,18 @@
 //! Made by scripts/rust.sh from crates/lay_read_exprs/src/prefixes.rt, which is proved: change that.
 //!
 //! Operators before an operand.
-use crate::generated::lay_read_exprs::rules::ExprRules;
+use crate::generated::lay_read_exprs::climber::Climber;
 use crate::generated::lay_code::{Boxed, Expr, Place, Prefix};
 use crate::generated::lay_ops::ahead::prefix;
 use crate::generated::lay_ops::operators::prefix_length;
 use crate::generated::lay_ops::places::plain;
+use crate::generated::lay_read_operators::operands::pass_tokens;
 use crate::generated::lay_read_parts::joins::both;
 use crate::generated::lay_read_shared::boxes::boxed_found;
-use crate::generated::lay_read_tokens::front::pass;
 use crate::generated::lay_read_tokens::stop::keep;
 use crate::generated::lay_read_tokens::{Ahead, Found, ReadNone};
 use crate::generated::lay_token::List;
 use crate::shims::Global;
-/// Passes so many tokens, or all there are.
-pub fn pass_tokens(at: &mut Ahead<'_>, count: usize) {
-    for _passed in 0..count {
-        pass(at);
-    }
-}
 /// Operators before an operand, as long as one stands at the front.
 fn read_prefixes(alloc: Global, at: &mut Ahead<'_>) -> Result<List<Prefix>, ReadNone> {
     let mut prefixes = List::new(alloc);
@@ -30,7 +24,8 @@ fn read_prefixes(alloc: Global, at: &mut Ahead<'_>) -> Result<List<Prefix>, Read
 }
 impl<
     P: Fn(Global, &mut Ahead<'_>, Place, u32) -> Result<Found<Boxed<Expr>>, ReadNone>,
-> ExprRules<P> {
+    H,
+> Climber<P, H> {
     /// Operators, and the operand behind them.
     #[inline(never)]
     pub fn unary_expr(
@@ -38,10 +33,13 @@ impl<
         at: &mut Ahead<'_>,
         no_struct: bool,
     ) -> Result<Found<Boxed<Expr>>, ReadNone> {
-        let prefixes = read_prefixes(self.alloc, at)?;
-        let (prefixes, found) = both(prefixes, self.inner(at, plain(12, no_struct)))?;
+        let prefixes = read_prefixes(self.rules.alloc, at)?;
+        let (prefixes, found) = both(
+            prefixes,
+            self.rules.inner(at, plain(12, no_struct)),
+        )?;
         boxed_found(
-            self.alloc,
+            self.rules.alloc,
             Expr::Unary { prefixes, operand: found.node },
             found.need + 1,
         )

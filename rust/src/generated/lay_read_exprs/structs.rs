@@ -1,7 +1,7 @@
 //! Made by scripts/rust.sh from crates/lay_read_exprs/src/structs.rt, which is proved: change that.
 //!
 //! Struct literals.
-use crate::generated::lay_read_exprs::rules::ExprRules;
+use crate::generated::lay_read_exprs::climber::Climber;
 use crate::generated::lay_code::{Attr, Boxed, Expr, FieldExpr, Name, Path, Place};
 use crate::generated::lay_ops::places::FREE;
 use crate::generated::lay_read_parts::joins::{both, refused};
@@ -25,7 +25,8 @@ pub struct Fields;
 impl Part<FieldExpr, ()> for Fields {}
 impl<
     P: Fn(Global, &mut Ahead<'_>, Place, u32) -> Result<Found<Boxed<Expr>>, ReadNone>,
-> ExprRules<P> {
+    H,
+> Climber<P, H> {
     /// Fields in braces, behind a path and the `{`.
     #[inline(never)]
     pub fn struct_expr(
@@ -37,11 +38,19 @@ impl<
             path,
             read_open_elements::<
                 Fields,
-                ExprRules<P>,
+                Climber<P, H>,
                 FieldExpr,
                 (),
                 _,
-            >(self.alloc, at, self.depth, Opening::Field, self, ExprRules::one_field, ()),
+            >(
+                self.rules.alloc,
+                at,
+                self.rules.depth,
+                Opening::Field,
+                self,
+                Climber::one_field,
+                (),
+            ),
         )?;
         self.struct_by(at, path, found)
     }
@@ -60,7 +69,7 @@ impl<
             return refused((path, (fields, base)));
         }
         boxed_found(
-            self.alloc,
+            self.rules.alloc,
             Expr::Struct { path: path.node, fields, base: base.node },
             greater(path.need, greater(need, base.need)) + 1,
         )
@@ -79,7 +88,7 @@ impl<
         if is_at_closer(at, Delim::Brace) {
             return Ok(Found { node: Some(None), need: 0 });
         }
-        let found = self.inner(at, FREE)?;
+        let found = self.rules.inner(at, FREE)?;
         Ok(Found { node: Some(Some(found.node)), need: found.need })
     }
     /// A field, with its attributes.
@@ -89,8 +98,8 @@ impl<
         at: &mut Ahead<'_>,
         _place: (),
     ) -> Result<Found<FieldExpr>, ReadNone> {
-        let attrs = attrs_ahead(self.alloc, at, false)?;
-        let (attrs, index) = both(attrs, read_index_if(self.alloc, at))?;
+        let attrs = attrs_ahead(self.rules.alloc, at, false)?;
+        let (attrs, index) = both(attrs, read_index_if(self.rules.alloc, at))?;
         match index {
             Some(index) => self.numbered_field(at, attrs, index),
             None => self.worded_field(at, attrs),
@@ -104,7 +113,7 @@ impl<
         attrs: List<Attr>,
         index: Text,
     ) -> Result<Found<FieldExpr>, ReadNone> {
-        let ((attrs, index), found) = both((attrs, index), self.inner(at, FREE))?;
+        let ((attrs, index), found) = both((attrs, index), self.rules.inner(at, FREE))?;
         Ok(
             Found {
                 need: found.need,
@@ -119,7 +128,7 @@ impl<
         at: &mut Ahead<'_>,
         attrs: List<Attr>,
     ) -> Result<Found<FieldExpr>, ReadNone> {
-        let (attrs, name) = both(attrs, read_name(self.alloc, at))?;
+        let (attrs, name) = both(attrs, read_name(self.rules.alloc, at))?;
         self.named_field(at, attrs, name)
     }
     /// A field behind its name.
@@ -133,7 +142,7 @@ impl<
         if !takes_op(at, b":") {
             return Ok(Found { node: FieldExpr::Short { attrs, name }, need: 0 });
         }
-        let ((attrs, name), found) = both((attrs, name), self.inner(at, FREE))?;
+        let ((attrs, name), found) = both((attrs, name), self.rules.inner(at, FREE))?;
         Ok(
             Found {
                 need: found.need,

@@ -1,9 +1,10 @@
-//! Made by scripts/rust.sh from crates/lay_read_blocks/src/heads.rt, which is proved: change that.
+//! Made by scripts/rust.sh from crates/lay_read_branches/src/heads.rt, which is proved: change that.
 //!
 //! What begins with a block, with a word before one, with a label, or as a closure does.
-use crate::generated::lay_read_blocks::rules::BlockRules;
+use crate::generated::lay_read_branches::rules::BranchRules;
 use crate::generated::lay_code::{Block, Boxed, Expr, Item, Lifetime, Place, Site};
 use crate::generated::lay_ops::operands::ExprLead;
+use crate::generated::lay_read_blocks::BlockHeads;
 use crate::generated::lay_read_parts::joins::{both, refused};
 use crate::generated::lay_read_parts::parts::read_lifetime;
 use crate::generated::lay_read_shared::boxes::boxed_found;
@@ -21,7 +22,7 @@ impl<
         + Copy,
     B: Fn(Global, &mut Ahead<'_>, u32) -> Result<Found<Block>, ReadNone>,
     I: Fn(Global, &mut Ahead<'_>, Site, u32) -> Result<Found<Item>, ReadNone>,
-> BlockRules<P, B, I> {
+> BranchRules<P, B, I> {
     /// What begins an expression that holds blocks, or a closure, told from what the first token begins, unless it is deeper
     /// than may be.
     #[inline(never)]
@@ -35,14 +36,14 @@ impl<
             ExprLead::Label => self.label_expr(at),
             ExprLead::Brace => self.labelled_expr(at, None),
             ExprLead::BlockWord => self.block_word_expr(at),
-            ExprLead::Closure => self.closure_expr(at, no_struct),
+            ExprLead::Closure => self.rules.closure_expr(at, no_struct),
             _ => Err(ReadNone::NoReading),
         }
     }
     /// A block or a loop behind its label.
     #[inline(never)]
     fn label_expr(&self, at: &mut Ahead<'_>) -> Result<Found<Boxed<Expr>>, ReadNone> {
-        let label = read_lifetime(self.alloc, at)?;
+        let label = read_lifetime(self.rules.alloc, at)?;
         if !takes_op(at, b":") {
             return refused(label);
         }
@@ -56,17 +57,17 @@ impl<
         label: Option<Lifetime>,
     ) -> Result<Found<Boxed<Expr>>, ReadNone> {
         if is_at_opened(at, Delim::Brace) {
-            let (label, body) = both(label, self.block_by(at))?;
+            let (label, body) = both(label, self.rules.block_by(at))?;
             return boxed_found(
-                self.alloc,
+                self.rules.alloc,
                 Expr::Block { label, body: body.node },
                 body.need + 1,
             );
         }
         if takes_keyword(at, b"loop") {
-            let (label, body) = both(label, self.block_by(at))?;
+            let (label, body) = both(label, self.rules.block_by(at))?;
             return boxed_found(
-                self.alloc,
+                self.rules.alloc,
                 Expr::Loop { label, body: body.node },
                 body.need + 1,
             );
@@ -95,26 +96,26 @@ impl<
     #[inline(never)]
     fn worded_block(&self, at: &mut Ahead<'_>) -> Result<Found<Boxed<Expr>>, ReadNone> {
         if takes_keyword(at, b"unsafe") {
-            let body = self.block_by(at)?;
+            let body = self.rules.block_by(at)?;
             return boxed_found(
-                self.alloc,
+                self.rules.alloc,
                 Expr::Unsafe { body: body.node },
                 body.need + 1,
             );
         }
         if takes_keyword(at, b"const") {
-            let body = self.block_by(at)?;
+            let body = self.rules.block_by(at)?;
             return boxed_found(
-                self.alloc,
+                self.rules.alloc,
                 Expr::ConstBlock { body: body.node },
                 body.need + 1,
             );
         }
         if takes_keyword(at, b"async") {
             let moves = takes_keyword(at, b"move");
-            let body = self.block_by(at)?;
+            let body = self.rules.block_by(at)?;
             return boxed_found(
-                self.alloc,
+                self.rules.alloc,
                 Expr::Async { moves, body: body.node },
                 body.need + 1,
             );
@@ -128,8 +129,23 @@ impl<
             return self.if_expr(at);
         }
         if takes_keyword(at, b"match") {
-            return self.match_expr(at);
+            return self.rules.match_expr(at);
         }
         self.labelled_expr(at, None)
+    }
+}
+impl<
+    P: Fn(Global, &mut Ahead<'_>, Place, u32) -> Result<Found<Boxed<Expr>>, ReadNone>
+        + Copy,
+    B: Fn(Global, &mut Ahead<'_>, u32) -> Result<Found<Block>, ReadNone>,
+    I: Fn(Global, &mut Ahead<'_>, Site, u32) -> Result<Found<Item>, ReadNone>,
+> BlockHeads for BranchRules<P, B, I> {
+    fn block_head(
+        &self,
+        at: &mut Ahead<'_>,
+        no_struct: bool,
+        lead: ExprLead,
+    ) -> Result<Found<Boxed<Expr>>, ReadNone> {
+        BranchRules::block_head(self, at, no_struct, lead)
     }
 }

@@ -1,8 +1,8 @@
-//! Made by scripts/rust.sh from crates/lay_read_exprs/src/heads.rt, which is proved: change that.
+//! Made by scripts/rust.sh from crates/lay_read_exprs/src/marked.rt, which is proved: change that.
 //!
 //! What begins an expression with a token of its own.
+use crate::generated::lay_read_exprs::climber::Climber;
 use crate::generated::lay_read_exprs::jumps::continue_expr;
-use crate::generated::lay_read_exprs::rules::ExprRules;
 use crate::generated::lay_code::{Boxed, Expr, Place};
 use crate::generated::lay_ops::operands::ExprLead;
 use crate::generated::lay_read_shared::boxes::boxed_found;
@@ -10,7 +10,8 @@ use crate::generated::lay_read_tokens::{Ahead, Found, ReadNone};
 use crate::shims::Global;
 impl<
     P: Fn(Global, &mut Ahead<'_>, Place, u32) -> Result<Found<Boxed<Expr>>, ReadNone>,
-> ExprRules<P> {
+    H,
+> Climber<P, H> {
     /// What begins an expression, behind its first token.
     #[inline(never)]
     pub fn marked(
@@ -20,10 +21,10 @@ impl<
         lead: ExprLead,
     ) -> Result<Found<Boxed<Expr>>, ReadNone> {
         match lead {
-            ExprLead::Underscore => boxed_found(self.alloc, Expr::Underscore, 1),
+            ExprLead::Underscore => boxed_found(self.rules.alloc, Expr::Underscore, 1),
             ExprLead::Paren => self.paren_expr(at),
             ExprLead::Bracket => self.bracket_expr(at),
-            ExprLead::Continue => continue_expr(self.alloc, at),
+            ExprLead::Continue => continue_expr(self.rules.alloc, at),
             ExprLead::Break => self.break_expr(at, no_struct),
             ExprLead::Return => self.return_expr(at, no_struct),
             _ => Err(ReadNone::NoReading),

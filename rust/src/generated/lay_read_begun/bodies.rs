@@ -1,7 +1,7 @@
-//! Made by scripts/rust.sh from crates/lay_read_code/src/bodies.rt, which is proved: change that.
+//! Made by scripts/rust.sh from crates/lay_read_begun/src/bodies.rt, which is proved: change that.
 //!
 //! The bodies of items, and items with their bodies.
-use crate::generated::lay_read_code::begun::{Begun, Whole};
+use crate::generated::lay_read_begun::begun::{Begun, Whole};
 use crate::generated::lay_code::{
     Attr,
     Block,
@@ -80,7 +80,7 @@ pub fn with_items(begun: Begun, attrs: List<Attr>, items: List<Item>) -> ItemKin
     }
 }
 /// Whether a function may have a body at its site, or may lack it.
-pub fn may_be_bodied(site: Site, bodied: bool) -> bool {
+fn may_be_bodied(site: Site, bodied: bool) -> bool {
     match site {
         Site::Foreign => !bodied,
         Site::TraitMember => true,
@@ -88,7 +88,7 @@ pub fn may_be_bodied(site: Site, bodied: bool) -> bool {
     }
 }
 /// Whether a constant or a static may have a value, or may lack it.
-pub fn may_be_valued(site: Site, head: &ValueHead, valued: bool) -> bool {
+fn may_be_valued(site: Site, head: &ValueHead, valued: bool) -> bool {
     let constant = matches!(head, ValueHead::Const { .. });
     match (site, valued) {
         (Site::Module, valued) => valued,

@@ -1,8 +1,11 @@
-//! Made by scripts/rust.sh from crates/lay_read_exprs/src/postfix.rt, which is proved: change that.
+//! Made by scripts/rust.sh from crates/lay_read_operators/src/postfix.rt, which is proved: change that.
 //!
 //! Postfix steps.
-use crate::generated::lay_read_exprs::numbers::{begins_tuple_index, is_at_tuple_index};
-use crate::generated::lay_read_exprs::rules::ExprRules;
+use crate::generated::lay_read_operators::numbers::{
+    begins_tuple_index,
+    is_at_tuple_index,
+};
+use crate::generated::lay_read_operators::rules::ExprRules;
 use crate::generated::lay_code::{Arg, Args, Boxed, Expr, Name, PathStyle, Place, Step};
 use crate::generated::lay_ops::is_number;
 use crate::generated::lay_ops::places::FREE;

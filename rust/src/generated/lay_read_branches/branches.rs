@@ -1,7 +1,7 @@
-//! Made by scripts/rust.sh from crates/lay_read_blocks/src/branches.rt, which is proved: change that.
+//! Made by scripts/rust.sh from crates/lay_read_branches/src/branches.rt, which is proved: change that.
 //!
 //! Branches, and the expressions with conditions.
-use crate::generated::lay_read_blocks::rules::BlockRules;
+use crate::generated::lay_read_branches::rules::BranchRules;
 use crate::generated::lay_code::{
     Block,
     Boxed,
@@ -44,12 +44,12 @@ impl<
         + Copy,
     B: Fn(Global, &mut Ahead<'_>, u32) -> Result<Found<Block>, ReadNone>,
     I: Fn(Global, &mut Ahead<'_>, Site, u32) -> Result<Found<Item>, ReadNone>,
-> BlockRules<P, B, I> {
+> BranchRules<P, B, I> {
     /// What stands behind an `if`.
     #[inline(never)]
     pub fn branch_by(&self, at: &mut Ahead<'_>) -> Result<Found<Branch>, ReadNone> {
         let condition = self.condition_by(at)?;
-        let (condition, body) = both(condition, self.block_by(at))?;
+        let (condition, body) = both(condition, self.rules.block_by(at))?;
         Ok(
             Found {
                 need: greater(condition.need, body.need),
@@ -73,7 +73,7 @@ impl<
         if !takes_keyword(at, b"else") {
             return Ok(Found { node: None, need: 0 });
         }
-        let block = self.block_by(at)?;
+        let block = self.rules.block_by(at)?;
         Ok(Found { node: Some(block.node), need: block.need })
     }
     /// What stands behind an `if`, and the branches behind `else if`.
@@ -95,11 +95,19 @@ impl<
     ) -> Result<Found<List<Branch>>, ReadNone> {
         read_parts::<
             Branches,
-            BlockRules<P, B, I>,
+            BranchRules<P, B, I>,
             Branch,
             (),
             _,
-        >(self.alloc, at, self.depth, Going::ElseIfs, self, BlockRules::else_branch, ())
+        >(
+            self.rules.alloc,
+            at,
+            self.rules.depth,
+            Going::ElseIfs,
+            self,
+            BranchRules::else_branch,
+            (),
+        )
     }
     /// What stands behind an `if`, with all its branches.
     #[inline(never)]
@@ -107,7 +115,7 @@ impl<
         let branches = self.branches(at)?;
         let (branches, otherwise) = both(branches, self.otherwise(at))?;
         boxed_found(
-            self.alloc,
+            self.rules.alloc,
             Expr::If { branches: branches.node, otherwise: otherwise.node },
             greater(branches.need, otherwise.need) + 1,
         )
@@ -122,7 +130,7 @@ impl<
         let (label, found) = both(label, self.branch_by(at))?;
         let Found { node, need } = found;
         let (condition, body) = node.into_parts();
-        boxed_found(self.alloc, Expr::While { label, condition, body }, need + 1)
+        boxed_found(self.rules.alloc, Expr::While { label, condition, body }, need + 1)
     }
     /// What stands behind `for`.
     #[inline(never)]
@@ -133,21 +141,21 @@ impl<
     ) -> Result<Found<Boxed<Expr>>, ReadNone> {
         let (label, pat) = both(
             label,
-            pat_ahead(self.alloc, at, PatPlace::Alternatives, self.depth),
+            pat_ahead(self.rules.alloc, at, PatPlace::Alternatives, self.rules.depth),
         )?;
         if !takes_keyword(at, b"in") {
             return refused((label, pat));
         }
         let ((label, pat), iterated) = both(
             (label, pat),
-            self.expr(at, plain(0, true)),
+            self.rules.expr(at, plain(0, true)),
         )?;
         let ((label, (pat, iterated)), body) = both(
             (label, (pat, iterated)),
-            self.block_by(at),
+            self.rules.block_by(at),
         )?;
         boxed_found(
-            self.alloc,
+            self.rules.alloc,
             Expr::For { label, pat: pat.node, iterated: iterated.node, body: body.node },
             greater(pat.need, greater(iterated.need, body.need)) + 1,
         )

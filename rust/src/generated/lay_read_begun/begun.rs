@@ -1,7 +1,7 @@
-//! Made by scripts/rust.sh from crates/lay_read_code/src/begun.rt, which is proved: change that.
+//! Made by scripts/rust.sh from crates/lay_read_begun/src/begun.rt, which is proved: change that.
 //!
 //! Items up to their bodies.
-use crate::generated::lay_read_code::leads::{ItemLead, item_lead, may_stand};
+use crate::generated::lay_read_begun::leads::{ItemLead, item_lead, may_stand};
 use crate::generated::lay_code::{
     Alias,
     Boxed,

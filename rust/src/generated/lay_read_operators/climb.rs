@@ -1,7 +1,7 @@
-//! Made by scripts/rust.sh from crates/lay_read_exprs/src/climb.rt, which is proved: change that.
+//! Made by scripts/rust.sh from crates/lay_read_operators/src/climb.rt, which is proved: change that.
 //!
 //! The operators behind an expression, from the strongest on.
-use crate::generated::lay_read_exprs::rules::ExprRules;
+use crate::generated::lay_read_operators::rules::ExprRules;
 use crate::generated::lay_code::{Boxed, Expr, Place, Start};
 use crate::generated::lay_ops::ahead::{is_angle, is_dot_or_try, strength};
 use crate::generated::lay_ops::places::before_op;

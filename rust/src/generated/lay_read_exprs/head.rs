@@ -1,11 +1,11 @@
-//! Made by scripts/rust.sh from crates/lay_read_code/src/climbing/heads.rt, which is proved: change that.
+//! Made by scripts/rust.sh from crates/lay_read_exprs/src/head.rt, which is proved: change that.
 //!
 //! What begins an expression.
-use crate::generated::lay_read_code::climbing::block_heads::BlockHeads;
-use crate::generated::lay_read_code::climbing::climb::Climber;
+use crate::generated::lay_read_exprs::climber::Climber;
 use crate::generated::lay_code::{Boxed, Expr, Place};
 use crate::generated::lay_ops::ahead::expr_lead_at;
 use crate::generated::lay_ops::operands::ExprLead;
+use crate::generated::lay_read_blocks::BlockHeads;
 use crate::generated::lay_read_parts::leads::is_at_literal;
 use crate::generated::lay_read_parts::parts::read_literal;
 use crate::generated::lay_read_shared::boxes::boxed_found;
@@ -47,8 +47,8 @@ impl<
     ) -> Result<Found<Boxed<Expr>>, ReadNone> {
         match lead {
             ExprLead::Literal => literal_expr(self.rules.alloc, at),
-            ExprLead::Path => self.rules.path_or_call(at, no_struct),
-            ExprLead::Prefix => self.rules.unary_expr(at, no_struct),
+            ExprLead::Path => self.path_or_call(at, no_struct),
+            ExprLead::Prefix => self.unary_expr(at, no_struct),
             ExprLead::Label | ExprLead::Brace | ExprLead::BlockWord
             | ExprLead::Closure => self.heads.block_head(at, no_struct, lead),
             ExprLead::Range => {
@@ -57,7 +57,7 @@ impl<
             }
             _ => {
                 pass(at);
-                self.rules.marked(at, no_struct, lead)
+                self.marked(at, no_struct, lead)
             }
         }
     }

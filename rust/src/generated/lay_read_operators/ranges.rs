@@ -1,7 +1,7 @@
-//! Made by scripts/rust.sh from crates/lay_read_exprs/src/ranges.rt, which is proved: change that.
+//! Made by scripts/rust.sh from crates/lay_read_operators/src/ranges.rt, which is proved: change that.
 //!
 //! Ranges.
-use crate::generated::lay_read_exprs::rules::ExprRules;
+use crate::generated::lay_read_operators::rules::ExprRules;
 use crate::generated::lay_code::{Boxed, Expr, Place};
 use crate::generated::lay_read_parts::joins::{both, refused};
 use crate::generated::lay_read_shared::boxes::boxed_found;

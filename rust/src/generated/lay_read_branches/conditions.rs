@@ -1,10 +1,10 @@
-//! Made by scripts/rust.sh from crates/lay_read_blocks/src/conditions.rt, which is proved: change that.
+//! Made by scripts/rust.sh from crates/lay_read_branches/src/conditions.rt, which is proved: change that.
 //!
 //! Conditions: links with `&&` between them.
 //!
 //! Links are read one by one. Where none of them is a `let`, they are the first operands of an expression, and the operators
 //! behind them are read from their level on.
-use crate::generated::lay_read_blocks::rules::BlockRules;
+use crate::generated::lay_read_branches::rules::BranchRules;
 use crate::generated::lay_code::{
     Block,
     Boxed,
@@ -21,7 +21,7 @@ use crate::generated::lay_code::{
 use crate::generated::lay_ops::ahead::strength;
 use crate::generated::lay_ops::places::{link_place, plain};
 use crate::generated::lay_ops::stands;
-use crate::generated::lay_read_exprs::ExprRules;
+use crate::generated::lay_read_operators::ExprRules;
 use crate::generated::lay_read_parts::joins::{both, refused};
 use crate::generated::lay_read_parts::loops::Part;
 use crate::generated::lay_read_pats::pat_ahead;
@@ -120,18 +120,23 @@ impl<
         + Copy,
     B: Fn(Global, &mut Ahead<'_>, u32) -> Result<Found<Block>, ReadNone>,
     I: Fn(Global, &mut Ahead<'_>, Site, u32) -> Result<Found<Item>, ReadNone>,
-> BlockRules<P, B, I> {
+> BranchRules<P, B, I> {
     /// What stands behind the `let` of a link.
     #[inline(never)]
     fn let_link(
         &self,
         at: &mut Ahead<'_>,
     ) -> Result<Found<(Option<Pat>, Boxed<Expr>)>, ReadNone> {
-        let pat = pat_ahead(self.alloc, at, PatPlace::Alternatives, self.depth)?;
+        let pat = pat_ahead(
+            self.rules.alloc,
+            at,
+            PatPlace::Alternatives,
+            self.rules.depth,
+        )?;
         if !takes_op(at, b"=") {
             return refused(pat);
         }
-        let (pat, value) = both(pat, self.expr(at, plain(4, true)))?;
+        let (pat, value) = both(pat, self.rules.expr(at, plain(4, true)))?;
         Ok(
             Found {
                 need: greater(pat.need, value.need),
@@ -148,7 +153,7 @@ impl<
         if takes_keyword(at, b"let") {
             return self.let_link(at);
         }
-        let found = self.expr(at, plain(4, true))?;
+        let found = self.rules.expr(at, plain(4, true))?;
         Ok(Found { need: found.need, node: (None, found.node) })
     }
     /// A link.
@@ -181,17 +186,17 @@ impl<
     ) -> Result<Found<List<(Option<Pat>, Boxed<Expr>)>>, ReadNone> {
         read_parts::<
             Links,
-            BlockRules<P, B, I>,
+            BranchRules<P, B, I>,
             (Option<Pat>, Boxed<Expr>),
             (),
             _,
         >(
-            self.alloc,
+            self.rules.alloc,
             at,
-            self.depth,
+            self.rules.depth,
             Going::Operands(3),
             self,
-            BlockRules::further_link,
+            BranchRules::further_link,
             (),
         )
     }
@@ -203,13 +208,13 @@ impl<
         at: &mut Ahead<'_>,
         lhs: Found<Boxed<Expr>>,
     ) -> Result<Found<Boxed<Expr>>, ReadNone> {
-        if self.depth == 0 {
+        if self.rules.depth == 0 {
             return refused(lhs);
         }
         let rules = ExprRules {
-            alloc: self.alloc,
-            depth: self.depth - 1,
-            exprs: self.exprs,
+            alloc: self.rules.alloc,
+            depth: self.rules.depth - 1,
+            exprs: self.rules.exprs,
         };
         rules.climb(at, plain(0, true), 3, lhs)
     }
@@ -223,11 +228,11 @@ impl<
     ) -> Result<Found<Condition>, ReadNone> {
         if first.node.0.is_some() || has_let(more.node.as_slice()) {
             let need = greater(first.need, more.need);
-            let node = condition_of(self.alloc, first.node, more.node)?;
+            let node = condition_of(self.rules.alloc, first.node, more.node)?;
             return Ok(Found { node, need });
         }
-        match chain_of(self.alloc, first, more) {
-            Ok(chain) => alone(self.alloc, self.goes_on(at, chain)),
+        match chain_of(self.rules.alloc, first, more) {
+            Ok(chain) => alone(self.rules.alloc, self.goes_on(at, chain)),
             Err(none) => Err(none),
         }
     }
@@ -248,7 +253,7 @@ impl<
         at: &mut Ahead<'_>,
     ) -> Result<Found<Condition>, ReadNone> {
         if begins_dots(at) {
-            return alone(self.alloc, self.expr(at, plain(0, true)));
+            return alone(self.rules.alloc, self.rules.expr(at, plain(0, true)));
         }
         match self.one_link(at) {
             Ok(first) => self.condition_behind(at, first),

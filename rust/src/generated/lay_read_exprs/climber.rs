@@ -1,10 +1,10 @@
-//! Made by scripts/rust.sh from crates/lay_read_code/src/climbing/climb.rt, which is proved: change that.
+//! Made by scripts/rust.sh from crates/lay_read_exprs/src/climber.rt, which is proved: change that.
 //!
 //! Expressions: what begins one, and the operators behind it.
-use crate::generated::lay_read_code::climbing::block_heads::BlockHeads;
 use crate::generated::lay_code::{Boxed, Expr, Place};
-use crate::generated::lay_read_exprs::ExprRules;
-use crate::generated::lay_read_exprs::climb::{accepted, is_ended};
+use crate::generated::lay_read_blocks::BlockHeads;
+use crate::generated::lay_read_operators::ExprRules;
+use crate::generated::lay_read_operators::climb::{accepted, is_ended};
 use crate::generated::lay_read_tokens::{Ahead, Found, ReadNone};
 use crate::shims::Global;
 /// The rules of expressions of a level, with what reads those that begin with a block.

@@ -1,10 +1,9 @@
-//! Made by scripts/rust.sh from crates/lay_read_exprs/src/operands.rt, which is proved: change that.
+//! Made by scripts/rust.sh from crates/lay_read_operators/src/operands.rt, which is proved: change that.
 //!
 //! Operators of one level, and the operands behind them.
-use crate::generated::lay_read_exprs::prefixes::pass_tokens;
-use crate::generated::lay_read_exprs::rules::ExprRules;
+use crate::generated::lay_read_operators::rules::ExprRules;
 use crate::generated::lay_code::{Boxed, Expr, Op, Place};
-use crate::generated::lay_ops::ahead::{binary, is_angle, strength};
+use crate::generated::lay_ops::ahead::{begins_operand, binary, is_angle, strength};
 use crate::generated::lay_ops::places::{before_op, plain};
 use crate::generated::lay_ops::stands;
 use crate::generated::lay_read_parts::joins::{both, refused};
@@ -12,12 +11,19 @@ use crate::generated::lay_read_parts::loops::Part;
 use crate::generated::lay_read_shared::boxes::boxed_found;
 use crate::generated::lay_read_shared::loops::{Going, read_parts};
 use crate::generated::lay_read_tokens::found::greater;
+use crate::generated::lay_read_tokens::front::pass;
 use crate::generated::lay_read_tokens::{Ahead, Found, ReadNone};
 use crate::generated::lay_token::List;
 use crate::shims::Global;
 /// Operators and their operands, as parts that stand one behind another.
 pub struct Operands;
 impl Part<(Op, Boxed<Expr>), (u8, bool)> for Operands {}
+/// Passes so many tokens, or all there are.
+pub fn pass_tokens(at: &mut Ahead<'_>, count: usize) {
+    for _passed in 0..count {
+        pass(at);
+    }
+}
 /// Whether an operand of the level may end where the tokens ahead stand.
 fn operand_ends(at: &Ahead<'_>, operand: &Expr, level: u8, no_struct: bool) -> bool {
     if strength(at) == level + 1 {
@@ -70,6 +76,20 @@ impl<
             return refused(found);
         }
         Ok(Found { need: found.need, node: (op, found.node) })
+    }
+    /// An operand at a level, if one begins.
+    #[inline(never)]
+    pub fn operand_if(
+        &self,
+        at: &mut Ahead<'_>,
+        level: u8,
+        no_struct: bool,
+    ) -> Result<Found<Option<Boxed<Expr>>>, ReadNone> {
+        if !begins_operand(at, no_struct) {
+            return Ok(Found { node: None, need: 0 });
+        }
+        let found = self.inner(at, plain(level, no_struct))?;
+        Ok(Found { node: Some(found.node), need: found.need })
     }
     /// An expression with operators of a level behind it.
     #[inline(never)]

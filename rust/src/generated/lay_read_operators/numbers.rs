@@ -1,4 +1,4 @@
-//! Made by scripts/rust.sh from crates/lay_read_exprs/src/numbers.rt, which is proved: change that.
+//! Made by scripts/rust.sh from crates/lay_read_operators/src/numbers.rt, which is proved: change that.
 //!
 //! Numbers, and the indices of tuples.
 use crate::generated::lay_node::are_digits;

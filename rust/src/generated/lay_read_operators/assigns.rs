@@ -1,7 +1,7 @@
-//! Made by scripts/rust.sh from crates/lay_read_exprs/src/assigns.rt, which is proved: change that.
+//! Made by scripts/rust.sh from crates/lay_read_operators/src/assigns.rt, which is proved: change that.
 //!
 //! Assignments.
-use crate::generated::lay_read_exprs::rules::ExprRules;
+use crate::generated::lay_read_operators::rules::ExprRules;
 use crate::generated::lay_code::{Boxed, Expr, Op, Place};
 use crate::generated::lay_read_parts::joins::both;
 use crate::generated::lay_read_shared::boxes::boxed_found;

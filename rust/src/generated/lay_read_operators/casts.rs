@@ -1,7 +1,7 @@
-//! Made by scripts/rust.sh from crates/lay_read_exprs/src/casts.rt, which is proved: change that.
+//! Made by scripts/rust.sh from crates/lay_read_operators/src/casts.rt, which is proved: change that.
 //!
 //! Casts.
-use crate::generated::lay_read_exprs::rules::ExprRules;
+use crate::generated::lay_read_operators::rules::ExprRules;
 use crate::generated::lay_code::{Boxed, Expr, Place, Ty, TypePlace};
 use crate::generated::lay_read_parts::joins::both;
 use crate::generated::lay_read_parts::loops::Part;

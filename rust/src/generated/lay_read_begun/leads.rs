@@ -1,4 +1,4 @@
-//! Made by scripts/rust.sh from crates/lay_read_code/src/leads.rt, which is proved: change that.
+//! Made by scripts/rust.sh from crates/lay_read_begun/src/leads.rt, which is proved: change that.
 //!
 //! What an item begins with.
 use crate::generated::lay_code::Site;

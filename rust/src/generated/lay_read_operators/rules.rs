@@ -1,4 +1,4 @@
-//! Made by scripts/rust.sh from crates/lay_read_exprs/src/rules.rt, which is proved: change that.
+//! Made by scripts/rust.sh from crates/lay_read_operators/src/rules.rt, which is proved: change that.
 //!
 //! The rules of a level, and how what is one level deeper is read.
 use crate::generated::lay_code::{Boxed, Expr, Place};
