@@ -4,8 +4,9 @@ equal byte for byte.
 
 usage: compare.py [--changed COUNT SEED] COMMAND COMMAND PATH..
 
-A PATH is a file, or a folder whose files named `.rs` are taken. Each is formatted and checked by its name. With --changed, COUNT sources are
-made of parts of the files with small changes, which SEED draws, and formatted from standard input.
+A PATH is a file, or a folder whose files named `.rs` are taken. Each is formatted, checked and
+mapped by its name. With --changed, COUNT sources are made of parts of the files with small changes,
+which SEED draws, and formatted and mapped from standard input.
 
 The last line is `N the same, M of them accepted, K not`; the exit status is 0 where all are the same."""
 import concurrent.futures
@@ -77,10 +78,13 @@ def main():
         count, seed, words = int(words[1]), int(words[2]), words[3:]
     commands, files = [os.path.abspath(word) for word in words[:2]], list(sources(words[2:]))
     if count is None:
-        named = [(path, [(['--', path], b''), (['--check', '--', path], b'')]) for path in files]
+        kinds = ([], ['--check'], ['--map'])
+        named = [(path, [([*kind, '--', path], b'') for kind in kinds]) for path in files]
     else:
         draw = random.Random(seed)
-        named = [(f'source {number}', [([], changed(draw, files))]) for number in range(count)]
+        drawn = [changed(draw, files) for _ in range(count)]
+        named = [(f'source {number}', [([], data), (['--map'], data)])
+                 for number, data in enumerate(drawn)]
     same = accepted = 0
     with concurrent.futures.ThreadPoolExecutor(os.cpu_count()) as pool:
         for (name, runs), (found, is_accepted) in zip(named, pool.map(lambda it: difference(commands, it[1]), named)):

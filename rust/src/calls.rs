@@ -1,8 +1,7 @@
 //! The calls of the crate: from a source to its text, from a tree to its text, and from an expression to the one with its parentheses.
 use crate::Error;
 use crate::furthest::with_furthest;
-use crate::generated::lay_files::{self, write_file};
-use crate::generated::lay_front::LIMIT;
+use crate::generated::lay_files::{self, read_bytes, write_file};
 use crate::generated::lay_io::{Failed, Sink};
 use crate::generated::{lay_laws, lay_paren};
 use crate::shims::Global;
@@ -33,10 +32,7 @@ pub fn format(source: &str) -> Result<String, Error> {
 /// # Ok::<(), froesaffron::Error>(())
 /// ```
 pub fn format_bytes(source: &[u8]) -> Result<Vec<u8>, Error> {
-    // The proofs are of numbers with 64 bits. With fewer no source is taken that the command doesn't take.
-    if usize::BITS < 64 && source.len() > LIMIT {
-        return Err(Error::TOO_LONG);
-    }
+    Error::of_length(source.len())?;
     with_stack(|| match lay_files::format_bytes(Global, source) {
         Ok(text) => Ok(text.into_vec().into_std()),
         Err(error) => Err(with_furthest(error.into(), source)),
@@ -54,6 +50,31 @@ pub fn format_bytes(source: &[u8]) -> Result<Vec<u8>, Error> {
 pub fn check(source: impl AsRef<[u8]>) -> Result<bool, Error> {
     let source = source.as_ref();
     Ok(format_bytes(source)? == source)
+}
+
+/// The tree of a source, a whole file. [`unparse`] gives its text.
+///
+/// ```
+/// use froesaffron::tree::{ItemKind, Vis};
+///
+/// let mut file = froesaffron::read("mod a{} struct B;")?;
+/// for item in file.items.as_mut_slice() {
+///     if matches!(*item.kind.get(), ItemKind::Struct { .. }) {
+///         item.vis = Vis::Public;
+///     }
+/// }
+/// assert_eq!(froesaffron::unparse(&file)?, "mod a {}\npub struct B;\n");
+/// # Ok::<(), froesaffron::Error>(())
+/// ```
+///
+/// To drop a tree takes stack for each of its levels, of which a source has 256 at most.
+pub fn read(source: &str) -> Result<File, Error> {
+    Error::of_length(source.len())?;
+    with_stack(|| match read_bytes(Global, source.as_bytes()) {
+        Ok(file) => Ok(file),
+        Err(error) => Err(with_furthest(error.into(), source.as_bytes())),
+    })
+    .ok_or(Error::NO_MEMORY)?
 }
 
 /// The text of a tree, which reads to that tree. A tree that no source reads to, or one deeper than files may be, has none:

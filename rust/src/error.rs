@@ -1,5 +1,6 @@
 //! Why a call has no answer.
 use crate::generated::lay_files::FileError;
+use crate::generated::lay_front::LIMIT;
 use crate::generated::lay_paren::ParenError;
 use crate::generated::lay_text::{NoMemory, Refusal};
 use core::fmt;
@@ -75,6 +76,12 @@ impl Error {
         Error { cause, offset: 0, line: 0, column: 0, furthest: None }
     }
 
+    /// Refuses a source that is longer than the command's may be, where numbers have fewer than 64
+    /// bits: the proofs are of those.
+    pub(crate) fn of_length(length: usize) -> Result<(), Error> {
+        if usize::BITS < 64 && length > LIMIT { Err(Error::TOO_LONG) } else { Ok(()) }
+    }
+
     /// Why there is none.
     pub fn cause(&self) -> Cause {
         self.cause
@@ -96,8 +103,13 @@ impl Error {
         self.offset
     }
 
-    /// How far the item that is refused was read: the first token that no reading of it came past, or the end of the source. Only
-    /// [`Cause::NoItem`] has it; the place of the other causes is the fault itself.
+    /// How far the item that is refused was read: the first token that no reading of it came past,
+    /// or the end of the source. Only [`Cause::NoItem`] has it; the place of the other causes is
+    /// the fault itself. It is `None` too where memory to look for it was wanting.
+    ///
+    /// Where the item is no Rust, the fault is there or just before it, most often: of 170 files of
+    /// rustc's tests that both refuse, rustc's own line is within two lines of this one in 162.
+    /// Where rustc accepts the item, its form isn't accepted from about there on.
     pub fn furthest(&self) -> Option<Position> {
         self.furthest
     }
@@ -121,8 +133,8 @@ impl Error {
     }
 }
 
-/// The line that the command writes: `L:C: CAUSE`, or the cause alone where it has no place. After it stands how far reading came, where
-/// that is known: `12:1: no item (read as far as 2638:9)`.
+/// The line that the command writes: `L:C: CAUSE`, or the cause alone where it has no place. After
+/// it stands how far reading came, where that is known: `12:1: no item (read as far as 2638:9)`.
 impl fmt::Display for Error {
     fn fmt(&self, out: &mut fmt::Formatter<'_>) -> fmt::Result {
         if self.line > 0 {

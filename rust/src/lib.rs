@@ -54,12 +54,16 @@ mod furthest;
 #[allow(dead_code, unused_imports, unused_labels, unused_variables, clippy::all)]
 #[rustfmt::skip]
 mod generated;
+mod items;
+mod map;
 mod shims;
 mod stack;
 pub mod tree;
 
-pub use calls::{check, format, format_bytes, is_loose, parenthesize, unparse};
+pub use calls::{check, format, format_bytes, is_loose, parenthesize, read, unparse};
 pub use error::{Cause, Error, Position};
+pub use items::{EditError, Items};
+pub use map::{Map, Pair, map};
 
 /// What the command is made of. It isn't part of what a version of the crate promises.
 #[doc(hidden)]

@@ -94,6 +94,10 @@ impl<T> Vec<T> {
         Ok(())
     }
 
+    pub fn remove(&mut self, at: usize) -> T {
+        self.0.remove(at)
+    }
+
     #[inline]
     pub fn truncate(&mut self, length: usize) {
         self.0.truncate(length);
@@ -445,25 +449,33 @@ pub fn text(bytes: &[u8]) -> &str {
     }
 }
 
-/// How far the cursors over some tokens came. Readers write it and never look at it, so it changes nothing of what is read.
+/// How many tokens stand between an opener and its partner, and beside it whether a cursor passed
+/// the token. Readers note that and never look at it, so it changes nothing of what is read.
 #[derive(Debug)]
-pub struct Passed(Cell<usize>);
+pub struct Span(Cell<usize>);
 
-impl Passed {
-    /// No token was passed.
-    pub fn new() -> Passed {
-        Passed(Cell::new(0))
-    }
-
-    /// A token was passed that begins here.
+impl Span {
+    /// No cursor passed the token.
     #[inline(always)]
-    pub fn pass(&self, at: usize) {
-        self.0.set(self.0.get().max(at + 1));
+    pub fn new(span: usize) -> Span {
+        Span(Cell::new(span << 1))
     }
 
-    /// Whether a token that begins here was passed, or one after it.
-    pub fn reaches(&self, at: usize) -> bool {
-        at < self.0.get()
+    /// How many tokens there are.
+    #[inline(always)]
+    pub fn get(&self) -> usize {
+        self.0.get() >> 1
+    }
+
+    /// Notes that a cursor passed the token.
+    #[inline(always)]
+    pub fn pass(&self) {
+        self.0.set(self.0.get() | 1);
+    }
+
+    /// Whether a cursor passed the token.
+    pub fn is_passed(&self) -> bool {
+        self.0.get() & 1 == 1
     }
 }
 

@@ -6,7 +6,7 @@ mod trees;
 
 use froesaffron::build::*;
 use froesaffron::tree::{FREE, Global, List};
-use froesaffron::{Cause, Error, format, is_loose, parenthesize, unparse};
+use froesaffron::{Cause, EditError, Error, Items, format, is_loose, map, parenthesize, read, unparse};
 use refusing::with_refusal;
 use trees::{TREES, constant};
 
@@ -32,6 +32,57 @@ fn each_refused_request_is_an_error() {
     assert!(requests > 50);
     let empty = File { shebang: None, attrs: List::new(Global), items: List::new(Global) };
     assert_eq!(each_refused(|| unparse(&empty)).1, "");
+}
+
+#[test]
+fn each_refused_request_of_a_call_that_reads_is_an_error() {
+    let text = format(SOURCE).unwrap();
+    assert_eq!(unparse(&each_refused(|| read(SOURCE)).1), Ok(text.clone()));
+    let returned = SOURCE.replace('\n', "\r\n");
+    let (requests, mapped) = each_refused(|| map(&returned));
+    assert!(requests > 50);
+    assert_eq!((mapped.text(), mapped.pairs().next().map(|pair| pair.source)), (text.as_str(), Some(0..11)));
+    let (_, items) = each_refused(|| Items::new(SOURCE));
+    assert_eq!(each_refused(|| items.whole()).1, text);
+}
+
+#[test]
+fn a_source_is_refused_though_memory_to_look_further_is_wanting() {
+    let source = "fn a_name_that_is_too_long_to_be_kept_without_memory() { b c }";
+    let whole = format(source).unwrap_err();
+    assert_eq!(whole.furthest().map(|place| place.column), Some(60));
+    let mut granted = 0;
+    let mut seen = [0; 2];
+    loop {
+        match with_refusal(granted, || format(source)).unwrap_err() {
+            error if error == whole => break,
+            error if error.cause() == Cause::NoMemory => seen[0] += 1,
+            error => {
+                assert_eq!((error.cause(), error.line(), error.column(), error.furthest()), (Cause::NoItem, 1, 1, None));
+                seen[1] += 1;
+            }
+        }
+        granted += 1;
+    }
+    assert!(seen[0] > 3 && seen[1] > 3);
+}
+
+#[test]
+fn each_refused_request_of_an_edit_changes_nothing() {
+    let text = format(SOURCE).unwrap();
+    let edits: [fn(&mut Items) -> Result<(), EditError>; 2] =
+        [|items| items.insert(1, "struct A { a: Vec<u8> }"), |items| items.replace(1, "struct A { a: Vec<u8> }")];
+    for edit in edits {
+        let mut items = Items::new(SOURCE).unwrap();
+        let mut granted = 0;
+        while let Err(why) = with_refusal(granted, || edit(&mut items)) {
+            assert!(matches!(why, EditError::Refused(error) if error.cause() == Cause::NoMemory));
+            assert_eq!((items.whole(), unparse(items.file())), (Ok(text.clone()), Ok(text.clone())));
+            granted += 1;
+        }
+        assert!(granted > 5);
+        assert_eq!(items.output(1), Some("struct A {\n    a: Vec<u8>,\n}\n"));
+    }
 }
 
 #[test]

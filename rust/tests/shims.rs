@@ -9,15 +9,30 @@ mod refusing;
 
 use draws::Draw;
 use refusing::with_refusal;
-use shims::{Arg, ArgAction, Box, Buffer, Command, Global, HeapCircularBuffer, SmallVec, Vec, error::ErrorKind, filled};
+use shims::{Arg, ArgAction, Box, Buffer, Command, Global, HeapCircularBuffer, SmallVec, Span, Vec, error::ErrorKind, filled};
 use std::collections::VecDeque;
+
+#[test]
+fn a_span_keeps_its_number_when_it_is_passed() {
+    for number in [0, 1, 7, usize::MAX >> 1] {
+        let span = Span::new(number);
+        assert_eq!((span.get(), span.is_passed()), (number, false));
+        span.pass();
+        span.pass();
+        assert_eq!((span.get(), span.is_passed()), (number, true));
+    }
+}
 
 #[test]
 fn a_vector_does_what_rusts_does() {
     let mut draw = Draw(1);
     let (mut ours, mut theirs) = (Vec::new(Global), std::vec::Vec::new());
     for number in 0..20_000u32 {
-        match draw.below(11) {
+        match draw.below(12) {
+            10 if !theirs.is_empty() => {
+                let at = draw.below(theirs.len() as u64) as usize;
+                assert_eq!(ours.remove(at), theirs.remove(at));
+            }
             0 | 1 => {
                 ours.push(number).unwrap();
                 theirs.push(number);

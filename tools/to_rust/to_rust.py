@@ -17,7 +17,7 @@ from dataclasses import dataclass, replace
 from passed import CHANGES
 
 # The crates whose calls the cargo crate offers. All crates below them become modules.
-ROOTS = ['lay_front', 'lay_laws', 'lay_paren', 'lay_build']
+ROOTS = ['lay_front', 'lay_laws', 'lay_paren', 'lay_build', 'lay_items']
 # Crates that hold nothing that runs.
 LAWS = {'lay_form', 'lay_reparse'}
 # Modules that aren't taken over: what reaches the system, which the cargo crate does by its own standard library, and what only tests use.

@@ -10,6 +10,7 @@ pub mod lay_depth;
 pub mod lay_files;
 pub mod lay_front;
 pub mod lay_io;
+pub mod lay_items;
 pub mod lay_laws;
 pub mod lay_layout;
 pub mod lay_lex;

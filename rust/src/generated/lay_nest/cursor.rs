@@ -8,21 +8,19 @@ use crate::generated::lay_token::{Kind, Token};
 pub struct Cursor<'a> {
     tokens: &'a [Token],
     /// Of each token ahead, if it is an opener, how many tokens stand between it and its partner, and else 0.
-    spans: &'a [usize],
-    passed: &'a crate::shims::Passed,
+    spans: &'a [crate::shims::Span],
 }
 impl<'a> Cursor<'a> {
     /// A cursor before the first of these tokens, which have these spans.
     pub(crate) fn new(
         tokens: &'a [Token],
-        spans: &'a [usize],
-        passed: &'a crate::shims::Passed,
+        spans: &'a [crate::shims::Span],
     ) -> Cursor<'a> {
-        Cursor { tokens, spans, passed }
+        Cursor { tokens, spans }
     }
     /// A second cursor at the same place.
     pub fn fork(&self) -> Cursor<'a> {
-        Cursor { tokens: self.tokens, spans: self.spans, passed: self.passed }
+        Cursor { tokens: self.tokens, spans: self.spans }
     }
     /// The token behind this many others, or `None` where no more than so many are ahead.
     pub fn peek(&self, ahead: usize) -> Option<&'a Token> {
@@ -38,27 +36,27 @@ impl<'a> Cursor<'a> {
     }
     /// Moves past one token, past an opener alone too. The closer of that is then ahead as any other token.
     pub fn step(&mut self) {
-        self.passed.pass(self.tokens[0].at);
+        self.spans[0].pass();
         self.tokens = behind_first(self.tokens);
         self.spans = behind_first(self.spans);
     }
     /// Moves past the group at the front, and gives what is inside its delimiters.
     pub fn group(&mut self) -> Cursor<'a> {
-        let span = self.spans[0];
+        let span = self.spans[0].get();
         let (tokens, tokens_behind) = split_group(self.tokens, span);
         let (spans, spans_behind) = split_group(self.spans, span);
         self.tokens = tokens_behind;
         self.spans = spans_behind;
-        Cursor { tokens, spans, passed: self.passed }
+        Cursor { tokens, spans }
     }
     /// Moves past the token tree at the front, and gives its tokens: one token, or a group with its delimiters
     /// (Rust Reference, "Macros": token trees).
     pub fn tree(&mut self) -> &'a [Token] {
-        let tokens = self.as_slice();
+        let (tokens, spans) = (self.as_slice(), self.spans);
         self.pass_tree();
-        let tree = &tokens[..tokens.len() - self.as_slice().len()];
-        self.passed.pass(tree[tree.len() - 1].at);
-        tree
+        let count = tokens.len() - self.as_slice().len();
+        spans[count - 1].pass();
+        &tokens[..count]
     }
     /// Moves past the token tree at the front.
     fn pass_tree(&mut self) {

@@ -10,18 +10,17 @@ use crate::shims::Global;
 pub struct Nested {
     tokens: List<Token>,
     /// Of each token, if it is an opener, how many tokens stand between it and its partner, and else 0.
-    spans: List<usize>,
-    passed: crate::shims::Passed,
+    spans: List<crate::shims::Span>,
 }
 impl Nested {
     /// The token after the furthest one that a cursor passed, or none where that was the last.
     pub fn furthest(&self) -> Option<&Token> {
-        let tokens = self.tokens.as_slice();
-        tokens.get(tokens.partition_point(|token| self.passed.reaches(token.at)))
+        let passed = self.spans.as_slice().iter().rposition(|span| span.is_passed());
+        self.tokens.as_slice().get(passed.map_or(0, |last| last + 1))
     }
     /// A cursor before the first token.
     pub fn cursor(&self) -> Cursor<'_> {
-        Cursor::new(self.tokens.as_slice(), self.spans.as_slice(), &self.passed)
+        Cursor::new(self.tokens.as_slice(), self.spans.as_slice())
     }
 }
 /// The tokens with each delimiter's partner (Rust Reference, "Macros": token trees).
@@ -30,7 +29,7 @@ impl Nested {
 /// closer, that of the last opener left open.
 pub fn nest(alloc: Global, tokens: List<Token>) -> Result<Nested, FormatError> {
     match spans_of(alloc, tokens.as_slice()) {
-        Ok(spans) => Ok(Nested { tokens, spans, passed: crate::shims::Passed::new() }),
+        Ok(spans) => Ok(Nested { tokens, spans }),
         Err(error) => Err(error),
     }
 }

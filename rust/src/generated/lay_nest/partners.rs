@@ -5,7 +5,10 @@ use crate::shims::Vec;
 use crate::generated::lay_token::{FormatError, Kind, List, NoMemory, Refusal, Token};
 use crate::shims::Global;
 /// Of each token, if it is an opener, how many tokens stand between it and its partner, and else 0.
-pub fn spans_of(alloc: Global, tokens: &[Token]) -> Result<List<usize>, FormatError> {
+pub fn spans_of(
+    alloc: Global,
+    tokens: &[Token],
+) -> Result<List<crate::shims::Span>, FormatError> {
     let mut reading = match Reading::new(alloc, tokens.len()) {
         Ok(reading) => reading,
         Err(NoMemory) => return Err(FormatError::NoMemory),
@@ -40,7 +43,7 @@ fn is_pair(first: Kind, second: Kind) -> bool {
 /// The partners among the tokens read so far.
 struct Reading {
     /// The spans of the tokens; of an opener that is still open, 0.
-    spans: Vec<usize>,
+    spans: Vec<crate::shims::Span>,
     /// Where the openers stand that are still open, the last one last.
     places: Vec<usize>,
 }
@@ -77,12 +80,12 @@ impl Reading {
     }
     /// Adds the partner of the opener at this place, which is no longer among the open ones.
     fn close(&mut self, place: usize) -> Result<(), NoMemory> {
-        self.spans[place] = self.spans.len() - place - 1;
+        self.spans[place] = crate::shims::Span::new(self.spans.len() - place - 1);
         self.pass()
     }
     /// Adds a token whose span is 0.
     fn pass(&mut self) -> Result<(), NoMemory> {
-        self.spans.push(0)?;
+        self.spans.push(crate::shims::Span::new(0))?;
         Ok(())
     }
 }
