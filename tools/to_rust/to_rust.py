@@ -64,6 +64,10 @@ CONDITIONS = {
     ('lay_build', 'expr_binary'): 'rust/src/build.rs refuses an operator that is none between values',
     ('lay_front', 'run'): 'it is hidden, and rust/src/bin hands in inputs of which none was chosen',
     ('lay_front', 'unparse'): 'that of rust/src/calls.rs asks whether the tree can be written',
+    ('lay_items', 'Items::insert'): 'rust/src/items.rs asks whether the place is there',
+    ('lay_items', 'Items::output'): 'rust/src/items.rs asks whether the item is there',
+    ('lay_items', 'Items::remove'): 'rust/src/items.rs asks whether the item is there',
+    ('lay_items', 'Items::replace'): 'rust/src/items.rs asks whether the item is there',
     ('lay_tree', 'Tokens::new'): 'unparse refuses a tree whose token lists are not balanced',
 }
 KEPT_ATTRIBUTES = {'inline', 'must_use'}

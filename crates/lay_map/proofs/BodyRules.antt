@@ -8,8 +8,8 @@ use Rattle.lay_form.specs.Form.{Bit, Blank, Semicolons, Space, Soft, Hard, Never
 use Rattle.lay_form.specs.Layout.{break_of}
 use Rattle.lay_form.specs.Notation.{B, H, N, H-, C4, each, comma_gap, last_break, comma_list, body, with_commas, fields, braces, soft, piece}
 use Rattle.lay_form.specs.Pieces.{are_pieces}
-use Rattle.lay_map.specs.units.Choice.{calm, clear, firm, passes}
-use Rattle.lay_map.specs.units.Units.{Word, bits_words, words}
+use Rattle.lay_map.specs.spelling.Choice.{calm, clear, firm, passes}
+use Rattle.lay_map.specs.spelling.Units.{Word, bits_words, words}
 use Rattle.lay_map.specs.Flow.{Wait, Still, Said, Laid, InLine, Flow, At, break_flow, flow, group_flow, left}
 use Rattle.lay_map.proofs.Rules.{All, Closing, Firm, Levels, NoComma, NoSemicolon, Plain, Tells, brk, ends, firm_brk, firm_calm, firm_first, firm_group, firm_part, gaps, group, group_to, last, levels_two, no_levels, part, shut}
 

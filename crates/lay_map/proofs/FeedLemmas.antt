@@ -18,7 +18,7 @@ use Rattle.lay_form.specs.Form.{Bit, Blank, Fixed, Operator, Semicolons, Bare, U
 use Rattle.lay_form.specs.Layout.{text_of_bits, is_block, token_ends_in_point, bits_end_in_point, keeps_point, space_ends_in_point, point_behind, ends_behind_point, led, break_of, comma_break, opening_break, closing_break}
 use Rattle.lay_form.specs.Pieces.{is_text_of, are_pieces}
 use Rattle.lay_form.specs.Stream.{feed_text, feed_doc, feed_token, feed_behind, fed}
-use Rattle.lay_map.specs.units.Units.{Word, Told, Comment, Documented, bits_words, words}
+use Rattle.lay_map.specs.spelling.Units.{Word, Told, Comment, Documented, bits_words, words}
 use Rattle.lay_map.specs.Flow.{Wait, Still, Said, Laid, InLine, Flow, Lost, At, is_open, is_none, is_plain, is_proper, are_proper, are_comma, text_flow, words_flow, piece_flow, doc_flow, leaf_flow, comma_flow, optional_flow, behind_flow, break_flow, group_flow, entered, left, flow}
 use Rattle.lay_map.specs.Marking.{State, code_words, comma_settled, documented, fed_all, fed_one, is_free, opening_of, read, read_by, words_of}
 use Rattle.lay_map.specs.declared.marking.Opening.{Opening}

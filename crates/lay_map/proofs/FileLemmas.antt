@@ -15,7 +15,7 @@ use Rattle.lay_code.specs.nodes.File.{form_of_file}
 use Rattle.lay_code.specs.declared.file.File.{File}
 use Rattle.lay_read_tokens.specs.Answers.{AreLexed}
 use Rattle.lay_stream.specs.Fed.{Puts}
-use Rattle.lay_map.specs.units.Units.{AreSingle, units, words}
+use Rattle.lay_map.specs.spelling.Units.{AreSingle, units, words}
 use Rattle.lay_map.specs.Marking.{begun, fed_all, units_of}
 use Rattle.lay_map.specs.Meanings.{Seen, mark_meanings}
 use Rattle.lay_map.specs.Places.{ArePlaces, place_of}

@@ -5,10 +5,10 @@ use Rattle.lay_form.specs.Form.{Form}
 use Rattle.lay_form.specs.Pieces.{are_pieces}
 use Rattle.lay_form.specs.Spelled.{Spells}
 use Rattle.lay_form.specs.Stream.{stream_of}
-use Rattle.lay_map.specs.units.Choice.{chosen, clear, is_level}
-use Rattle.lay_map.specs.units.Units.{Word, AreSingle, said, units, words}
-use Rattle.lay_map.proofs.units_lemmas.ChoiceLemmas.{all_units}
-use Rattle.lay_map.proofs.units_lemmas.UnitLemmas.{told}
+use Rattle.lay_map.specs.spelling.Choice.{chosen, clear, is_level}
+use Rattle.lay_map.specs.spelling.Units.{Word, AreSingle, said, units, words}
+use Rattle.lay_map.proofs.spelling_lemmas.ChoiceLemmas.{all_units}
+use Rattle.lay_map.proofs.spelling_lemmas.UnitLemmas.{told}
 use Rattle.lay_map.specs.Flow.{Still, At, flow}
 use Rattle.lay_map.specs.Marking.{begun, fed_all, units_of}
 use Rattle.lay_map.specs.Places.{place_of}

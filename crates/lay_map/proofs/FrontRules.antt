@@ -10,8 +10,8 @@ use Rattle.lay_form.specs.Notation.{comma_list, when}
 use Rattle.lay_form.specs.Pieces.{is_text_of, are_pieces}
 use Rattle.lay_node.specs.Words.{leaf_of}
 use Rattle.lay_node.specs.nodes.Types.{greater, less}
-use Rattle.lay_map.specs.units.Choice.{alike, clear, passes, passes_each, skips}
-use Rattle.lay_map.specs.units.Units.{Word, Told, bits_words, words}
+use Rattle.lay_map.specs.spelling.Choice.{alike, clear, passes, passes_each, skips}
+use Rattle.lay_map.specs.spelling.Units.{Word, Told, bits_words, words}
 use Rattle.lay_map.proofs.PieceLemmas.{bar_mark, bare_apart, comma_mark, greater_mark, is_bare, less_mark}
 use Rattle.lay_map.proofs.Rules.{Closing, NoComma}
 

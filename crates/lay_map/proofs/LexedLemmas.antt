@@ -12,7 +12,7 @@ use Rattle.lay_piece.specs.declared.kind.Kind.TheVariants.{Punct}
 use Rattle.lay_token.specs.Lexes.{Before, Fit, Lexes, Other, Part, is_index_place, is_joint, size, spell, step, text_of_piece, tokens_from}
 use Rattle.lay_token.specs.declared.token.Token.{Token}
 use Rattle.lay_read_tokens.specs.Answers.{AreLexed}
-use Rattle.lay_map.specs.units.Units.{AreSingle}
+use Rattle.lay_map.specs.spelling.Units.{AreSingle}
 
 -- ---- one character
 

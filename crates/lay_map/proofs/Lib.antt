@@ -12,4 +12,4 @@ pub mod Rules
 pub mod WalkLemmas
 pub mod WordLemmas
 pub mod nodes
-pub mod units_lemmas
+pub mod spelling_lemmas

@@ -10,7 +10,7 @@ use Rattle.lay_layout.specs.declared.layout.Tok.TheVariants as tok
 use Rattle.lay_text.specs.declared.refusal.NoMemory.{NoMemory}
 use Rattle.lay_token.specs.declared.token.Token.{Token}
 use Rattle.lay_stream.specs.Fed.{Puts, Stops, Did}
-use Rattle.lay_map.specs.units.Choice.{under}
+use Rattle.lay_map.specs.spelling.Choice.{under}
 use Rattle.lay_map.specs.Marking.{State, begun, behind_line, comma_settled, code_words, fed_all, fed_one, first_ahead, freed, is_free, opening_of, raised, read, read_by, read_code, text_within, words_of, worded}
 use Rattle.lay_map.specs.Meanings.{Seen, mark_meanings}
 use Rattle.lay_map.specs.declared.marking.Opening.{Opening}

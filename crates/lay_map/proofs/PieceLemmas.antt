@@ -19,8 +19,8 @@ use Rattle.lay_token.specs.Lexes.{is_punct}
 use Rattle.lay_token.proofs.Deciding.{bytes_same}
 use Rattle.lay_form.specs.Pieces.{is_text_of}
 use Rattle.lay_node.specs.tokens.Listing.{is_doc_kind}
-use Rattle.lay_map.specs.units.Choice.{alike, closes, is_semicolon, opens}
-use Rattle.lay_map.specs.units.Units.{Told}
+use Rattle.lay_map.specs.spelling.Choice.{alike, closes, is_semicolon, opens}
+use Rattle.lay_map.specs.spelling.Units.{Told}
 use Rattle.lay_map.specs.Flow.{is_none, is_plain, is_proper, is_told, same}
 
 -- any kind but documentation

@@ -9,9 +9,9 @@ use Rattle.lay_piece.specs.declared.kind.Kind.TheVariants.{Punct}
 use Rattle.lay_token.specs.declared.token.Token.{Token}
 use Rattle.lay_form.specs.Form.{Bit, Blank, Fixed, Operator, Semicolons}
 use Rattle.lay_form.specs.Layout.{text_of_bit, text_of_bits}
-use Rattle.lay_map.specs.units.Choice.{chosen, closes, is_loose, is_semicolon, leading, opens}
-use Rattle.lay_map.specs.units.Units as units
-use Rattle.lay_map.specs.units.Units.{Word, Told, Comment, Documented, said, punct_word, bit_words, bits_words}
+use Rattle.lay_map.specs.spelling.Choice.{chosen, closes, is_loose, is_semicolon, leading, opens}
+use Rattle.lay_map.specs.spelling.Units as units
+use Rattle.lay_map.specs.spelling.Units.{Word, Told, Comment, Documented, said, punct_word, bit_words, bits_words}
 use Rattle.lay_map.specs.Flow.{are_proper, is_proper, is_told, same}
 use Rattle.lay_map.specs.Marking.{State, first_ahead, raised, words_of, worded}
 use Rattle.lay_map.specs.Places.{place_of}

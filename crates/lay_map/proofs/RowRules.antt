@@ -7,8 +7,8 @@ use Rattle.lay_form.specs.Form.{Hard, Braces, Bare, Unseen, Marked, Behind, Noth
 use Rattle.lay_form.specs.Layout.{break_of, closing_break}
 use Rattle.lay_form.specs.Notation.{H, H-, behind_attrs, body, each, lines, piece}
 use Rattle.lay_form.specs.Pieces.{are_pieces}
-use Rattle.lay_map.specs.units.Choice.{calm, clear, firm, is_level, passes_behind}
-use Rattle.lay_map.specs.units.Units.{Word, bits_words, words}
+use Rattle.lay_map.specs.spelling.Choice.{calm, clear, firm, is_level, passes_behind}
+use Rattle.lay_map.specs.spelling.Units.{Word, bits_words, words}
 use Rattle.lay_map.specs.Flow.{Wait, Still, Said, Laid, InLine, Flow, At, behind_flow, break_flow, flow, group_flow, left}
 use Rattle.lay_map.proofs.BodyRules.{Calms, First, Lined, Rest, empty_body, firm_calms, inside, inside_calm, inside_firm, inside_level, inside_pieces, is_rest, lead_bits, line_rest, no_semicolon, no_skip, opened, skip_bits}
 use Rattle.lay_map.proofs.FrontRules.{Leads, leads_part}

@@ -12,8 +12,8 @@ use Rattle.lay_form.specs.Form.{Bit, Blank, Fixed, Operator, Semicolons, Space, 
 use Rattle.lay_form.specs.Layout.{text_of_bits}
 use Rattle.lay_form.specs.Notation.{each, comma_gap, last_break, comma_list, braces}
 use Rattle.lay_form.specs.Pieces.{is_text_of, are_pieces}
-use Rattle.lay_map.specs.units.Choice.{alike, behind_word, behind_words, calm, calm_bits, clear, clear_bits, closes, firm, firm_bits, is_level, is_settled, none, opens, passes, shuts, top, under, word_closes}
-use Rattle.lay_map.specs.units.Units.{Word, Told, bits_words, punct_word, words}
+use Rattle.lay_map.specs.spelling.Choice.{alike, behind_word, behind_words, calm, calm_bits, clear, clear_bits, closes, firm, firm_bits, is_level, is_settled, none, opens, passes, shuts, top, under, word_closes}
+use Rattle.lay_map.specs.spelling.Units.{Word, Told, bits_words, punct_word, words}
 use Rattle.lay_map.specs.Flow.{Still, Said, Flow, Lost, At, are_comma, are_proper, is_plain, flow, group_flow, leaf_flow, left, words_flow}
 use Rattle.lay_map.proofs.PieceLemmas.{bare_apart, bare_closes, bare_opens, bare_texts, is_bare, semicolon_mark}
 

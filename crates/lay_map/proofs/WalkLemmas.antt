@@ -1,7 +1,7 @@
 -- A walk over tokens that are told one by one.
 use Rattle.std.proofs.Common.{◌≡◌, ℕ, zero, suc, ◌-◌, ◌<◌, ◌≤◌, Bool, true, false, cond, List, [], ◌∷◌, drop, refl, sym, ap, ◌∙◌, Some, arith}
 use Rattle.lay_token.specs.declared.token.Token.{Token}
-use Rattle.lay_map.specs.units.Choice.{behind_token}
+use Rattle.lay_map.specs.spelling.Choice.{behind_token}
 use Rattle.lay_lex.specs.one_by_one.Ahead.{IsNext, Tells}
 use Rattle.lay_lex.specs.declared.one_by_one.cursor.Lexeme.{Lexeme}
 use Rattle.lay_map.specs.Finding.{Finds}

@@ -6,9 +6,9 @@ use Rattle.lay_piece.specs.declared.kind.Delim.TheVariants.{Paren, Bracket, Brac
 use Rattle.lay_piece.specs.declared.kind.Kind.{Kind}
 use Rattle.lay_piece.specs.declared.kind.Kind.TheVariants.{Opener}
 use Rattle.lay_token.specs.declared.token.Token.{Token}
-use Rattle.lay_map.specs.units.Units as units
-use Rattle.lay_map.specs.units.Units.{Word, Told, Comment, Documented, said}
-use Rattle.lay_map.specs.units.Choice.{alike, behind_token, chosen, closes, fits, is_loose, leading, more, more_doc, openers, opens, says, takes, top, under, unit_of}
+use Rattle.lay_map.specs.spelling.Units as units
+use Rattle.lay_map.specs.spelling.Units.{Word, Told, Comment, Documented, said}
+use Rattle.lay_map.specs.spelling.Choice.{alike, behind_token, chosen, closes, fits, is_loose, leading, more, more_doc, openers, opens, says, takes, top, under, unit_of}
 use Rattle.lay_map.specs.Flow.{same}
 use Rattle.lay_map.specs.Places.{end_of, place_of}
 use Rattle.lay_map.specs.Walks.{Place, first_length, is_sought, last_of, more_of, placed_in, sought_in, taken_from, unit_from}

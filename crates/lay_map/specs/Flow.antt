@@ -11,8 +11,8 @@ use Rattle.lay_token.specs.Lexes.{is_punct}
 use Rattle.lay_layout.specs.declared.layout.Break.{Break}
 use Rattle.lay_form.specs.Form.{Bit, Bare, Unseen, Marked, Behind, Nothing, ArmComma, Form, Done, Piece, Leaf, Listed, ListedDoc, Brk, LastComma, Group, Part, Deeper, Optional, Docs, Body}
 use Rattle.lay_form.specs.Layout.{text_of_bits, is_block, break_of, comma_break, opening_break, closing_break}
-use Rattle.lay_map.specs.units.Choice.{closes, is_semicolon, opens}
-use Rattle.lay_map.specs.units.Units.{Word, Told, Comment, Documented, bits_words}
+use Rattle.lay_map.specs.spelling.Choice.{closes, is_semicolon, opens}
+use Rattle.lay_map.specs.spelling.Units.{Word, Told, Comment, Documented, bits_words}
 use Rattle.lay_map.specs.Marking.{is_free, opening_of}
 use Rattle.lay_map.specs.declared.marking.Opening.{Opening}
 

@@ -6,4 +6,4 @@ pub mod Meanings
 pub mod Pairs
 pub mod Places
 pub mod Walks
-pub mod units
+pub mod spelling

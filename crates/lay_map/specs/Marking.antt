@@ -6,7 +6,7 @@ use Rattle.lay_layout.specs.declared.layout.Break.{Break}
 use Rattle.lay_layout.specs.declared.layout.Tok.{Tok}
 use Rattle.lay_layout.specs.declared.layout.Tok.TheVariants as tok
 use Rattle.lay_token.specs.declared.token.Token.{Token}
-use Rattle.lay_map.specs.units.Choice.{top, under}
+use Rattle.lay_map.specs.spelling.Choice.{top, under}
 use Rattle.lay_map.specs.Walks.{Place, first_length, more_of, placed, sought_from, taken_from}
 use Rattle.lay_map.specs.declared.marking.Opening.{Opening}
 use Rattle.lay_map.specs.declared.marking.Within.{Within}

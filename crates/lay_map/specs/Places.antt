@@ -5,7 +5,7 @@ use Rattle.lay_token.specs.declared.token.Token.{Token}
 use Rattle.lay_code.specs.Reading.{top}
 use Rattle.lay_code.specs.nodes.File.{form_of_file}
 use Rattle.lay_code.specs.declared.file.File.{File}
-use Rattle.lay_map.specs.units.Units as units
+use Rattle.lay_map.specs.spelling.Units as units
 use Rattle.lay_map.specs.Walks.{unit_from}
 use Rattle.lay_map.specs.declared.unit.Unit.{Unit}
 

@@ -4,7 +4,7 @@ use Rattle.std.specs.Prelude.{◌≡◌, ◌⊎◌, ℕ, zero, suc, ◌+◌, ◌
 use Rattle.lay_piece.specs.Characters as char
 use Rattle.lay_piece.specs.declared.kind.Kind.{Kind}
 use Rattle.lay_token.specs.declared.token.Token.{Token}
-use Rattle.lay_map.specs.units.Choice.{alike, begins_doc, behind_token, closes, more_doc, openers, opens, top}
+use Rattle.lay_map.specs.spelling.Choice.{alike, begins_doc, behind_token, closes, more_doc, openers, opens, top}
 use Rattle.lay_map.specs.declared.unit.Unit.{Unit}
 use Rattle.lay_map.specs.declared.walk.Sought.{Sought}
 use Rattle.lay_map.specs.declared.walk.Sought.TheVariants.{First, Docs}

@@ -1,6 +1,6 @@
 //! A stack of flags.
 ghost use Rattle.std.specs.Prelude.{◌≡◌, [], ◌∷◌, OnOk};
-ghost use Rattle.lay_map.specs.units.Choice.{top, under};
+ghost use Rattle.lay_map.specs.spelling.Choice.{top, under};
 
 use lay_text::NoMemory;
 use std::alloc::Global;

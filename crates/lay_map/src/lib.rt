@@ -12,9 +12,9 @@ mod flags;
 mod law;
 mod marker;
 mod marking;
+pub mod spelling;
 mod tokens;
 mod unit;
-pub mod units;
 mod walk;
 
 pub use files::{units, units_of_text};

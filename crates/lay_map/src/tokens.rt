@@ -1,7 +1,7 @@
 //! What is told of single tokens.
 ghost use Rattle.std.specs.Prelude.{◌≡◌, [], ◌∷◌, IfOk, drop};
 ghost use Rattle.lay_token.specs.declared.token.Token.{Token as TokenValue};
-ghost use Rattle.lay_map.specs.units.Choice.{alike, closes, is_doc, is_semicolon, more_doc, opens};
+ghost use Rattle.lay_map.specs.spelling.Choice.{alike, closes, is_doc, is_semicolon, more_doc, opens};
 ghost use Rattle.lay_lex.specs.one_by_one.Ahead.{Tells};
 ghost use Rattle.lay_map.specs.Ahead.{tokens_of};
 ghost use Rattle.lay_map.specs.Walks.{is_said, last_of, unit_from};

@@ -1,7 +1,7 @@
 //! A walk over tokens, which finds the first one that begins as a word does.
 ghost use Rattle.std.specs.Prelude.{◌≡◌, ◌+◌, ◌++◌, ◌∷◌, [], IfOk, OnOk};
 ghost use Rattle.lay_token.specs.declared.token.Token.{Token as TokenValue};
-ghost use Rattle.lay_map.specs.units.Choice.{behind_token, openers};
+ghost use Rattle.lay_map.specs.spelling.Choice.{behind_token, openers};
 ghost use Rattle.lay_lex.specs.one_by_one.Ahead.{Tells};
 ghost use Rattle.lay_map.specs.Ahead.{tokens_of};
 ghost use Rattle.lay_map.specs.Finding.{Finds, documented_from};

@@ -1,7 +1,7 @@
 -- The map of bytes that read to a file, and what is written of it.
 use Rattle.std.specs.Prelude.{ℕ, ◌≡◌, List, [], map, Option}
 use Rattle.lay_io.specs.Told.{GrewBy, GrewByPrefix}
-use Rattle.lay_map.specs.units.Units.{units}
+use Rattle.lay_map.specs.spelling.Units.{units}
 use Rattle.lay_code.specs.Out.{out}
 use Rattle.lay_code.specs.Reading.{Reads, top}
 use Rattle.lay_code.specs.nodes.File.{form_of_file}

@@ -15,8 +15,8 @@ use Rattle.lay_code.specs.nodes.Blocks.{arm_facts, guard_form, is_free}
 use Rattle.lay_code.specs.nodes.CodeFacts.{ArmFacts}
 use Rattle.lay_code.specs.nodes.Exprs.{ExprFacts, arm_forms, arms_good, placed, value_placed}
 use Rattle.lay_code.specs.nodes.Places.{FREE, statement}
-use Rattle.lay_map.specs.units.Choice.{calm, clear}
-use Rattle.lay_map.specs.units.Units.{Word, bits_words, words}
+use Rattle.lay_map.specs.spelling.Choice.{calm, clear}
+use Rattle.lay_map.specs.spelling.Units.{Word, bits_words, words}
 use Rattle.lay_map.specs.Flow.{At, Still, Flow, flow, group_flow, left}
 use Rattle.lay_map.proofs.BodyRules.{Calms, calm_all, calms_group, calms_part, first_of}
 use Rattle.lay_map.proofs.FrontRules.{Leads, leads_group, leads_part}

@@ -25,9 +25,9 @@ use Rattle.lay_node.specs.declared.attr.MetaPath.TheVariants as meta_path
 use Rattle.lay_node.specs.declared.simple_path.SimplePath.{SimplePath}
 use Rattle.lay_node.specs.declared.token.Word.{Word}
 use Rattle.lay_node.specs.declared.tokens.MacroCall.{MacroCall}
-use Rattle.lay_map.specs.units.Choice.{calm, clear, firm_bits}
-use Rattle.lay_map.specs.units.Units as units
-use Rattle.lay_map.specs.units.Units.{words}
+use Rattle.lay_map.specs.spelling.Choice.{calm, clear, firm_bits}
+use Rattle.lay_map.specs.spelling.Units as units
+use Rattle.lay_map.specs.spelling.Units.{words}
 use Rattle.lay_map.specs.Flow.{Still, InLine, Flow, At, flow}
 use Rattle.lay_map.proofs.BodyRules.{Calms, Lined, Rest, calms_part, firm_calms, line_rest, lined}
 use Rattle.lay_map.proofs.Rules.{All, Closing, Firm, Tells, all_of, each_of, ends, firm_docs, firm_fixed, firm_leaf, firm_part, fixed, kept_in, leaf, levels_two, part, tame}

@@ -24,8 +24,8 @@ use Rattle.lay_code.specs.nodes.Conditions.{condition_facts, condition_form, con
 use Rattle.lay_code.specs.nodes.Exprs.{ExprFacts, placed, value_form, value_placed}
 use Rattle.lay_code.specs.nodes.Places.{FREE, link_place, plain, statement}
 use Rattle.lay_code.specs.declared.blocks.Stmt.TheOpen.{Link-F, Stmt-F}
-use Rattle.lay_map.specs.units.Choice.{calm, clear, passes}
-use Rattle.lay_map.specs.units.Units.{Word, Told, words}
+use Rattle.lay_map.specs.spelling.Choice.{calm, clear, passes}
+use Rattle.lay_map.specs.spelling.Units.{Word, Told, words}
 use Rattle.lay_map.specs.Flow.{At, Still, Flow, flow}
 use Rattle.lay_map.proofs.BodyRules.{Lined, body_firm, first_of, lead_bits, skip_bits, soft_told}
 use Rattle.lay_map.proofs.RowRules.{Row, firm_lead, firm_rows, lined_row, rest_ends, told_row}

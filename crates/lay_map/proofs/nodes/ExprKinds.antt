@@ -26,8 +26,8 @@ use Rattle.lay_code.specs.declared.operators.Op.{Op}
 use Rattle.lay_code.specs.declared.operators.Op.TheVariants as op
 use Rattle.lay_code.specs.declared.operators.Prefix.{Prefix}
 use Rattle.lay_code.specs.declared.operators.Prefix.TheVariants as before
-use Rattle.lay_map.specs.units.Choice.{firm_bits}
-use Rattle.lay_map.specs.units.Units.{Word}
+use Rattle.lay_map.specs.spelling.Choice.{firm_bits}
+use Rattle.lay_map.specs.spelling.Units.{Word}
 use Rattle.lay_map.proofs.BodyRules.{Calms, braces_told, calm_all, first_of}
 use Rattle.lay_map.proofs.Rules.{All, Firm, Plain, Tells, brk, ends, firm_fixed, firm_group, firm_part, fixed, group, list, part, tame}
 use Rattle.lay_map.proofs.nodes.Attrs.{call_firm, call_tells}

@@ -16,8 +16,8 @@ use Rattle.lay_code.specs.nodes.Exprs.{ExprFacts, StepFacts, all_free, are_gener
 use Rattle.lay_code.specs.nodes.Places.{FREE, begins}
 use Rattle.lay_code.specs.declared.blocks.Stmt.TheOpen.{FieldExpr-F, Step-F}
 use Rattle.lay_code.specs.declared.exprs.Place.{Place}
-use Rattle.lay_map.specs.units.Choice.{firm_bits}
-use Rattle.lay_map.specs.units.Units.{Word}
+use Rattle.lay_map.specs.spelling.Choice.{firm_bits}
+use Rattle.lay_map.specs.spelling.Units.{Word}
 use Rattle.lay_map.proofs.Rules.{All, Firm, Plain, Tells, brk, deep, ends, firm_deep, firm_fixed, firm_group, firm_leaf, fixed, group, leaf, list, part}
 use Rattle.lay_map.proofs.nodes.Attrs.{attrs_firm, attrs_firm_then, attrs_lined, attrs_then, firm_word, word}
 use Rattle.lay_map.proofs.nodes.TypeArgs.{Each}

@@ -18,7 +18,7 @@ use Rattle.lay_node.specs.declared.fields.TupleField.{TupleField}
 use Rattle.lay_node.specs.declared.fields.Variant.{Variant}
 use Rattle.lay_node.specs.declared.token.Listed.{Listed}
 use Rattle.lay_node.specs.declared.types.TypePlace.TheVariants.{Bounds}
-use Rattle.lay_map.specs.units.Units.{Word}
+use Rattle.lay_map.specs.spelling.Units.{Word}
 use Rattle.lay_map.proofs.BodyRules.{Calms, fields_told, firm_calms, first_of}
 use Rattle.lay_map.proofs.Rules.{All, Plain, Tells, all_of, each_of, ends, fixed, list, part}
 use Rattle.lay_map.proofs.nodes.Attrs.{attrs_calm_then, attrs_firm, attrs_lined, attrs_then, firm_word, word}

@@ -23,7 +23,7 @@ use Rattle.lay_node.specs.declared.patterns.PatPlace.TheVariants.{Single}
 use Rattle.lay_node.specs.declared.types.Abi.{Abi}
 use Rattle.lay_node.specs.declared.types.Ty.{Ty}
 use Rattle.lay_node.specs.declared.types.TypePlace.TheVariants.{Bounds}
-use Rattle.lay_map.specs.units.Units.{Word, words}
+use Rattle.lay_map.specs.spelling.Units.{Word, words}
 use Rattle.lay_map.proofs.Rules.{Any, Firm, Plain, Tells, each_of, ends, firm_fixed, fixed, list, part, part_to}
 use Rattle.lay_map.proofs.nodes.Attrs.{firm_when, whenever, word}
 use Rattle.lay_map.proofs.nodes.Generics.{NoAngles, generics_tell}

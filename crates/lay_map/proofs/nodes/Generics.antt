@@ -14,7 +14,7 @@ use Rattle.lay_node.specs.declared.generics.GenericParam.TheVariants as param
 use Rattle.lay_node.specs.declared.generics.Generics.{Generics}
 use Rattle.lay_node.specs.declared.types.Bound.{Bound}
 use Rattle.lay_node.specs.declared.types.Ty.{Ty}
-use Rattle.lay_map.specs.units.Units.{Word, words}
+use Rattle.lay_map.specs.spelling.Units.{Word, words}
 use Rattle.lay_map.proofs.FrontRules.{Skipped, angles, left_out}
 use Rattle.lay_map.proofs.Rules.{Tells, each_of, ends, fixed, part, part_to}
 use Rattle.lay_map.proofs.nodes.Attrs.{word}

@@ -35,7 +35,7 @@ use Rattle.lay_node.specs.declared.types.PathStyle.TheVariants.{Kind}
 use Rattle.lay_node.specs.declared.types.Ty.{Ty}
 use Rattle.lay_node.specs.declared.types.TypePlace.TheVariants.{Bounds}
 use Rattle.lay_node.specs.declared.vis.Vis.{Vis}
-use Rattle.lay_map.specs.units.Units.{Word, words}
+use Rattle.lay_map.specs.spelling.Units.{Word, words}
 use Rattle.lay_map.proofs.FrontRules.{Apart, angles, leads_fixed, leads_part}
 use Rattle.lay_map.proofs.Rules.{Firm, Plain, Tells, anywhere, ends, firm_fixed, firm_group, fixed, group_to, part, part_before, part_to, tame}
 use Rattle.lay_map.proofs.nodes.Attrs.{firm_when, whenever, word}

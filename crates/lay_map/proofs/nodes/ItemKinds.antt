@@ -30,7 +30,7 @@ use Rattle.lay_node.specs.declared.vis.Vis.{Vis}
 use Rattle.lay_code.specs.nodes.CodeFacts.{BlockFacts, ItemFacts, KindFacts}
 use Rattle.lay_code.specs.nodes.Exprs.{ExprFacts, may_be_good, value_placed}
 use Rattle.lay_code.specs.nodes.Item.{about_file_module, about_foreign, about_function, about_impl, about_import, about_module, about_trait, about_value, call_item_form, foreign_abi, function_tail, is_inherited, item_body, item_facts, item_forms, items_good, kind_form, may_be_bodied, may_be_valued, module_head, rules_form}
-use Rattle.lay_map.specs.units.Units.{Word, words}
+use Rattle.lay_map.specs.spelling.Units.{Word, words}
 use Rattle.lay_map.proofs.BodyRules.{Calms, Lined, calm_all, first_of, lead_bits, lined}
 use Rattle.lay_map.proofs.RowRules.{any_lead, calm_rows, lined_rows}
 use Rattle.lay_map.proofs.Rules.{All, Any, Firm, Plain, Tells, ends, firm_fixed, firm_part, fixed, part, part_to}

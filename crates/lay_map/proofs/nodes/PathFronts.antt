@@ -25,7 +25,7 @@ use Rattle.lay_node.specs.declared.types.PathStyle.TheVariants as style
 use Rattle.lay_node.specs.declared.types.Ty.{Ty}
 use Rattle.lay_node.proofs.nodes.TypesLaws as laws
 use Rattle.lay_node.proofs.nodes.TypesLaws.{about_segment}
-use Rattle.lay_map.specs.units.Units.{Word, Told, punct_word}
+use Rattle.lay_map.specs.spelling.Units.{Word, Told, punct_word}
 use Rattle.lay_map.proofs.FrontRules.{Apart, Leads, Marks, angle_marks, angles, leads_behind, leads_deep, leads_fixed, leads_part, leads_when, leads_word, list_leads}
 use Rattle.lay_map.proofs.Rules.{Firm, firm_behind, firm_fixed, firm_part}
 use Rattle.lay_map.proofs.nodes.Attrs.{firm_word}

@@ -25,9 +25,9 @@ use Rattle.lay_node.specs.declared.token.Name.{Name}
 use Rattle.lay_node.specs.declared.tokens.MacroCall.{MacroCall}
 use Rattle.lay_node.specs.declared.types.Path.{Path}
 use Rattle.lay_node.specs.declared.types.PathStyle.TheVariants.{Code}
-use Rattle.lay_map.specs.units.Choice.{firm_bits}
-use Rattle.lay_map.specs.units.Units as units
-use Rattle.lay_map.specs.units.Units.{words}
+use Rattle.lay_map.specs.spelling.Choice.{firm_bits}
+use Rattle.lay_map.specs.spelling.Units as units
+use Rattle.lay_map.specs.spelling.Units.{words}
 use Rattle.lay_map.proofs.BodyRules.{Calms, First, braces_told, calms_part, firm_calms}
 use Rattle.lay_map.proofs.FrontRules.{Apart, bar, edge_bar, edge_comma, edge_marks, edges, leads_deep, leads_fixed, leads_group, leads_leaf, leads_part, leads_when, leads_word, left_out, list_leads}
 use Rattle.lay_map.proofs.Rules.{All, Firm, NoComma, Plain, Tells, anywhere, brk, ends, firm_deep, firm_fixed, firm_group, firm_leaf, firm_part, fixed, group, leaf, list, part}

@@ -9,7 +9,7 @@ use Rattle.lay_node.specs.declared.patterns.FieldPat.TheViews as views
 use Rattle.lay_node.specs.declared.patterns.Pat.{Pat}
 use Rattle.lay_node.specs.declared.patterns.PatPlace.{PatPlace}
 use Rattle.lay_node.proofs.nodes.PatternsLaws as laws
-use Rattle.lay_map.specs.units.Units.{Word, words}
+use Rattle.lay_map.specs.spelling.Units.{Word, words}
 use Rattle.lay_map.proofs.BodyRules.{Calms}
 use Rattle.lay_map.proofs.Rules.{NoComma, Tells}
 use Rattle.lay_map.proofs.nodes.PatternKinds.{FieldTells, PatTells, bind_pat, call_pat, index_field, named_field, or_pat, paren_pat, path_pat, placed_calm, placed_no_comma, placed_tells, reference_pat, rest_pat, short_field, slice_pat, span_pat, struct_pat, tuple_pat, tuple_struct_pat, value_pat, wild_pat}

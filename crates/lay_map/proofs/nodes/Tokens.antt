@@ -24,8 +24,8 @@ use Rattle.lay_node.specs.declared.token.Listed.{Listed as ListedToken}
 use Rattle.lay_node.specs.declared.token.Listed.TheVariants as listed
 use Rattle.lay_node.specs.declared.tokens.Group.{Group as TokenGroup}
 use Rattle.lay_node.proofs.token_lists.Grouped.{InGroups, closer_token, flat, list_grouped}
-use Rattle.lay_map.specs.units.Choice.{calm, clear, closes, is_settled, opens}
-use Rattle.lay_map.specs.units.Units.{Word, Told, words}
+use Rattle.lay_map.specs.spelling.Choice.{calm, clear, closes, is_settled, opens}
+use Rattle.lay_map.specs.spelling.Units.{Word, Told, words}
 use Rattle.lay_map.specs.Flow.{Wait, Still, Said, Laid, InLine, Flow, Lost, At, are_comma, entered, flow, group_flow, is_open, leaf_flow, left}
 use Rattle.lay_map.proofs.PieceLemmas.{listed_texts}
 use Rattle.lay_map.proofs.Rules.{Closing, Levels, Tells, kept_in, levels_behind, levels_two, no_levels}

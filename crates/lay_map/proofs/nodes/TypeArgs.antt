@@ -18,7 +18,7 @@ use Rattle.lay_node.specs.declared.types.Capture.{Capture}
 use Rattle.lay_node.specs.declared.types.ConstArg.{ConstArg}
 use Rattle.lay_node.specs.declared.types.PathStyle.{PathStyle}
 use Rattle.lay_node.specs.declared.types.PathStyle.TheVariants as style
-use Rattle.lay_map.specs.units.Units.{Word, words}
+use Rattle.lay_map.specs.spelling.Units.{Word, words}
 use Rattle.lay_map.proofs.FrontRules.{Skipped, left_out}
 use Rattle.lay_map.proofs.Rules.{All, Plain, Tells, brk, deep, ends, fixed, group, list, part}
 use Rattle.lay_map.proofs.nodes.Attrs.{whenever, word}

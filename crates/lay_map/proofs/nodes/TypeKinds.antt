@@ -17,7 +17,7 @@ use Rattle.lay_node.specs.declared.types.Abi.{Abi}
 use Rattle.lay_node.specs.declared.types.Arg.TheOpen.{FuncParam-F, Ty-F}
 use Rattle.lay_node.specs.declared.types.Binder.{Binder}
 use Rattle.lay_node.specs.declared.types.PathStyle.TheVariants as style
-use Rattle.lay_map.specs.units.Units.{Word}
+use Rattle.lay_map.specs.spelling.Units.{Word}
 use Rattle.lay_map.proofs.Rules.{All, Closing, Plain, Tells, deep, ends, fixed, list, part}
 use Rattle.lay_map.proofs.nodes.Attrs.{call_tells, whenever}
 use Rattle.lay_map.proofs.nodes.Tokens.{tokens_tell}

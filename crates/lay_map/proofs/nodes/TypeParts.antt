@@ -24,7 +24,7 @@ use Rattle.lay_node.specs.declared.types.Capture.TheVariants as capture
 use Rattle.lay_node.specs.declared.types.ConstArg.{ConstArg}
 use Rattle.lay_node.specs.declared.types.ConstArg.TheVariants as const_arg
 use Rattle.lay_node.specs.declared.types.LifetimeParam.{LifetimeParam}
-use Rattle.lay_map.specs.units.Units.{Word, words}
+use Rattle.lay_map.specs.spelling.Units.{Word, words}
 use Rattle.lay_map.proofs.FrontRules.{Skipped, left_out}
 use Rattle.lay_map.proofs.PieceLemmas.{is_bare}
 use Rattle.lay_map.proofs.Rules.{All, Any, Closing, Firm, Plain, Tells, all_of, brk, each_by, each_of, ends, firm_leaf, fixed, gap, group, last, leaf, list, part, part_to}

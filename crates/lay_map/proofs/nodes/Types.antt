@@ -20,7 +20,7 @@ use Rattle.lay_node.specs.declared.types.TypePlace.{TypePlace}
 use Rattle.lay_node.specs.declared.types.TypePlace.TheVariants.{Bounds, NoBounds}
 use Rattle.lay_node.proofs.nodes.TypesLaws as laws
 use Rattle.lay_node.proofs.nodes.TypesLaws.{about_segment}
-use Rattle.lay_map.specs.units.Units as units
+use Rattle.lay_map.specs.spelling.Units as units
 use Rattle.lay_map.proofs.Rules.{Tells, anywhere}
 use Rattle.lay_map.proofs.nodes.TypeArgs.{ArgsTell, Each, NodeTells, PathTells, SegmentTells, TypeTells, angle_told, angle_tells, captures_bound, const_arg_tells, equal_const_tells, equal_tells, global_tells, limit_tells, local_tells, meets_bound, named_tells, no_args_tell, outlives_bound, path_told, plain_tells, qualified_tells, region_tells, round_args_tell}
 use Rattle.lay_map.proofs.nodes.TypeKinds.{array_type, bounds_type, call_type, func_param, func_type, infer_type, never_type, paren_type, path_type, pointer_type, reference_type, slice_type, tuple_type}

@@ -18,8 +18,8 @@ use Rattle.lay_node.specs.declared.use_tree.UseEnd.TheOpen.{UseEnd-F, UseTree-F}
 use Rattle.lay_node.specs.declared.use_tree.UseEnd.TheViews as views
 use Rattle.lay_node.specs.declared.use_tree.UseTree.{UseTree}
 use Rattle.lay_node.proofs.nodes.UseLaws as laws
-use Rattle.lay_map.specs.units.Choice.{firm}
-use Rattle.lay_map.specs.units.Units.{Word}
+use Rattle.lay_map.specs.spelling.Choice.{firm}
+use Rattle.lay_map.specs.spelling.Units.{Word}
 use Rattle.lay_map.proofs.BodyRules.{Calms, First, brace_list, calm_all, first_of}
 use Rattle.lay_map.proofs.Rules.{All, Firm, Plain, Tells, anywhere, deep, ends, firm_deep, firm_fixed, firm_part, fixed, leaf, part}
 use Rattle.lay_map.proofs.nodes.Attrs.{firm_when, firm_word, whenever, word}

@@ -5,7 +5,7 @@ use Rattle.lay_form.specs.Form.{Blank, Form, Part, closer}
 use Rattle.lay_node.specs.nodes.Vis.{is_vis, pub_in, pub_word, restricted, vis_form}
 use Rattle.lay_node.specs.declared.vis.Vis.{Vis}
 use Rattle.lay_node.specs.declared.vis.Vis.TheVariants as vis
-use Rattle.lay_map.specs.units.Units.{Word}
+use Rattle.lay_map.specs.spelling.Units.{Word}
 use Rattle.lay_map.proofs.Rules.{Firm, Tells, ends, firm_behind, firm_fixed, firm_part, fixed, part}
 use Rattle.lay_map.proofs.nodes.Attrs.{simple_path_tells}
 

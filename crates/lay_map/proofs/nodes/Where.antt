@@ -12,8 +12,8 @@ use Rattle.lay_node.specs.declared.generics.Predicate.TheVariants as predicate
 use Rattle.lay_node.specs.declared.generics.Wheres.{Wheres}
 use Rattle.lay_node.specs.declared.token.Lifetime.{Lifetime}
 use Rattle.lay_node.specs.declared.types.Bound.{Bound}
-use Rattle.lay_map.specs.units.Choice.{passes, skips}
-use Rattle.lay_map.specs.units.Units.{Word, words}
+use Rattle.lay_map.specs.spelling.Choice.{passes, skips}
+use Rattle.lay_map.specs.spelling.Units.{Word, words}
 use Rattle.lay_map.proofs.FrontRules.{Skipped, angles, left_out}
 use Rattle.lay_map.proofs.Rules.{All, NoComma, Plain, Tells, brk, each_of, ends, fixed, gaps, group_to, last_comma, part}
 use Rattle.lay_map.proofs.nodes.Generics.{NoAngles, each_bound}

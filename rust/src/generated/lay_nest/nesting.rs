@@ -13,7 +13,8 @@ pub struct Nested {
     spans: List<crate::shims::Span>,
 }
 impl Nested {
-    /// The token after the furthest one that a cursor passed, or none where that was the last.
+    /// The token after the furthest one that a cursor passed, or none where that was the
+    /// last.
     pub fn furthest(&self) -> Option<&Token> {
         let passed = self.spans.as_slice().iter().rposition(|span| span.is_passed());
         self.tokens.as_slice().get(passed.map_or(0, |last| last + 1))

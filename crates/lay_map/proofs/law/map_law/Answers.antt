@@ -2,8 +2,8 @@ use Rattle.std.proofs.Common.{[], length, sym, ap, ◌∙◌}
 use Rattle.std.proofs.lemmas.List.{length-map}
 use Rattle.lay_code.specs.Reading.{top}
 use Rattle.lay_code.specs.nodes.File.{form_of_file}
-use Rattle.lay_map.specs.units.Units.{Unit, units}
-use Rattle.lay_map.proofs.units_lemmas.UnitLemmas.{same}
+use Rattle.lay_map.specs.spelling.Units.{Unit, units}
+use Rattle.lay_map.proofs.spelling_lemmas.UnitLemmas.{same}
 use Rattle.lay_map.proofs.FileLemmas.{found_places}
 use Rattle.lay_map.proofs.LexedLemmas.{lexed_single}
 use Rattle.lay_map.proofs.law.map_law.Goals as goal

@@ -1,6 +1,6 @@
 -- Those so far and those of the rest are all.
 use Rattle.std.proofs.Common.{◌≡◌, ◌+◌, length}
-use Rattle.lay_map.specs.units.Choice.{openers}
+use Rattle.lay_map.specs.spelling.Choice.{openers}
 use Rattle.lay_map.specs.Ahead.{tokens_of}
 use Rattle.lay_map.proofs.walk.count_openers.Given as goal
 

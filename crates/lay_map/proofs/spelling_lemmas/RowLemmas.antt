@@ -10,10 +10,10 @@ use Rattle.lay_token.specs.declared.token.Token.{Token}
 use Rattle.lay_form.specs.Form.{Bit, Blank, Fixed, Operator, Semicolons, Form, Done, Piece, Leaf, Listed, ListedDoc, Brk, LastComma, Group, Part, Deeper, Optional, Docs, Body, comma, keyword}
 use Rattle.lay_form.specs.Spelled.{IsOne, IsBit, AreBits, AreSemicolons, MayBe, IsListed, IsComment, IsDoc, attr_opening, Spells}
 use Rattle.lay_form.proofs.FormLaws.{one_end, bits_end, may_be_end, listed_end, is_end}
-use Rattle.lay_map.specs.units.Units.{Word, Told, punct_word, bits_words, words, AreSingle}
-use Rattle.lay_map.specs.units.Choice.{alike, opens, is_semicolon, passes, leading, is_loose, openers, calm_bits, stops, calm, firm_bits, firm}
-use Rattle.lay_map.proofs.units_lemmas.OperatorLemmas.{Reads, op_reads}
-use Rattle.lay_map.proofs.units_lemmas.UnitLemmas.{behind}
+use Rattle.lay_map.specs.spelling.Units.{Word, Told, punct_word, bits_words, words, AreSingle}
+use Rattle.lay_map.specs.spelling.Choice.{alike, opens, is_semicolon, passes, leading, is_loose, openers, calm_bits, stops, calm, firm_bits, firm}
+use Rattle.lay_map.proofs.spelling_lemmas.OperatorLemmas.{Reads, op_reads}
+use Rattle.lay_map.proofs.spelling_lemmas.UnitLemmas.{behind}
 
 -- ---- tests
 

@@ -8,11 +8,11 @@ use Rattle.lay_token.specs.declared.token.Token.{Token}
 use Rattle.lay_form.specs.Form.{Bit, Blank, Fixed, Operator, Semicolons, Behind, Nothing, ArmComma, Form, Done, Piece, Leaf, Listed, ListedDoc, Brk, LastComma, Group, Part, Deeper, Optional, Docs, Body, comma}
 use Rattle.lay_form.specs.Spelled.{IsOne, AreBits, AreSemicolons, MayBe, IsListed, IsComment, IsString, IsDoc, Opens, Closes, IsBehind, cost, Spells}
 use Rattle.lay_form.proofs.FormLaws.{one_end, bits_end, may_be_end, listed_end, comment_end, doc_end, opens_end, closes_end, behind_end, is_end}
-use Rattle.lay_map.specs.units.Units.{Word, Told, Comment, Documented, Unit, kept, first_unit, take_one, spent, op_units, bits_units, units, punct_word, bits_words, words, AreSingle}
-use Rattle.lay_map.specs.units.Choice.{opens, closes, alike, begins_doc, more_doc, says, passes, word_opens, word_closes, leading, is_loose, openers, fits, top, under, behind_token, behind_word, behind_words, shuts, none, is_level, takes, more, unit_of, chosen, calm_bits, calm, firm, passes_each, skips, is_settled, clear_bits, passes_behind, clear}
-use Rattle.lay_map.proofs.units_lemmas.OperatorLemmas.{Reads, op_reads}
-use Rattle.lay_map.proofs.units_lemmas.RowLemmas.{not_true, Runs, Firm, bit_behind, semicolons_open, opened_row, one_row, listed_row, bits_row, form_row, form_firm}
-use Rattle.lay_map.proofs.units_lemmas.UnitLemmas.{behind}
+use Rattle.lay_map.specs.spelling.Units.{Word, Told, Comment, Documented, Unit, kept, first_unit, take_one, spent, op_units, bits_units, units, punct_word, bits_words, words, AreSingle}
+use Rattle.lay_map.specs.spelling.Choice.{opens, closes, alike, begins_doc, more_doc, says, passes, word_opens, word_closes, leading, is_loose, openers, fits, top, under, behind_token, behind_word, behind_words, shuts, none, is_level, takes, more, unit_of, chosen, calm_bits, calm, firm, passes_each, skips, is_settled, clear_bits, passes_behind, clear}
+use Rattle.lay_map.proofs.spelling_lemmas.OperatorLemmas.{Reads, op_reads}
+use Rattle.lay_map.proofs.spelling_lemmas.RowLemmas.{not_true, Runs, Firm, bit_behind, semicolons_open, opened_row, one_row, listed_row, bits_row, form_row, form_firm}
+use Rattle.lay_map.proofs.spelling_lemmas.UnitLemmas.{behind}
 
 -- ---- the braces that are open
 

@@ -10,7 +10,7 @@ use Rattle.lay_piece.specs.declared.kind.Kind.TheVariants.{Punct, Opener, Closer
 use Rattle.lay_token.specs.Lexes.{is_punct}
 use Rattle.lay_token.specs.declared.token.Token.{Token}
 use Rattle.lay_form.specs.Form.{Bit, Blank, Fixed, Operator, Semicolons, Behind, Nothing, ArmComma, Form, Done, Piece, Leaf, Listed, ListedDoc, Brk, LastComma, Group, Part, Deeper, Optional, Docs, Body}
-use Rattle.lay_map.specs.units.Units.{Word, Told, Comment, Documented, Unit, kept, bits_words, words}
+use Rattle.lay_map.specs.spelling.Units.{Word, Told, Comment, Documented, Unit, kept, bits_words, words}
 
 -- ---- words and tokens
 

@@ -8,8 +8,8 @@ ghost use Rattle.std.specs.Prelude.{◌≡◌, ℕ, List, [], true};
 ghost use Rattle.lay_form.specs.Form.{Form};
 ghost use Rattle.lay_form.specs.Spelled.{Spells};
 ghost use Rattle.lay_token.specs.declared.token.Token.{Token};
-ghost use Rattle.lay_map.specs.units.Choice.{chosen, clear, is_level};
-ghost use Rattle.lay_map.specs.units.Units.{AreSingle, said, units, words};
+ghost use Rattle.lay_map.specs.spelling.Choice.{chosen, clear, is_level};
+ghost use Rattle.lay_map.specs.spelling.Units.{AreSingle, said, units, words};
 
 /// The laws of units. What they say is told by the form, however it is spelled, so two spellings of one form have the same
 /// number of units, which say the same. Where the form is clear, the first match finds them by what they say alone.

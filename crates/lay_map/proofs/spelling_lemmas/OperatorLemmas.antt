@@ -9,7 +9,7 @@ use Rattle.lay_token.specs.Lexes.{is_punct}
 use Rattle.lay_token.specs.Operators.{operators, begins_op, first_op, lone_op, or_lone, op_at, is_op_of, is_op}
 use Rattle.lay_token.specs.declared.token.Token.{Token}
 use Rattle.lay_token.proofs.Deciding.{punct_is, bytes_same}
-use Rattle.lay_map.specs.units.Units.{AreSingle}
+use Rattle.lay_map.specs.spelling.Units.{AreSingle}
 
 -- these characters, one a token of punctuation
 abbrev pub Reads : List ℕ → List Token → Type 0

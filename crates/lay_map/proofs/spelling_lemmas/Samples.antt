@@ -7,8 +7,8 @@ use Rattle.lay_piece.specs.declared.kind.Kind.TheVariants.{Ident, Str, Punct, Op
 use Rattle.lay_token.specs.declared.token.Token.{Token}
 use Rattle.lay_form.specs.Form.{Blank, Operator, Semicolons, Unseen, ArmComma, Form, Done, Piece, Leaf, Listed, Optional, Docs, Body, keyword, opener, closer, comma}
 use Rattle.lay_form.specs.Notation.{comma_list, piece}
-use Rattle.lay_map.specs.units.Units.{Unit, words}
-use Rattle.lay_map.specs.units.Choice.{chosen, clear, is_level}
+use Rattle.lay_map.specs.spelling.Units.{Unit, words}
+use Rattle.lay_map.specs.spelling.Choice.{chosen, clear, is_level}
 
 -- a token at a place
 abbrev token : Kind → List ℕ → ℕ → Token

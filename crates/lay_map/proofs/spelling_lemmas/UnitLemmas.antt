@@ -6,8 +6,8 @@ use Rattle.lay_token.specs.declared.token.Token.{Token}
 use Rattle.lay_form.specs.Form.{Bit, Blank, Fixed, Operator, Semicolons, Form, Done, Piece, Leaf, Listed, ListedDoc, Brk, LastComma, Group, Part, Deeper, Optional, Docs, Body, comma}
 use Rattle.lay_form.specs.Spelled.{IsOne, IsBit, AreBits, IsListed, cost, Spells}
 use Rattle.lay_form.proofs.FormLaws.{IsEnd, one_end, bits_end, may_be_end, listed_end, comment_end, doc_end, opens_end, closes_end, behind_end, is_end}
-use Rattle.lay_map.specs.units.Units.{Word, Told, Comment, Documented, Unit, first_unit, op_units, bit_units, bits_units, units, punct_word, bit_words, bits_words, words, said, AreSingle}
-use Rattle.lay_map.proofs.units_lemmas.OperatorLemmas.{Reads, op_reads}
+use Rattle.lay_map.specs.spelling.Units.{Word, Told, Comment, Documented, Unit, first_unit, op_units, bit_units, bits_units, units, punct_word, bit_words, bits_words, words, said, AreSingle}
+use Rattle.lay_map.proofs.spelling_lemmas.OperatorLemmas.{Reads, op_reads}
 
 said_two : (us vs : List Unit) → said (us ++ vs) ≡ said us ++ said vs
 said_two [] vs = refl

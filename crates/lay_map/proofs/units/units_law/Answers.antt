@@ -1,6 +1,0 @@
-use Rattle.lay_map.proofs.units_lemmas.UnitLemmas.{told, same}
-use Rattle.lay_map.proofs.units_lemmas.ChoiceLemmas.{all_units}
-use Rattle.lay_map.proofs.units.units_law.Goals as goal
-
-pub returns : goal.returns
-returns c = record { told = told; same = same; first = all_units }
