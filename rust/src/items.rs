@@ -21,9 +21,12 @@ use core::fmt;
 /// assert_eq!(items.output(1), Some("fn c() {}\n"));
 /// assert_eq!(items.whole()?, "//! Numbers.\nconst A: u16 = 3;\nfn c() {}\n");
 /// // What is refused changes nothing, and so does what isn't one item.
-/// assert_eq!(items.replace(0, "const A u8;").unwrap_err().to_string(), "1:1: no item (read as far
-/// as 1:9)"); assert_eq!(items.insert(0, "use a; use b;").unwrap_err().to_string(), "not one item:
-/// 2 items"); assert_eq!(items.len(), 2); # Ok::<(), Box<dyn std::error::Error>>(())
+/// let error = items.replace(0, "const A u8;").unwrap_err();
+/// assert_eq!(error.to_string(), "1:1: no item (read as far as 1:9)");
+/// let error = items.insert(0, "use a; use b;").unwrap_err();
+/// assert_eq!(error.to_string(), "not one item: 2 items");
+/// assert_eq!(items.len(), 2);
+/// # Ok::<(), Box<dyn std::error::Error>>(())
 /// ```
 pub struct Items(lay_items::Items);
 
