@@ -1,15 +1,20 @@
-//! Branches.
-ghost use Rattle.std.specs.Prelude.{◌≡◌, ◌∷◌, []};
+//! Branches. What is tested is lent, and becomes the expression that has the branches.
+ghost use Rattle.std.specs.Prelude.{◌≡◌, ◌∷◌, [], ◌≤◌, max};
+ghost use Rattle.lay_form.specs.Depth.{least_depth};
+ghost use Rattle.lay_code.specs.Reading.{top};
 ghost use Rattle.lay_code.specs.declared.conditions.Link.TheVariants as link;
-ghost use Rattle.lay_build_types.specs.Answers.{Gives, Makes};
-ghost use Rattle.lay_build_types.specs.Kinds.{form_of_expr};
+ghost use Rattle.lay_build_types.specs.Answers.{Gives, Makes, need_if};
+ghost use Rattle.lay_build_types.specs.Kinds.{form_of_block, form_of_expr};
 ghost use Rattle.lay_build_exprs.specs.Nodes as node;
+ghost use Rattle.lay_build_exprs.specs.Parts.{WithNeed};
 
+use crate::keeping::kept_with;
 use crate::operands;
-use lay_build_types::{BuildError, BuiltBlock, BuiltExpr, both, boxed, kept, one, part_or_none};
+use lay_build_types::{BuildError, BuiltBlock, BuiltExpr, boxed, one, part_or_none};
 use lay_code::{Block, Branch, Condition, Expr, Link};
 use lay_text::List;
 use std::alloc::Global;
+use std::mem;
 
 /// A branch: `if a { b }`, or with the block behind `else`, `if a { b } else { c }`.
 pub fn expr_if(
@@ -20,43 +25,60 @@ pub fn expr_if(
 ) -> Result<BuiltExpr, BuildError>
     ensures { Makes form_of_expr (node.expr_if test then other) result }
 {
-    let (test, blocks) = both(operands::test(alloc, test), Ok((then, other)))?;
-    let (test, need) = test;
-    let (then, other) = blocks;
+    let (mut test, need) = test.into_parts();
     let (body, more) = then.into_parts();
     let (otherwise, most) = part_or_none(other);
-    let need = (need + 1).max(more).max(most);
-    kept(one_branch(alloc, test, body, otherwise, need))
+    let need = add_blocks(alloc, &mut test, need, body, otherwise, more.max(most));
+    kept_with(test, need)
 }
 
-/// A branch that needs this depth.
-fn one_branch(
+/// Adds its blocks, of which the deeper needs this depth, behind what is tested.
+fn add_blocks(
     alloc: Global,
-    test: Expr,
+    test: &mut Expr,
+    need: u32,
     body: Block,
     otherwise: Option<Block>,
-    need: u32,
-) -> Result<(Expr, u32), BuildError>
-    ensures { Gives result (λ part. part ≡ (node.one_branch test body otherwise, need)) }
+    blocks: u32,
+) -> Result<u32, BuildError>
+    requires need { need ≡ least_depth (form_of_expr test.old) }
+    requires within { need ≤ top }
+    requires blocks { blocks ≡ max (least_depth (form_of_block body)) (need_if form_of_block otherwise) }
+    ensures { Gives result (λ deep. WithNeed (node.expr_if test.old body otherwise) (test.new, deep)) }
 {
-    let (links, blocks) = both(links(alloc, test), Ok((body, otherwise)))?;
-    let (body, otherwise) = blocks;
+    let need = operands::test(alloc, test, need)?;
+    one_branch(alloc, test, body, otherwise)?;
+    let need = (need + 1).max(blocks);
+    Ok(need)
+}
+
+/// Makes a branch of a test, which stands so.
+fn one_branch(
+    alloc: Global,
+    test: &mut Expr,
+    body: Block,
+    otherwise: Option<Block>,
+) -> Result<(), BuildError>
+    ensures { Gives result (λ done. test.new ≡ node.one_branch test.old body otherwise) }
+{
+    let links = links(alloc, test)?;
     let branch = Branch {
         condition: Condition { links },
         body,
     };
-    let (branches, otherwise) = both(one(alloc, branch), Ok(otherwise))?;
-    let expr = Expr::If {
+    let branches = one(alloc, branch)?;
+    *test = Expr::If {
         branches,
         otherwise,
     };
-    Ok((expr, need))
+    Ok(())
 }
 
-/// The links of a condition that is one expression.
-fn links(alloc: Global, test: Expr) -> Result<List<Link>, BuildError>
-    ensures { Gives result (λ links. links ≡ link.Expr test ∷ []) }
+/// The links of a condition that is one expression, which is taken.
+fn links(alloc: Global, test: &mut Expr) -> Result<List<Link>, BuildError>
+    ensures { Gives result (λ links. links ≡ link.Expr test.old ∷ []) }
 {
-    let expr = boxed(alloc, test)?;
+    let bare = mem::replace(test, Expr::Underscore);
+    let expr = boxed(alloc, bare)?;
     one(alloc, Link::Expr { expr })
 }

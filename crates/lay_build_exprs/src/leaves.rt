@@ -1,29 +1,36 @@
 //! Literals and paths.
 ghost use Rattle.std.specs.Prelude.{◌≡◌, MatchBool};
 ghost use Rattle.std.specs.Str.{is_utf8};
-ghost use Rattle.lay_build_types.specs.Answers.{IsPart, Makes, Refuses};
-ghost use Rattle.lay_build_types.specs.Kinds.{IsExpr, form_of_expr};
+ghost use Rattle.lay_build_types.specs.Answers.{Makes, Refuses};
+ghost use Rattle.lay_build_types.specs.Kinds.{form_of_expr};
 ghost use Rattle.lay_build_exprs.specs.Nodes as node;
 
+use crate::keeping::kept_with;
 use itoa::Buffer;
-use lay_build_types::{BuildError, BuiltExpr, BuiltName, kept, nodes, path, string_literal};
+use lay_build_types::{BuildError, BuiltExpr, BuiltName, nodes, path, string_literal};
 use lay_code::{Args, Expr, Literal};
 use lay_piece::Kind;
 use lay_text::{List, NoMemory, Text};
 use std::alloc::Global;
 use std::str;
 
+/// The depth that an expression needs that has no other in it.
+const LEAF: u32 = 1;
+
 /// The integer literal of a number, in decimal digits and without a suffix.
 pub fn expr_int(alloc: Global, value: u128) -> Result<BuiltExpr, BuildError>
     ensures { Makes form_of_expr (node.expr_int value) result }
 {
     match Text::from_bytes(alloc, Buffer::new().format(value).as_bytes()) {
-        Ok(text) => leaf(Expr::Lit {
-            literal: Literal {
-                kind: Kind::Int,
-                text,
+        Ok(text) => kept_with(
+            Expr::Lit {
+                literal: Literal {
+                    kind: Kind::Int,
+                    text,
+                },
             },
-        }),
+            Ok(LEAF),
+        ),
         Err(NoMemory) => Err(BuildError::NoMemory),
     }
 }
@@ -37,12 +44,15 @@ pub fn expr_str(alloc: Global, text: &[u8]) -> Result<BuiltExpr, BuildError>
         return Err(BuildError::BadText);
     }
     let text = string_literal(alloc, text)?;
-    leaf(Expr::Lit {
-        literal: Literal {
-            kind: Kind::Str,
-            text,
+    kept_with(
+        Expr::Lit {
+            literal: Literal {
+                kind: Kind::Str,
+                text,
+            },
         },
-    })
+        Ok(LEAF),
+    )
 }
 
 /// Whether bytes are UTF-8.
@@ -63,13 +73,5 @@ pub fn expr_path(
     let (first, _) = first.into_parts();
     let (rest, _) = nodes(alloc, rest)?;
     let path = path(alloc, first, rest, Args::None)?;
-    leaf(Expr::Path { path })
-}
-
-/// An expression with nothing in it that needs depth.
-fn leaf(expr: Expr) -> Result<BuiltExpr, BuildError>
-    requires { IsPart form_of_expr IsExpr (expr, 1) }
-    ensures { Makes form_of_expr expr result }
-{
-    kept(Ok((expr, 1)))
+    kept_with(Expr::Path { path }, Ok(LEAF))
 }

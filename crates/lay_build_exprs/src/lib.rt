@@ -5,6 +5,7 @@
 #![tactic(auto)]
 
 mod branches;
+mod keeping;
 pub mod kinds;
 mod laws;
 mod leaves;

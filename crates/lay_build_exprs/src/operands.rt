@@ -1,64 +1,72 @@
-//! Parentheses, where an expression needs them to stand in another.
-ghost use Rattle.std.specs.Prelude.{◌≡◌, ◌+◌, ◌≤◌};
+//! Parentheses, where an expression needs them to stand in another. An expression is lent with the depth that it needs, and what is
+//! answered is the depth that it needs then.
+ghost use Rattle.std.specs.Prelude.{◌≡◌, ◌≤◌};
+ghost use Rattle.lay_form.specs.Depth.{least_depth};
 ghost use Rattle.lay_code.specs.Reading.{top};
 ghost use Rattle.lay_code.specs.declared.exprs.Expr.TheVariants as variant;
-ghost use Rattle.lay_build_types.specs.Answers.{Gives, IsKept};
-ghost use Rattle.lay_build_types.specs.Kinds.{IsExpr, form_of_expr};
+ghost use Rattle.lay_build_types.specs.Answers.{Gives};
+ghost use Rattle.lay_build_types.specs.Kinds.{form_of_expr};
 ghost use Rattle.lay_build_exprs.specs.Nodes as node;
 ghost use Rattle.lay_build_exprs.specs.Parts.{WithNeed};
 
-use lay_build_types::{BuildError, BuiltExpr, boxed};
+use lay_build_types::{BuildError, boxed};
 use lay_code::{Expr, Step};
 use std::alloc::Global;
+use std::mem;
 
 /// An operand of an operator, or the base of a field or a method.
-pub(crate) fn operand(alloc: Global, built: BuiltExpr) -> Result<(Expr, u32), BuildError>
-    ensures part { Gives result (WithNeed (node.operand built)) }
-    ensures kept { IsKept form_of_expr IsExpr built }
+pub(crate) fn operand(alloc: Global, expr: &mut Expr, need: u32) -> Result<u32, BuildError>
+    requires need { need ≡ least_depth (form_of_expr expr.old) }
+    requires within { need ≤ top }
+    ensures { Gives result (λ deep. WithNeed (node.operand expr.old) (expr.new, deep)) }
 {
-    let stands = is_operand(built.node());
-    unless(alloc, stands, built)
+    let stands = is_operand(expr);
+    unless(alloc, stands, expr, need)
 }
 
 /// What is called. Behind the name of a field a call would be a method's.
-pub(crate) fn callee(alloc: Global, built: BuiltExpr) -> Result<(Expr, u32), BuildError>
-    ensures part { Gives result (WithNeed (node.callee built)) }
-    ensures kept { IsKept form_of_expr IsExpr built }
+pub(crate) fn callee(alloc: Global, expr: &mut Expr, need: u32) -> Result<u32, BuildError>
+    requires need { need ≡ least_depth (form_of_expr expr.old) }
+    requires within { need ≤ top }
+    ensures { Gives result (λ deep. WithNeed (node.callee expr.old) (expr.new, deep)) }
 {
-    if ends_in_field(built.node()) {
-        return unless(alloc, false, built);
+    if ends_in_field(expr) {
+        return unless(alloc, false, expr, need);
     }
-    operand(alloc, built)
+    operand(alloc, expr, need)
 }
 
 /// What an `if` tests.
-pub(crate) fn test(alloc: Global, built: BuiltExpr) -> Result<(Expr, u32), BuildError>
-    ensures part { Gives result (WithNeed (node.test built)) }
-    ensures kept { IsKept form_of_expr IsExpr built }
+pub(crate) fn test(alloc: Global, expr: &mut Expr, need: u32) -> Result<u32, BuildError>
+    requires need { need ≡ least_depth (form_of_expr expr.old) }
+    requires within { need ≤ top }
+    ensures { Gives result (λ deep. WithNeed (node.test expr.old) (expr.new, deep)) }
 {
-    let stands = is_operand(built.node()) || is_chain(built.node());
-    unless(alloc, stands, built)
+    let stands = is_operand(expr) || is_chain(expr);
+    unless(alloc, stands, expr, need)
 }
 
 /// An expression, in parentheses unless it may stand so.
-fn unless(alloc: Global, stands: bool, built: BuiltExpr) -> Result<(Expr, u32), BuildError>
-    ensures part { Gives result (WithNeed (node.unless stands built)) }
-    ensures kept { IsKept form_of_expr IsExpr built }
+fn unless(alloc: Global, stands: bool, expr: &mut Expr, need: u32) -> Result<u32, BuildError>
+    requires need { need ≡ least_depth (form_of_expr expr.old) }
+    requires within { need ≤ top }
+    ensures { Gives result (λ deep. WithNeed (node.unless stands expr.old) (expr.new, deep)) }
 {
-    let (expr, need) = built.into_parts();
     if stands {
-        return Ok((expr, need));
+        return Ok(need);
     }
-    in_parens(alloc, expr, need)
+    put_in_parens(alloc, expr)?;
+    Ok(need + 1)
 }
 
-/// An expression that needs this depth, in parentheses.
-fn in_parens(alloc: Global, expr: Expr, need: u32) -> Result<(Expr, u32), BuildError>
-    requires { need ≤ top }
-    ensures { Gives result (λ part. part ≡ (variant.Paren expr, need + 1)) }
+/// Puts an expression in parentheses.
+fn put_in_parens(alloc: Global, expr: &mut Expr) -> Result<(), BuildError>
+    ensures { Gives result (λ done. expr.new ≡ variant.Paren expr.old) }
 {
-    let inner = boxed(alloc, expr)?;
-    Ok((Expr::Paren { inner }, need + 1))
+    let bare = mem::replace(expr, Expr::Underscore);
+    let inner = boxed(alloc, bare)?;
+    *expr = Expr::Paren { inner };
+    Ok(())
 }
 
 /// Whether an operator, and any step, takes it as it is.

@@ -1,5 +1,6 @@
-//! Operators.
-ghost use Rattle.std.specs.Prelude.{◌≡◌, ◌∷◌, [], ◌+◌, ◌≤◌, IsTrue};
+//! Operators. The left operand is lent, and becomes the expression that has the operator.
+ghost use Rattle.std.specs.Prelude.{◌≡◌, ◌∷◌, [], ◌≤◌, IsTrue};
+ghost use Rattle.lay_form.specs.Depth.{least_depth};
 ghost use Rattle.lay_code.specs.Operators.{op_level};
 ghost use Rattle.lay_code.specs.Reading.{top};
 ghost use Rattle.lay_code.specs.nodes.Exprs.{is_chain_level};
@@ -7,12 +8,14 @@ ghost use Rattle.lay_code.specs.declared.exprs.Expr.TheVariants as variant;
 ghost use Rattle.lay_build_types.specs.Answers.{Gives, Makes};
 ghost use Rattle.lay_build_types.specs.Kinds.{form_of_expr};
 ghost use Rattle.lay_build_exprs.specs.Nodes as node;
+ghost use Rattle.lay_build_exprs.specs.Parts.{WithNeed};
 
+use crate::keeping::kept_with;
 use crate::operands::operand;
-use lay_build_types::{BuildError, BuiltExpr, both, boxed, kept, one};
+use lay_build_types::{BuildError, BuiltExpr, boxed, one};
 use lay_code::{Boxed, Expr, Op};
-use lay_text::List;
 use std::alloc::Global;
+use std::mem;
 
 /// An operator between two operands: `a + b`. It is none that assigns and no range's.
 pub fn expr_binary(
@@ -24,31 +27,44 @@ pub fn expr_binary(
     requires { IsTrue (is_chain_level (op_level op)) }
     ensures { Makes form_of_expr (node.expr_binary op left right) result }
 {
-    let (left, right) = both(operand(alloc, left), operand(alloc, right))?;
-    let (left, need) = left;
-    let (right, more) = right;
-    kept(chain(alloc, op, left, right, need.max(more)))
+    let (mut left, need) = left.into_parts();
+    let (right, more) = right.into_parts();
+    let need = add_operand(alloc, &mut left, need, op, right, more);
+    kept_with(left, need)
 }
 
-/// An operator between two operands, of which the deeper needs this depth.
-fn chain(
+/// Adds an operator and the operand behind it to the one before it.
+fn add_operand(
     alloc: Global,
-    op: Op,
-    left: Expr,
-    right: Expr,
+    left: &mut Expr,
     need: u32,
-) -> Result<(Expr, u32), BuildError>
-    requires { need ≤ top + 1 }
-    ensures { Gives result (λ part. part ≡ (variant.Chain left ((op, right) ∷ []), need + 1)) }
+    op: Op,
+    right: Expr,
+    more: u32,
+) -> Result<u32, BuildError>
+    requires need { need ≡ least_depth (form_of_expr left.old) }
+    requires within { need ≤ top }
+    requires more { more ≡ least_depth (form_of_expr right) }
+    requires little { more ≤ top }
+    ensures { Gives result (λ deep. WithNeed (node.expr_binary op left.old right) (left.new, deep)) }
 {
-    let (first, rest) = both(boxed(alloc, left), operand_behind(alloc, op, right))?;
-    Ok((Expr::Chain { first, rest }, need + 1))
+    let mut right = right;
+    let more = operand(alloc, &mut right, more);
+    let right = boxed(alloc, right)?;
+    let more = more?;
+    let need = operand(alloc, left, need)?;
+    chain(alloc, left, op, right)?;
+    let need = need.max(more) + 1;
+    Ok(need)
 }
 
-/// The operand behind an operator, alone.
-fn operand_behind(alloc: Global, op: Op, right: Expr) -> Result<List<(Op, Boxed<Expr>)>, BuildError>
-    ensures { Gives result (λ rest. rest ≡ (op, right) ∷ []) }
+/// Adds an operator and what stands behind it, in parentheses where it has to be.
+fn chain(alloc: Global, left: &mut Expr, op: Op, right: Boxed<Expr>) -> Result<(), BuildError>
+    ensures { Gives result (λ done. left.new ≡ variant.Chain left.old ((op, right) ∷ [])) }
 {
-    let right = boxed(alloc, right)?;
-    one(alloc, (op, right))
+    let rest = one(alloc, (op, right))?;
+    let bare = mem::replace(left, Expr::Underscore);
+    let first = boxed(alloc, bare)?;
+    *left = Expr::Chain { first, rest };
+    Ok(())
 }

@@ -1,17 +1,19 @@
-//! Fields, methods and calls.
-ghost use Rattle.std.specs.Prelude.{◌≡◌, ◌∷◌, [], ◌+◌, ◌≤◌};
+//! Fields, methods and calls. A base is lent with the depth that it needs, and becomes the expression that has the step.
+ghost use Rattle.std.specs.Prelude.{◌≡◌, ◌∷◌, [], ◌+◌, ◌≤◌, OnOk};
+ghost use Rattle.std.specs.List.{AllByRecursion};
 ghost use Rattle.lay_form.specs.Depth.{least_depth};
 ghost use Rattle.lay_code.specs.Reading.{top};
 ghost use Rattle.lay_code.specs.nodes.Code.{about_step};
 ghost use Rattle.lay_code.specs.declared.exprs.Expr.TheVariants as variant;
-ghost use Rattle.lay_build_types.specs.Answers.{Gives, Makes};
-ghost use Rattle.lay_build_types.specs.Kinds.{form_of_expr};
+ghost use Rattle.lay_build_types.specs.Answers.{Gives, IsKept, Makes};
+ghost use Rattle.lay_build_types.specs.Kinds.{IsExpr, form_of_expr};
 ghost use Rattle.lay_build_exprs.specs.Nodes as node;
 ghost use Rattle.lay_build_exprs.specs.Parts.{WithNeed};
 
+use crate::keeping::kept_with;
 use crate::operands::{callee, operand};
-use lay_build_types::{BuildError, BuiltExpr, BuiltName, both, boxed, keep, kept, nodes, one};
-use lay_code::{Expr, Step};
+use lay_build_types::{BuildError, BuiltExpr, BuiltName, boxed, keep, nodes, one};
+use lay_code::{Expr, Name, Step};
 use lay_text::List;
 use std::alloc::Global;
 use std::mem;
@@ -21,8 +23,19 @@ pub fn expr_field(alloc: Global, base: BuiltExpr, field: BuiltName) -> Result<Bu
     ensures { Makes form_of_expr (node.expr_field base field) result }
 {
     let (name, _) = field.into_parts();
-    let (base, need) = operand(alloc, base)?;
-    kept(stepped(alloc, base, need, Step::Field { name }, 0))
+    let (mut base, need) = base.into_parts();
+    let need = add_field(alloc, &mut base, need, name);
+    kept_with(base, need)
+}
+
+/// Adds a field behind a base.
+fn add_field(alloc: Global, base: &mut Expr, need: u32, name: Name) -> Result<u32, BuildError>
+    requires need { need ≡ least_depth (form_of_expr base.old) }
+    requires within { need ≤ top }
+    ensures { Gives result (λ deep. WithNeed (node.expr_field base.old name) (base.new, deep)) }
+{
+    let need = operand(alloc, base, need)?;
+    stepped(alloc, base, need, Step::Field { name }, 0)
 }
 
 /// A call of a method: `a.b(c, d)`.
@@ -35,15 +48,32 @@ pub fn expr_method(
     ensures { Makes form_of_expr (node.expr_method base method args) result }
 {
     let (name, _) = method.into_parts();
-    let (base, args) = both(operand(alloc, base), nodes(alloc, args))?;
-    let (base, need) = base;
-    let (args, more) = args;
+    let (mut base, need) = base.into_parts();
+    let need = add_method(alloc, &mut base, need, name, args);
+    kept_with(base, need)
+}
+
+/// Adds a call of a method behind a base.
+fn add_method(
+    alloc: Global,
+    base: &mut Expr,
+    need: u32,
+    name: Name,
+    args: List<BuiltExpr>,
+) -> Result<u32, BuildError>
+    requires need { need ≡ least_depth (form_of_expr base.old) }
+    requires within { need ≤ top }
+    ensures step { Gives result (λ deep. WithNeed (node.expr_method base.old name args) (base.new, deep)) }
+    ensures kept { OnOk result (AllByRecursion (IsKept form_of_expr IsExpr) args) }
+{
+    let need = operand(alloc, base, need)?;
+    let (args, more) = nodes(alloc, args)?;
     let step = Step::Method {
         name,
         generics: None,
         args,
     };
-    kept(stepped(alloc, base, need, step, more))
+    stepped(alloc, base, need, step, more)
 }
 
 /// A call: `a(b, c)`. A base that ends in the name of a field is put in parentheses: `(a.b)(c)`.
@@ -54,35 +84,49 @@ pub fn expr_call(
 ) -> Result<BuiltExpr, BuildError>
     ensures { Makes form_of_expr (node.expr_call base args) result }
 {
-    let (base, args) = both(callee(alloc, base), nodes(alloc, args))?;
-    let (base, need) = base;
-    let (args, more) = args;
-    kept(stepped(alloc, base, need, Step::Apply { args }, more))
+    let (mut base, need) = base.into_parts();
+    let need = add_call(alloc, &mut base, need, args);
+    kept_with(base, need)
 }
 
-/// A step behind a base, and behind the steps that the base has.
+/// Adds a call behind a base.
+fn add_call(
+    alloc: Global,
+    base: &mut Expr,
+    need: u32,
+    args: List<BuiltExpr>,
+) -> Result<u32, BuildError>
+    requires need { need ≡ least_depth (form_of_expr base.old) }
+    requires within { need ≤ top }
+    ensures step { Gives result (λ deep. WithNeed (node.expr_call base.old args) (base.new, deep)) }
+    ensures kept { OnOk result (AllByRecursion (IsKept form_of_expr IsExpr) args) }
+{
+    let need = callee(alloc, base, need)?;
+    let (args, more) = nodes(alloc, args)?;
+    stepped(alloc, base, need, Step::Apply { args }, more)
+}
+
+/// Adds a step behind a base, and behind the steps that the base has, and answers the depth that this needs.
 fn stepped(
     alloc: Global,
-    base: Expr,
+    base: &mut Expr,
     need: u32,
     step: Step,
     more: u32,
-) -> Result<(Expr, u32), BuildError>
-    requires need { need ≡ least_depth (form_of_expr base) }
+) -> Result<u32, BuildError>
+    requires need { need ≡ least_depth (form_of_expr base.old) }
     requires low { need ≤ top + 1 }
     requires more { more ≡ least_depth (about_step step).form }
     requires little { more ≤ top }
-    ensures { Gives result (WithNeed (node.stepped base step)) }
+    ensures { Gives result (λ deep. WithNeed (node.stepped base.old step) (base.new, deep)) }
 {
-    let need = if has_steps(&base) {
+    let need = if has_steps(base) {
         need.max(more + 1)
     } else {
         need.max(more) + 1
     };
-    let mut base = base;
-    let added = add_step(alloc, &mut base, step);
-    let (base, _) = both(Ok(base), added)?;
-    Ok((base, need))
+    add_step(alloc, base, step)?;
+    Ok(need)
 }
 
 /// Whether a base has steps.
@@ -106,8 +150,9 @@ fn add_step(alloc: Global, base: &mut Expr, step: Step) -> Result<(), BuildError
 fn add_first_step(alloc: Global, base: &mut Expr, step: Step) -> Result<(), BuildError>
     ensures { Gives result (λ done. base.new ≡ variant.Postfix base.old (step ∷ [])) }
 {
+    let steps = one(alloc, step)?;
     let bare = mem::replace(base, Expr::Underscore);
-    let (inner, steps) = both(boxed(alloc, bare), one(alloc, step))?;
+    let inner = boxed(alloc, bare)?;
     *base = Expr::Postfix { base: inner, steps };
     Ok(())
 }

@@ -7,7 +7,7 @@ ghost use Rattle.lay_build_exprs.specs.Nodes as node;
 
 use crate::kinds::{BuiltField, NamedExpr};
 use lay_build_types::{
-    BuildError, BuiltExpr, BuiltName, Turns, both, boxed, kept, nodes, path, turn_all,
+    BuildError, BuiltExpr, BuiltName, Turns, boxed, kept, nodes, path, turn_all,
 };
 use lay_code::{Args, Expr, FieldExpr, Name};
 use lay_text::List;
@@ -32,9 +32,8 @@ pub fn expr_struct(
     ensures { Makes form_of_expr (node.expr_struct first rest fields) result }
 {
     let (first, _) = first.into_parts();
-    let (rest, fields) = both(nodes(alloc, rest), nodes(alloc, fields))?;
-    let (rest, _) = rest;
-    let (fields, need) = fields;
+    let (rest, _) = nodes(alloc, rest)?;
+    let (fields, need) = nodes(alloc, fields)?;
     kept(struct_of(alloc, first, rest, fields, need))
 }
 
@@ -48,10 +47,8 @@ fn struct_of(
 ) -> Result<(Expr, u32), BuildError>
     ensures { Gives result (λ part. part ≡ (node.expr_struct first rest fields, max need 1)) }
 {
-    let (path, fields) = both(
-        path(alloc, first, rest, Args::None),
-        turn_all(alloc, fields),
-    )?;
+    let fields = turn_all(alloc, fields)?;
+    let path = path(alloc, first, rest, Args::None)?;
     let expr = Expr::Struct {
         path,
         fields,

@@ -5,8 +5,8 @@ use Rattle.lay_build_types.specs.Nodes as names
 use Rattle.lay_build_exprs.proofs.LeafLemmas.{path_part}
 use Rattle.lay_build_exprs.proofs.leaves.expr_path.Goals as goal
 
-pub leaf-requires : goal.leaf-requires
-leaf-requires c =
+pub kept_with-requires : goal.kept_with-requires
+kept_with-requires c =
     let first = c.args.first in
     let rest = c.in_ok-rest.ensures in
     let same =

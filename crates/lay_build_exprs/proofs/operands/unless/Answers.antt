@@ -1,11 +1,20 @@
-use Rattle.std.proofs.Common.{Bool, sym, subst}
-use Rattle.lay_build_types.specs.Answers.{Gives}
+use Rattle.std.proofs.Common.{Bool, ℕ, ◌+◌, refl, sym, subst}
+use Rattle.lay_code.specs.declared.exprs.Expr.{Expr}
 use Rattle.lay_build_exprs.specs.Nodes as node
 use Rattle.lay_build_exprs.specs.Parts.{WithNeed}
-use Rattle.lay_build_exprs.proofs.PartLemmas.{paren_part}
+use Rattle.lay_build_exprs.proofs.PartLemmas.{paren_with, with_need}
 use Rattle.lay_build_exprs.proofs.operands.unless.Goals as goal
 
-pub returns-clause-part : goal.returns-clause-part
-returns-clause-part c =
-    subst (λ (b : Bool). Gives c.in_parens.result (WithNeed (node.unless b c.args.built))) (sym c.if-stands.false)
-    (paren_part c.args.built c.into_parts-expr.result c.in_parens.result c.into_parts-expr.ensures.parts c.in_parens.ensures)
+pub returns-then-stands : goal.returns-then-stands
+returns-then-stands c =
+    let x = c.args.expr.now in
+    let need = c.args.need in
+    subst (λ (b : Bool). WithNeed (node.unless b x) (x, need)) (sym c.if-stands.true) (with_need x x need refl c.requires.need)
+
+pub returns : goal.returns
+returns c =
+    let x = c.args.expr.now in
+    let y = c.put_in_parens.new.expr in
+    let need = c.args.need + 1 in
+    subst (λ (b : Bool). WithNeed (node.unless b x) (y, need)) (sym c.if-stands.false)
+    (paren_with x y c.args.need c.in_ok-put_in_parens.ensures c.requires.need)

@@ -1,41 +1,36 @@
-use Rattle.std.proofs.Common.{◌∙◌, ℕ, List, sym, ap, subst, arith}
+use Rattle.std.proofs.Common.{ℕ, ap, subst, arith}
 use Rattle.lay_code.specs.declared.exprs.Expr.{Expr}
-use Rattle.lay_code.specs.declared.exprs.Step.TheVariants as step
-use Rattle.lay_depth.specs.nodes.Depths.{greatest}
-use Rattle.std.specs.Prelude.{map}
-use Rattle.lay_build_types.specs.Answers.{AreParts, Gives}
-use Rattle.lay_build_types.specs.Kinds.{IsExpr, form_of_expr}
+use Rattle.lay_build_types.specs.Answers.{Gives}
 use Rattle.lay_build_exprs.specs.Nodes as node
 use Rattle.lay_build_exprs.specs.Parts.{WithNeed}
-use Rattle.lay_build_exprs.proofs.JoinLemmas.{both_parts}
-use Rattle.lay_build_exprs.proofs.PartLemmas.{callee_within, part_with}
-use Rattle.lay_build_exprs.proofs.StepLemmas.{call_depth, expr_call_made}
+use Rattle.lay_build_exprs.proofs.PartLemmas.{on_ok, kept_makes, kept_part, need_of}
+use Rattle.lay_build_exprs.proofs.StepLemmas.{expr_call_made}
 use Rattle.lay_build_exprs.proofs.steps.expr_call.Goals as goal
 
-pub stepped-requires-clause-low : goal.stepped-requires-clause-low
-stepped-requires-clause-low c =
-    let two =
-    both_parts (WithNeed (node.callee c.args.base)) (AreParts form_of_expr IsExpr c.args.args) c.callee.result c.nodes.result c.in_ok-base.base c.in_ok-base.args
-    c.callee.ensures.part c.nodes.ensures c.in_ok-base.ensures in
-    let n = ap (λ (p : Expr × ℕ). p.1) two.0 in
-    let within = callee_within c.args.base c.callee.ensures.kept in omega (arith, n, within)
+pub add_call-need-requires-clause-need : goal.add_call-need-requires-clause-need
+add_call-need-requires-clause-need c =
+    need_of c.args.base c.into_parts-base.result c.into_parts-base.ensures.parts
 
-pub stepped-requires-clause-more : goal.stepped-requires-clause-more
-stepped-requires-clause-more c =
-    let two =
-    both_parts (WithNeed (node.callee c.args.base)) (AreParts form_of_expr IsExpr c.args.args) c.callee.result c.nodes.result c.in_ok-base.base c.in_ok-base.args
-    c.callee.ensures.part c.nodes.ensures c.in_ok-base.ensures in
-    two.1.need ∙ ap (λ (xs : List Expr). greatest (map form_of_expr xs)) (sym two.1.same) ∙ sym (call_depth c.in_ok-base.args.0)
+pub add_call-need-requires-clause-within : goal.add_call-need-requires-clause-within
+add_call-need-requires-clause-within c =
+    let n = ap (λ (p : Expr × ℕ). p.1) c.into_parts-base.ensures.parts in
+    let within = c.into_parts-base.ensures.kept.within in omega (arith, n, within)
 
-pub kept-requires : goal.kept-requires
-kept-requires c =
+pub kept_with-requires : goal.kept_with-requires
+kept_with-requires c =
     let base = c.args.base in
-    let x = node.callee base in
-    let stepped = c.stepped.result in
-    let two =
-    both_parts (WithNeed (node.callee c.args.base)) (AreParts form_of_expr IsExpr c.args.args) c.callee.result c.nodes.result c.in_ok-base.base c.in_ok-base.args
-    c.callee.ensures.part c.nodes.ensures c.in_ok-base.ensures in
+    let y = c.add_call-need.new.base in
+    let need = c.add_call-need.result in
     let told =
-    subst (λ (p : Expr × ℕ). Gives stepped (WithNeed (node.stepped p.0 (step.Apply c.in_ok-base.args.0)))) two.0 c.stepped.ensures in
-    let with_args = subst (λ (xs : List Expr). Gives stepped (WithNeed (node.stepped x (step.Apply xs)))) two.1.same told in
-    part_with (node.expr_call base c.args.args) stepped with_args (expr_call_made base c.callee.ensures.kept c.args.args two.1.kept)
+    subst (λ (p : Expr × ℕ). Gives need (λ n. WithNeed (node.expr_call p.0 c.args.args) (y, n))) c.into_parts-base.ensures.parts c.add_call-need.ensures.step in
+    kept_part (node.expr_call base c.args.args) y need told
+    (on_ok need (expr_call_made base c.into_parts-base.ensures.kept c.args.args) c.add_call-need.ensures.kept)
+
+pub returns : goal.returns
+returns c =
+    let base = c.args.base in
+    let y = c.add_call-need.new.base in
+    let need = c.add_call-need.result in
+    let told =
+    subst (λ (p : Expr × ℕ). Gives need (λ n. WithNeed (node.expr_call p.0 c.args.args) (y, n))) c.into_parts-base.ensures.parts c.add_call-need.ensures.step in
+    kept_makes (node.expr_call base c.args.args) y need c.kept_with.result told c.kept_with.ensures

@@ -1,47 +1,39 @@
-use Rattle.std.proofs.Common.{◌∙◌, ℕ, List, None, sym, ap, subst, arith}
+use Rattle.std.proofs.Common.{ℕ, ap, subst, arith}
 use Rattle.lay_node.specs.declared.token.Name.{Name}
 use Rattle.lay_code.specs.declared.exprs.Expr.{Expr}
-use Rattle.lay_code.specs.declared.exprs.Step.TheVariants as step
-use Rattle.lay_depth.specs.nodes.Depths.{greatest}
-use Rattle.std.specs.Prelude.{map}
-use Rattle.lay_build_types.specs.Answers.{AreParts, Gives}
-use Rattle.lay_build_types.specs.Kinds.{IsExpr, form_of_expr}
+use Rattle.lay_build_types.specs.Answers.{Gives}
 use Rattle.lay_build_exprs.specs.Nodes as node
 use Rattle.lay_build_exprs.specs.Parts.{WithNeed}
-use Rattle.lay_build_exprs.proofs.JoinLemmas.{both_parts}
-use Rattle.lay_build_exprs.proofs.PartLemmas.{operand_within, part_with}
-use Rattle.lay_build_exprs.proofs.StepLemmas.{method_depth, expr_method_made}
+use Rattle.lay_build_exprs.proofs.PartLemmas.{on_ok, kept_makes, kept_part, need_of}
+use Rattle.lay_build_exprs.proofs.StepLemmas.{expr_method_made}
 use Rattle.lay_build_exprs.proofs.steps.expr_method.Goals as goal
 
-pub stepped-requires-clause-low : goal.stepped-requires-clause-low
-stepped-requires-clause-low c =
-    let two =
-    both_parts (WithNeed (node.operand c.args.base)) (AreParts form_of_expr IsExpr c.args.args) c.operand.result c.nodes.result c.in_ok-base.base c.in_ok-base.args
-    c.operand.ensures.part c.nodes.ensures c.in_ok-base.ensures in
-    let n = ap (λ (p : Expr × ℕ). p.1) two.0 in
-    let within = operand_within c.args.base c.operand.ensures.kept in omega (arith, n, within)
+pub add_method-need-requires-clause-need : goal.add_method-need-requires-clause-need
+add_method-need-requires-clause-need c =
+    need_of c.args.base c.into_parts-base.result c.into_parts-base.ensures.parts
 
-pub stepped-requires-clause-more : goal.stepped-requires-clause-more
-stepped-requires-clause-more c =
-    let two =
-    both_parts (WithNeed (node.operand c.args.base)) (AreParts form_of_expr IsExpr c.args.args) c.operand.result c.nodes.result c.in_ok-base.base c.in_ok-base.args
-    c.operand.ensures.part c.nodes.ensures c.in_ok-base.ensures in
-    two.1.need ∙ ap (λ (xs : List Expr). greatest (map form_of_expr xs)) (sym two.1.same) ∙ sym (method_depth c.into_parts-name.result.0 c.in_ok-base.args.0)
+pub add_method-need-requires-clause-within : goal.add_method-need-requires-clause-within
+add_method-need-requires-clause-within c =
+    let n = ap (λ (p : Expr × ℕ). p.1) c.into_parts-base.ensures.parts in
+    let within = c.into_parts-base.ensures.kept.within in omega (arith, n, within)
 
-pub kept-requires : goal.kept-requires
-kept-requires c =
+pub kept_with-requires : goal.kept_with-requires
+kept_with-requires c =
     let base = c.args.base in
-    let x = node.operand base in
-    let stepped = c.stepped.result in
-    let two =
-    both_parts (WithNeed (node.operand c.args.base)) (AreParts form_of_expr IsExpr c.args.args) c.operand.result c.nodes.result c.in_ok-base.base c.in_ok-base.args
-    c.operand.ensures.part c.nodes.ensures c.in_ok-base.ensures in
-    let name = c.args.method in
+    let y = c.add_method-need.new.base in
+    let need = c.add_method-need.result in
     let told =
-    subst (λ (p : Expr × ℕ). Gives stepped (WithNeed (node.stepped p.0 (step.Method c.into_parts-name.result.0 None c.in_ok-base.args.0)))) two.0
-    c.stepped.ensures in
-    let named =
-    subst (λ (p : Name × ℕ). Gives stepped (WithNeed (node.stepped x (step.Method p.0 None c.in_ok-base.args.0)))) c.into_parts-name.ensures.parts told in
-    let with_args = subst (λ (xs : List Expr). Gives stepped (WithNeed (node.stepped x (step.Method name None xs)))) two.1.same named in
-    part_with (node.expr_method base name c.args.args) stepped with_args
-    (expr_method_made base c.operand.ensures.kept name c.args.args c.into_parts-name.ensures.kept two.1.kept)
+    subst (λ (p : Expr × ℕ). Gives need (λ n. WithNeed (node.expr_method p.0 c.into_parts-name.result.0 c.args.args) (y, n))) c.into_parts-base.ensures.parts c.add_method-need.ensures.step in
+    let named = subst (λ (p : Name × ℕ). Gives need (λ n. WithNeed (node.expr_method base p.0 c.args.args) (y, n))) c.into_parts-name.ensures.parts told in
+    kept_part (node.expr_method base c.args.method c.args.args) y need named
+    (on_ok need (expr_method_made base c.into_parts-base.ensures.kept c.args.method c.args.args c.into_parts-name.ensures.kept) c.add_method-need.ensures.kept)
+
+pub returns : goal.returns
+returns c =
+    let base = c.args.base in
+    let y = c.add_method-need.new.base in
+    let need = c.add_method-need.result in
+    let told =
+    subst (λ (p : Expr × ℕ). Gives need (λ n. WithNeed (node.expr_method p.0 c.into_parts-name.result.0 c.args.args) (y, n))) c.into_parts-base.ensures.parts c.add_method-need.ensures.step in
+    let named = subst (λ (p : Name × ℕ). Gives need (λ n. WithNeed (node.expr_method base p.0 c.args.args) (y, n))) c.into_parts-name.ensures.parts told in
+    kept_makes (node.expr_method base c.args.method c.args.args) y need c.kept_with.result named c.kept_with.ensures

@@ -1,9 +1,7 @@
-use Rattle.std.proofs.Common.{◌≡◌, ◌∙◌, Ok, refl, sym, arith}
+use Rattle.std.proofs.Common.{◌≡◌, ◌∙◌, sym, arith}
 use Rattle.lay_form.specs.Depth.{least_depth}
-use Rattle.lay_code.specs.declared.exprs.Expr.{Expr}
 use Rattle.lay_build_types.specs.Kinds.{form_of_expr}
 use Rattle.lay_build_exprs.specs.Nodes as node
-use Rattle.lay_build_exprs.proofs.JoinLemmas.{both_parts}
 use Rattle.lay_build_exprs.proofs.PartLemmas.{with_need}
 use Rattle.lay_build_exprs.proofs.PostfixLemmas.{fresh_need, more_need}
 use Rattle.lay_build_exprs.proofs.steps.stepped.Goals as goal
@@ -11,12 +9,8 @@ use Rattle.lay_build_exprs.proofs.steps.stepped.Goals.{then-has_steps, else-has_
 
 pub returns : goal.returns
 returns c =
-    let x = c.args.base in
+    let x = c.args.base.now in
     let one = c.args.step in
-    let lent = c.add_step-added.new.base in
-    let two =
-    both_parts (λ (y : Expr). y ≡ lent) (λ done. lent ≡ node.stepped x one) (Ok lent) c.add_step-added.result c.in_ok-base.base c.in_ok-base.field-0-1 refl
-    c.add_step-added.ensures c.in_ok-base.ensures in
     let need = c.requires.need in
     let more = c.requires.more in
     let deep : c.if-has_steps.need ≡ least_depth (form_of_expr (node.stepped x one)) =
@@ -28,4 +22,4 @@ returns c =
           let depth = fresh_need x one (sym c.has_steps.ensures ∙ w.if-has_steps.false) in
           omega (arith, w.need-is, w.max.ensures, need, more, depth)
     ] in
-    with_need (node.stepped x one) c.in_ok-base.base c.if-has_steps.need (two.0 ∙ two.1) deep
+    with_need (node.stepped x one) c.add_step.new.base c.if-has_steps.need c.in_ok-add_step.ensures deep
