@@ -5,6 +5,7 @@
 //! `specs/Nodes` says which node each call makes of the nodes that it is handed, and `specs/Kinds` what is asked of a field of a
 //! struct literal. Operands and what an `if` tests are put in parentheses where they have to be.
 mod branches;
+mod keeping;
 pub mod kinds;
 mod laws;
 mod leaves;

@@ -1,4 +1,5 @@
-//! The crate's own sources.
+//! The crate's own sources. Each program of tests takes what it needs.
+#![allow(dead_code)]
 use std::fs;
 use std::path::Path;
 
@@ -26,7 +27,7 @@ fn add(folder: &Path, paths: &mut Vec<std::path::PathBuf>) {
         let path = entry.unwrap().path();
         if path.is_dir() {
             add(&path, paths);
-        } else if path.extension().is_some_and(|name| name == "rs") {
+        } else if path.extension().map_or(false, |name| name == "rs") {
             paths.push(path);
         }
     }

@@ -147,7 +147,9 @@ fn keep_access(file: &File, read: &Metadata) -> io::Result<()> {
     file.set_permissions(read.permissions())
 }
 
+// build.rs tells whether the compiler's library has it.
 #[cfg(all(unix, fchown))]
+#[allow(clippy::incompatible_msrv)]
 fn give(file: &File, owner: u32, group: u32) -> io::Result<()> {
     std::os::unix::fs::fchown(file, Some(owner), Some(group))
 }

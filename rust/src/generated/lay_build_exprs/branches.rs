@@ -1,20 +1,20 @@
 //! Made by scripts/rust.sh from crates/lay_build_exprs/src/branches.rt, which is proved: change that.
 //!
-//! Branches.
+//! Branches. What is tested is lent, and becomes the expression that has the branches.
+use crate::generated::lay_build_exprs::keeping::kept_with;
 use crate::generated::lay_build_exprs::operands;
 use crate::generated::lay_build_types::{
     BuildError,
     BuiltBlock,
     BuiltExpr,
-    both,
     boxed,
-    kept,
     one,
     part_or_none,
 };
 use crate::generated::lay_code::{Block, Branch, Condition, Expr, Link};
 use crate::generated::lay_text::List;
 use crate::shims::Global;
+use core::mem;
 /// A branch: `if a { b }`, or with the block behind `else`, `if a { b } else { c }`.
 pub fn expr_if(
     alloc: Global,
@@ -22,31 +22,42 @@ pub fn expr_if(
     then: BuiltBlock,
     other: Option<BuiltBlock>,
 ) -> Result<BuiltExpr, BuildError> {
-    let (test, blocks) = both(operands::test(alloc, test), Ok((then, other)))?;
-    let (test, need) = test;
-    let (then, other) = blocks;
+    let (mut test, need) = test.into_parts();
     let (body, more) = then.into_parts();
     let (otherwise, most) = part_or_none(other);
-    let need = (need + 1).max(more).max(most);
-    kept(one_branch(alloc, test, body, otherwise, need))
+    let need = add_blocks(alloc, &mut test, need, body, otherwise, more.max(most));
+    kept_with(test, need)
 }
-/// A branch that needs this depth.
-fn one_branch(
+/// Adds its blocks, of which the deeper needs this depth, behind what is tested.
+fn add_blocks(
     alloc: Global,
-    test: Expr,
+    test: &mut Expr,
+    need: u32,
     body: Block,
     otherwise: Option<Block>,
-    need: u32,
-) -> Result<(Expr, u32), BuildError> {
-    let (links, blocks) = both(links(alloc, test), Ok((body, otherwise)))?;
-    let (body, otherwise) = blocks;
-    let branch = Branch { condition: Condition { links }, body };
-    let (branches, otherwise) = both(one(alloc, branch), Ok(otherwise))?;
-    let expr = Expr::If { branches, otherwise };
-    Ok((expr, need))
+    blocks: u32,
+) -> Result<u32, BuildError> {
+    let need = operands::test(alloc, test, need)?;
+    one_branch(alloc, test, body, otherwise)?;
+    let need = (need + 1).max(blocks);
+    Ok(need)
 }
-/// The links of a condition that is one expression.
-fn links(alloc: Global, test: Expr) -> Result<List<Link>, BuildError> {
-    let expr = boxed(alloc, test)?;
+/// Makes a branch of a test, which stands so.
+fn one_branch(
+    alloc: Global,
+    test: &mut Expr,
+    body: Block,
+    otherwise: Option<Block>,
+) -> Result<(), BuildError> {
+    let links = links(alloc, test)?;
+    let branch = Branch { condition: Condition { links }, body };
+    let branches = one(alloc, branch)?;
+    *test = Expr::If { branches, otherwise };
+    Ok(())
+}
+/// The links of a condition that is one expression, which is taken.
+fn links(alloc: Global, test: &mut Expr) -> Result<List<Link>, BuildError> {
+    let bare = mem::replace(test, Expr::Underscore);
+    let expr = boxed(alloc, bare)?;
     one(alloc, Link::Expr { expr })
 }

@@ -1,12 +1,12 @@
 //! Made by scripts/rust.sh from crates/lay_build_exprs/src/leaves.rt, which is proved: change that.
 //!
 //! Literals and paths.
+use crate::generated::lay_build_exprs::keeping::kept_with;
 use crate::shims::Buffer;
 use crate::generated::lay_build_types::{
     BuildError,
     BuiltExpr,
     BuiltName,
-    kept,
     nodes,
     path,
     string_literal,
@@ -16,10 +16,14 @@ use crate::generated::lay_piece::Kind;
 use crate::generated::lay_text::{List, NoMemory, Text};
 use crate::shims::Global;
 use core::str;
+/// The depth that an expression needs that has no other in it.
+const LEAF: u32 = 1;
 /// The integer literal of a number, in decimal digits and without a suffix.
 pub fn expr_int(alloc: Global, value: u128) -> Result<BuiltExpr, BuildError> {
     match Text::from_bytes(alloc, Buffer::new().format(value).as_bytes()) {
-        Ok(text) => leaf(Expr::Lit { literal: Literal { kind: Kind::Int, text } }),
+        Ok(text) => {
+            kept_with(Expr::Lit { literal: Literal { kind: Kind::Int, text } }, Ok(LEAF))
+        }
         Err(NoMemory) => Err(BuildError::NoMemory),
     }
 }
@@ -29,7 +33,7 @@ pub fn expr_str(alloc: Global, text: &[u8]) -> Result<BuiltExpr, BuildError> {
         return Err(BuildError::BadText);
     }
     let text = string_literal(alloc, text)?;
-    leaf(Expr::Lit { literal: Literal { kind: Kind::Str, text } })
+    kept_with(Expr::Lit { literal: Literal { kind: Kind::Str, text } }, Ok(LEAF))
 }
 /// Whether bytes are UTF-8.
 fn is_text(bytes: &[u8]) -> bool {
@@ -44,9 +48,5 @@ pub fn expr_path(
     let (first, _) = first.into_parts();
     let (rest, _) = nodes(alloc, rest)?;
     let path = path(alloc, first, rest, Args::None)?;
-    leaf(Expr::Path { path })
-}
-/// An expression with nothing in it that needs depth.
-fn leaf(expr: Expr) -> Result<BuiltExpr, BuildError> {
-    kept(Ok((expr, 1)))
+    kept_with(Expr::Path { path }, Ok(LEAF))
 }

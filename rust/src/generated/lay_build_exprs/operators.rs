@@ -1,11 +1,12 @@
 //! Made by scripts/rust.sh from crates/lay_build_exprs/src/operators.rt, which is proved: change that.
 //!
-//! Operators.
+//! Operators. The left operand is lent, and becomes the expression that has the operator.
+use crate::generated::lay_build_exprs::keeping::kept_with;
 use crate::generated::lay_build_exprs::operands::operand;
-use crate::generated::lay_build_types::{BuildError, BuiltExpr, both, boxed, kept, one};
+use crate::generated::lay_build_types::{BuildError, BuiltExpr, boxed, one};
 use crate::generated::lay_code::{Boxed, Expr, Op};
-use crate::generated::lay_text::List;
 use crate::shims::Global;
+use core::mem;
 /// An operator between two operands: `a + b`. It is none that assigns and no range's.
 pub fn expr_binary(
     alloc: Global,
@@ -13,28 +14,39 @@ pub fn expr_binary(
     left: BuiltExpr,
     right: BuiltExpr,
 ) -> Result<BuiltExpr, BuildError> {
-    let (left, right) = both(operand(alloc, left), operand(alloc, right))?;
-    let (left, need) = left;
-    let (right, more) = right;
-    kept(chain(alloc, op, left, right, need.max(more)))
+    let (mut left, need) = left.into_parts();
+    let (right, more) = right.into_parts();
+    let need = add_operand(alloc, &mut left, need, op, right, more);
+    kept_with(left, need)
 }
-/// An operator between two operands, of which the deeper needs this depth.
+/// Adds an operator and the operand behind it to the one before it.
+fn add_operand(
+    alloc: Global,
+    left: &mut Expr,
+    need: u32,
+    op: Op,
+    right: Expr,
+    more: u32,
+) -> Result<u32, BuildError> {
+    let mut right = right;
+    let more = operand(alloc, &mut right, more);
+    let right = boxed(alloc, right)?;
+    let more = more?;
+    let need = operand(alloc, left, need)?;
+    chain(alloc, left, op, right)?;
+    let need = need.max(more) + 1;
+    Ok(need)
+}
+/// Adds an operator and what stands behind it, in parentheses where it has to be.
 fn chain(
     alloc: Global,
+    left: &mut Expr,
     op: Op,
-    left: Expr,
-    right: Expr,
-    need: u32,
-) -> Result<(Expr, u32), BuildError> {
-    let (first, rest) = both(boxed(alloc, left), operand_behind(alloc, op, right))?;
-    Ok((Expr::Chain { first, rest }, need + 1))
-}
-/// The operand behind an operator, alone.
-fn operand_behind(
-    alloc: Global,
-    op: Op,
-    right: Expr,
-) -> Result<List<(Op, Boxed<Expr>)>, BuildError> {
-    let right = boxed(alloc, right)?;
-    one(alloc, (op, right))
+    right: Boxed<Expr>,
+) -> Result<(), BuildError> {
+    let rest = one(alloc, (op, right))?;
+    let bare = mem::replace(left, Expr::Underscore);
+    let first = boxed(alloc, bare)?;
+    *left = Expr::Chain { first, rest };
+    Ok(())
 }

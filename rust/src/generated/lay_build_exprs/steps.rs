@@ -1,19 +1,18 @@
 //! Made by scripts/rust.sh from crates/lay_build_exprs/src/steps.rt, which is proved: change that.
 //!
-//! Fields, methods and calls.
+//! Fields, methods and calls. A base is lent with the depth that it needs, and becomes the expression that has the step.
+use crate::generated::lay_build_exprs::keeping::kept_with;
 use crate::generated::lay_build_exprs::operands::{callee, operand};
 use crate::generated::lay_build_types::{
     BuildError,
     BuiltExpr,
     BuiltName,
-    both,
     boxed,
     keep,
-    kept,
     nodes,
     one,
 };
-use crate::generated::lay_code::{Expr, Step};
+use crate::generated::lay_code::{Expr, Name, Step};
 use crate::generated::lay_text::List;
 use crate::shims::Global;
 use core::mem;
@@ -24,8 +23,19 @@ pub fn expr_field(
     field: BuiltName,
 ) -> Result<BuiltExpr, BuildError> {
     let (name, _) = field.into_parts();
-    let (base, need) = operand(alloc, base)?;
-    kept(stepped(alloc, base, need, Step::Field { name }, 0))
+    let (mut base, need) = base.into_parts();
+    let need = add_field(alloc, &mut base, need, name);
+    kept_with(base, need)
+}
+/// Adds a field behind a base.
+fn add_field(
+    alloc: Global,
+    base: &mut Expr,
+    need: u32,
+    name: Name,
+) -> Result<u32, BuildError> {
+    let need = operand(alloc, base, need)?;
+    stepped(alloc, base, need, Step::Field { name }, 0)
 }
 /// A call of a method: `a.b(c, d)`.
 pub fn expr_method(
@@ -35,11 +45,22 @@ pub fn expr_method(
     args: List<BuiltExpr>,
 ) -> Result<BuiltExpr, BuildError> {
     let (name, _) = method.into_parts();
-    let (base, args) = both(operand(alloc, base), nodes(alloc, args))?;
-    let (base, need) = base;
-    let (args, more) = args;
+    let (mut base, need) = base.into_parts();
+    let need = add_method(alloc, &mut base, need, name, args);
+    kept_with(base, need)
+}
+/// Adds a call of a method behind a base.
+fn add_method(
+    alloc: Global,
+    base: &mut Expr,
+    need: u32,
+    name: Name,
+    args: List<BuiltExpr>,
+) -> Result<u32, BuildError> {
+    let need = operand(alloc, base, need)?;
+    let (args, more) = nodes(alloc, args)?;
     let step = Step::Method { name, generics: None, args };
-    kept(stepped(alloc, base, need, step, more))
+    stepped(alloc, base, need, step, more)
 }
 /// A call: `a(b, c)`. A base that ends in the name of a field is put in parentheses: `(a.b)(c)`.
 pub fn expr_call(
@@ -47,24 +68,32 @@ pub fn expr_call(
     base: BuiltExpr,
     args: List<BuiltExpr>,
 ) -> Result<BuiltExpr, BuildError> {
-    let (base, args) = both(callee(alloc, base), nodes(alloc, args))?;
-    let (base, need) = base;
-    let (args, more) = args;
-    kept(stepped(alloc, base, need, Step::Apply { args }, more))
+    let (mut base, need) = base.into_parts();
+    let need = add_call(alloc, &mut base, need, args);
+    kept_with(base, need)
 }
-/// A step behind a base, and behind the steps that the base has.
+/// Adds a call behind a base.
+fn add_call(
+    alloc: Global,
+    base: &mut Expr,
+    need: u32,
+    args: List<BuiltExpr>,
+) -> Result<u32, BuildError> {
+    let need = callee(alloc, base, need)?;
+    let (args, more) = nodes(alloc, args)?;
+    stepped(alloc, base, need, Step::Apply { args }, more)
+}
+/// Adds a step behind a base, and behind the steps that the base has, and answers the depth that this needs.
 fn stepped(
     alloc: Global,
-    base: Expr,
+    base: &mut Expr,
     need: u32,
     step: Step,
     more: u32,
-) -> Result<(Expr, u32), BuildError> {
-    let need = if has_steps(&base) { need.max(more + 1) } else { need.max(more) + 1 };
-    let mut base = base;
-    let added = add_step(alloc, &mut base, step);
-    let (base, _) = both(Ok(base), added)?;
-    Ok((base, need))
+) -> Result<u32, BuildError> {
+    let need = if has_steps(base) { need.max(more + 1) } else { need.max(more) + 1 };
+    add_step(alloc, base, step)?;
+    Ok(need)
 }
 /// Whether a base has steps.
 fn has_steps(base: &Expr) -> bool {
@@ -79,8 +108,9 @@ fn add_step(alloc: Global, base: &mut Expr, step: Step) -> Result<(), BuildError
 }
 /// Adds a step behind a base that has none.
 fn add_first_step(alloc: Global, base: &mut Expr, step: Step) -> Result<(), BuildError> {
+    let steps = one(alloc, step)?;
     let bare = mem::replace(base, Expr::Underscore);
-    let (inner, steps) = both(boxed(alloc, bare), one(alloc, step))?;
+    let inner = boxed(alloc, bare)?;
     *base = Expr::Postfix { base: inner, steps };
     Ok(())
 }

@@ -7,7 +7,6 @@ use crate::generated::lay_build_types::{
     BuiltExpr,
     BuiltName,
     Turns,
-    both,
     boxed,
     kept,
     nodes,
@@ -31,9 +30,8 @@ pub fn expr_struct(
     fields: List<BuiltField>,
 ) -> Result<BuiltExpr, BuildError> {
     let (first, _) = first.into_parts();
-    let (rest, fields) = both(nodes(alloc, rest), nodes(alloc, fields))?;
-    let (rest, _) = rest;
-    let (fields, need) = fields;
+    let (rest, _) = nodes(alloc, rest)?;
+    let (fields, need) = nodes(alloc, fields)?;
     kept(struct_of(alloc, first, rest, fields, need))
 }
 /// A struct literal, of whose fields the deepest needs this depth by itself.
@@ -44,10 +42,8 @@ fn struct_of(
     fields: List<NamedExpr>,
     need: u32,
 ) -> Result<(Expr, u32), BuildError> {
-    let (path, fields) = both(
-        path(alloc, first, rest, Args::None),
-        turn_all(alloc, fields),
-    )?;
+    let fields = turn_all(alloc, fields)?;
+    let path = path(alloc, first, rest, Args::None)?;
     let expr = Expr::Struct { path, fields, base: None };
     Ok((expr, need.max(1)))
 }

@@ -1,4 +1,4 @@
-//! Made by scripts/rust.sh from crates/lay_map/src/units.rt, which is proved: change that.
+//! Made by scripts/rust.sh from crates/lay_map/src/spelling.rt, which is proved: change that.
 //!
 //! The units of a spelling: what the map from output to source pairs.
 //!
