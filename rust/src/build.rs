@@ -1,6 +1,6 @@
 //! Calls that build files: each makes one node of a syntax tree, and a call that would make a node
 //! which no source parses to refuses. So a generator puts no text together, and
-//! [`unparse`](crate::unparse) prints every file that [`file`] makes.
+//! [`unparse`](crate::unparse) prints every file that [`file`](file()) makes.
 //!
 //! ```
 //! use froesaffron::build::*;

@@ -70,8 +70,11 @@ fn a_source_is_refused_though_memory_to_look_further_is_wanting() {
 #[test]
 fn each_refused_request_of_an_edit_changes_nothing() {
     let text = format(SOURCE).unwrap();
-    let edits: [fn(&mut Items) -> Result<(), EditError>; 2] =
-        [|items| items.insert(1, "struct A { a: Vec<u8> }"), |items| items.replace(1, "struct A { a: Vec<u8> }")];
+    type Edit = fn(&mut Items) -> Result<(), EditError>;
+    let edits: [Edit; 2] = [
+        |items| items.insert(1, "struct A { a: Vec<u8> }"),
+        |items| items.replace(1, "struct A { a: Vec<u8> }"),
+    ];
     for edit in edits {
         let mut items = Items::new(SOURCE).unwrap();
         let mut granted = 0;
