@@ -176,7 +176,11 @@ impl fmt::Display for EditError {
     }
 }
 
+#[cfg(core_error)]
 impl core::error::Error for EditError {}
+
+#[cfg(all(feature = "std", not(core_error)))]
+impl std::error::Error for EditError {}
 
 /// The error of a refusal of a text.
 fn refused(text: &str, refusal: Refusal) -> Error {

@@ -3,6 +3,7 @@ use Rattle.std.proofs.lemmas.Slice.Zip.{zip_turn}
 use Rattle.lay_paren_defs.specs.Enclosed.{enclose_field, enclose_link, enclose_step, enclose_stmt}
 use Rattle.lay_paren_defs.proofs.KeptLemmas.{body_enclosed, body_whole}
 use Rattle.lay_paren_defs.proofs.ShellLemmas.{shell_arm_is, shell_block_is, shell_branch_is, shell_condition_is, shell_field_is, shell_is, shell_item_is, shell_kind_is, shell_link_is, shell_step_is, shell_stmt_is}
+use Rattle.lay_tree.proofs.ListLemmas.{apply_whole, array_whole, assign_other, assign_whole, chain_whole, method_whole, tuple_whole}
 use Rattle.lay_tree.proofs.PartLemmas.{part_other, part_whole, part_within, told, was, was_not}
 use Rattle.lay_tree.proofs.StmtLemmas.{stmt_whole}
 use Rattle.lay_tree.proofs.TurnLemmas.{turn_more, turn_stops}
@@ -130,3 +131,41 @@ same_stmt-returns-then-ended-other_ended g t c =
     c.in-Expr-other.other_expr c.in-Expr.ended c.in-Expr-other.other_ended c.same_whole.result c.in-Expr.is c.in-Expr-other.is
     (elim c.if-same-4.branch [ same_stmt-then-same-4 w ↦ (search rules, search rules) | same_stmt-else-same-4 w ↦ search rules ])
     (told (shell_is g.X.Enclose.on c.in-Expr.expr) (search rules))
+
+-- ---- nodes with lists of parts
+
+pub same_whole-returns-in-Tuple-other : goal.same_whole-returns-in-Tuple-other
+same_whole-returns-in-Tuple-other g t c =
+    tuple_whole g.X.Enclose.on c.args.expr.now c.args.other.now c.in-Tuple.elements c.in-Tuple-other.given c.same_parts.result
+    c.in-Tuple.is c.in-Tuple-other.is (search rules)
+
+pub same_whole-returns-in-Array-other : goal.same_whole-returns-in-Array-other
+same_whole-returns-in-Array-other g t c =
+    array_whole g.X.Enclose.on c.args.expr.now c.args.other.now c.in-Array.elements c.in-Array-other.given c.same_parts-in-Array-other.result
+    c.in-Array.is c.in-Array-other.is (search rules)
+
+pub same_whole-returns-then-same_part-2 : goal.same_whole-returns-then-same_part-2
+same_whole-returns-then-same_part-2 g t c =
+    chain_whole g.X.Enclose.on c.args.expr.now c.args.other.now c.in-Chain.first c.in-Chain-other.other_first c.in-Chain.rest
+    c.in-Chain-other.other_rest c.same_operands.result c.in-Chain.is c.in-Chain-other.is (search rules) (search rules)
+
+pub same_whole-returns-then-same_targets : goal.same_whole-returns-then-same_targets
+same_whole-returns-then-same_targets g t c =
+    assign_whole g.X.Enclose.on c.args.expr.now c.args.other.now c.in-Assign.value c.in-Assign-other.other_value c.in-Assign.targets
+    c.in-Assign-other.other_targets c.same_part-then-same_targets.result c.in-Assign.is c.in-Assign-other.is (search rules) (search rules)
+
+pub same_whole-returns-else-same_targets : goal.same_whole-returns-else-same_targets
+same_whole-returns-else-same_targets g t c =
+    assign_other g.X.Enclose.on c.args.expr.now c.args.other.now c.in-Assign.value c.in-Assign-other.other_value c.in-Assign.targets
+    c.in-Assign-other.other_targets c.same_targets.result c.in-Assign.is c.in-Assign-other.is c.if-same_targets.false (search rules)
+
+pub same_step-returns-then-same-2 : goal.same_step-returns-then-same-2
+same_step-returns-then-same-2 g t c =
+    method_whole g.X.Enclose.on c.args.step.now c.args.other.now c.in-Method.name c.in-Method-other.other_name c.in-Method.generics
+    c.in-Method-other.other_generics c.in-Method.args c.in-Method-other.other_args c.same_parts.result c.in-Method.is c.in-Method-other.is
+    (search rules) (search rules) (search rules)
+
+pub same_step-returns-in-Apply-other : goal.same_step-returns-in-Apply-other
+same_step-returns-in-Apply-other g t c =
+    apply_whole g.X.Enclose.on c.args.step.now c.args.other.now c.in-Apply.args c.in-Apply-other.given c.same_parts-in-Apply-other.result
+    c.in-Apply.is c.in-Apply-other.is (search rules)
