@@ -58,7 +58,6 @@ pub mod raw {
         BuiltBlock, BuiltExpr, BuiltField, BuiltItem, BuiltName, BuiltParam, BuiltStmt, BuiltType,
         File, List, NamedExpr, NamedType, NoMemory, Op,
     };
-    pub use crate::generated::lay_files::read_bytes;
     pub use crate::shims::Global;
 }
 

@@ -1,5 +1,4 @@
 //! Trees as values: they are cloned, compared and shown.
-use froesaffron::build::raw::read_bytes;
 use froesaffron::build::*;
 use froesaffron::tree::*;
 use froesaffron::{unparse, Cause};
@@ -7,7 +6,7 @@ use std::fmt::Debug;
 
 /// The tree of a source.
 fn read(source: &str) -> File {
-    read_bytes(Global, source.as_bytes()).unwrap()
+    froesaffron::read(source).unwrap()
 }
 
 /// Asks whether each of these types is a value.
@@ -129,7 +128,10 @@ fn a_copy_that_is_changed_leaves_the_tree_as_it_was() {
 fn a_token_list_without_a_partner_is_not_written() {
     for kind in [Kind::Opener(Delim::Paren), Kind::Closer(Delim::Brace)] {
         let mut file = read("a!(b);");
-        let ItemKind::Call { call } = file.items.as_mut_slice()[0].kind.get_mut() else { panic!() };
+        let call = match file.items.as_mut_slice()[0].kind.get_mut() {
+            ItemKind::Call { call } => call,
+            _ => panic!("no macro call"),
+        };
         let mut tokens = List::new(Global);
         let text =
             Text::from_bytes(Global, if kind == Kind::Opener(Delim::Paren) { b"(" } else { b"}" })

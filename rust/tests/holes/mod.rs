@@ -1,14 +1,16 @@
 //! Trees that lack parentheses: a node that is read from a text, in which another stands for the
 //! path `p`.
-use froesaffron::build::raw::read_bytes;
+use froesaffron::read;
 use froesaffron::tree::*;
 
 /// The expression that a text reads to.
 pub fn expr(text: &str) -> Expr {
-    let mut file = read_bytes(Global, format!("const A: B = {text};").as_bytes()).unwrap();
-    let [item] = file.items.as_mut_slice() else { panic!("{text}") };
-    let ItemKind::Value { value, .. } = item.kind.get_mut() else { panic!("{text}") };
-    value.take().unwrap().into_inner()
+    let mut file = read(&format!("const A: B = {text};")).unwrap();
+    assert_eq!(file.items.as_slice().len(), 1, "{text}");
+    match file.items.as_mut_slice()[0].kind.get_mut() {
+        ItemKind::Value { value, .. } => value.take().unwrap().into_inner(),
+        _ => panic!("{text}"),
+    }
 }
 
 /// The tree of a row: nodes with `←` between them, each of which stands for `p` in the one before
@@ -25,8 +27,12 @@ pub fn nested(row: &str) -> Expr {
 }
 
 fn is_hole(expr: &Expr) -> bool {
-    let Expr::Path { path } = expr else { return false };
-    matches!(path.segments.as_slice(), [(word, _)] if word.text.as_bytes() == b"p")
+    match expr {
+        Expr::Path { path } => {
+            matches!(path.segments.as_slice(), [(word, _)] if word.text.as_bytes() == b"p")
+        }
+        _ => false,
+    }
 }
 
 /// Puts the part for the first path `p` in the expression, if it wasn't put for one.
