@@ -1,6 +1,6 @@
 #!/bin/sh
-# Makes an archive and a Debian package of a release: the command, the libraries with their header,
-# the man page, an example for Python, the cargo crate, the licences.
+# Makes an archive and a Debian package of a release: the command and the front, the libraries with
+# their header, the man pages, an example for Python, the cargo crate, the licences.
 #
 # usage: release.sh [--crate] [--plain] VERSION FOLDER [COMMAND LIBRARY]
 #
@@ -10,7 +10,7 @@
 # is there, COMMAND and the static LIBRARY are the ones that were proved: where none are named, `rt
 # ci` built the command, and c_library.py the library over what that left, which this calls where it
 # is missing. Where `rt` isn't there, and with --crate, cargo builds both; it builds the shared
-# library always. What cargo builds is guided by a profile (profiled.sh) where an llvm-profdata
+# library and the front, froesaffron, always. What cargo builds is guided by a profile (profiled.sh) where an llvm-profdata
 # reads one, but with --plain isn't. The same files give the same bytes. It needs dpkg-deb and
 # cargo.
 set -eu
@@ -51,7 +51,9 @@ build() {
 }
 
 build c
-shared=$built/liblay.so shared_how=$how
+shared=$built/liblay.so shared_how=$how shared_static=$built/liblay.a
+build rust
+front=$built/froesaffron front_how=$how
 if [ $holds = proved ]; then
     command=$(realpath "${3:-$top/crates/lay_fmt/out/lay_fmt}") library=$(realpath -m "${4:-$top/crates/lay_c/out/liblay_c.a}")
     command_how=proved static_how=proved
@@ -59,8 +61,7 @@ if [ $holds = proved ]; then
         "$top/scripts/c_library.py" >&2
     fi
 else
-    library=$built/liblay.a static_how=$how
-    build rust
+    library=$shared_static static_how=$shared_how
     command=$built/lay_fmt command_how=$how
 fi
 export SOURCE_DATE_EPOCH=0 LC_ALL=C
@@ -81,16 +82,16 @@ else
     strip --strip-debug --enable-deterministic-archives "$all/lib/liblay.a"
 fi
 install -m 755 "$command" "$all/bin/lay_fmt"
+install -m 755 "$front" "$all/bin/froesaffron"
 install -m 644 "$shared" "$all/lib/liblay.so.0"
 ln -s liblay.so.0 "$all/lib/liblay.so"
 install -m 644 "$top/c/lay.h" "$all/include/"
-install -m 644 "$top/docs/lay_fmt.1" "$all/share/man/man1/"
+install -m 644 "$top/docs/lay_fmt.1" "$top/docs/froesaffron.1" "$all/share/man/man1/"
 install -m 755 "$top/examples/lay.py" "$all/examples/"
 install -m 644 "$top/CHANGELOG.md" "$top/LICENSE-APACHE" "$top/LICENSE-MIT" "$all/"
-sed -e "s/@VERSION@/$version/" -e "s/@COMMAND@/$command_how/" -e "s/@STATIC@/$static_how/" -e "s/@SHARED@/$shared_how/" \
+sed -e "s/@VERSION@/$version/" -e "s/@COMMAND@/$command_how/" -e "s/@FRONT@/$front_how/" -e "s/@STATIC@/$static_how/" -e "s/@SHARED@/$shared_how/" \
     "$top/scripts/release/README.md" > "$all/README.md"
 chmod 644 "$all/README.md"
-# The licences are links to those of the repository.
 (cd "$top/rust" && tar -ch --exclude=./target --exclude=./Cargo.lock --exclude=.gitignore --exclude=./sources.sha256 .) | tar -x -C "$all/rust"
 sed -i "s/^version = .*/version = \"$version\"/" "$all/rust/Cargo.toml"
 tar -c --sort=name --mtime=@0 --owner=0 --group=0 --numeric-owner --mode=go-w,a+rX -C "$made" "$name" | gzip -n -9 > "$folder/$name.tar.gz"
@@ -100,15 +101,17 @@ documents=$deb/usr/share/doc/froesaffron
 libraries=$deb/usr/lib/x86_64-linux-gnu
 shared_files=$deb/usr/share/froesaffron
 mkdir -p "$deb/DEBIAN" "$deb/usr/bin" "$libraries" "$deb/usr/include" "$deb/usr/share/man/man1" "$shared_files" "$documents"
-cp -p "$all/bin/lay_fmt" "$deb/usr/bin/"
+cp -p "$all/bin/lay_fmt" "$all/bin/froesaffron" "$deb/usr/bin/"
 cp -pd "$all/lib/liblay.a" "$all/lib/liblay.so" "$all/lib/liblay.so.0" "$libraries/"
 cp -p "$all/include/lay.h" "$deb/usr/include/"
 cp -pr "$all/rust" "$all/examples" "$shared_files/"
-gzip -n -9 < "$all/share/man/man1/lay_fmt.1" > "$deb/usr/share/man/man1/lay_fmt.1.gz"
+for page in lay_fmt froesaffron; do
+    gzip -n -9 < "$all/share/man/man1/$page.1" > "$deb/usr/share/man/man1/$page.1.gz"
+done
 cp -p "$all/README.md" "$all/CHANGELOG.md" "$documents/"
 cat "$all/LICENSE-APACHE" "$all/LICENSE-MIT" > "$documents/copyright"
 # The newest version of the system's C library whose calls the command and the shared library name.
-needed=$(cat "$command" "$shared" | grep -aoE 'GLIBC_2\.[0-9]+' | sort -uV | tail -n 1 | cut -d_ -f2)
+needed=$(cat "$command" "$front" "$shared" | grep -aoE 'GLIBC_2\.[0-9]+' | sort -uV | tail -n 1 | cut -d_ -f2)
 cat > "$deb/DEBIAN/control" <<END
 Package: froesaffron
 Version: $version

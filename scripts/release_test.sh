@@ -38,12 +38,17 @@ printf 'struct A;\nstruct B {\n    a: u8,\n}\n' > "$made/text.rs"
 for command in "$tar/bin/lay_fmt" "$deb/bin/lay_fmt"; do
     "$command" "$made/source.rs" | cmp - "$made/text.rs" || fail "the command gives another text"
 done
+for front in "$tar/bin/froesaffron" "$deb/bin/froesaffron"; do
+    "$front" < "$made/source.rs" | cmp - "$made/text.rs" || fail "the front gives another text"
+done
 for library in liblay.a liblay.so liblay.so.0; do
     cmp "$tar/lib/$library" "$deb/lib/x86_64-linux-gnu/$library"
 done
 cmp "$tar/include/lay.h" "$deb/include/lay.h"
 cmp "$tar/README.md" "$deb/share/doc/froesaffron/README.md"
-zcat "$deb/share/man/man1/lay_fmt.1.gz" | cmp - "$tar/share/man/man1/lay_fmt.1"
+for page in lay_fmt froesaffron; do
+    zcat "$deb/share/man/man1/$page.1.gz" | cmp - "$tar/share/man/man1/$page.1"
+done
 diff -r "$tar/rust" "$deb/share/froesaffron/rust"
 diff -r "$tar/examples" "$deb/share/froesaffron/examples"
 cat "$tar/LICENSE-APACHE" "$tar/LICENSE-MIT" | cmp - "$deb/share/doc/froesaffron/copyright"
