@@ -5,7 +5,8 @@ TOP = pathlib.Path(__file__).resolve().parent.parent
 
 
 def named(top=TOP):
-    """Of each crate the libraries that it names, of this repository and of the toolchain, in the order of crates.txt."""
+    """Of each crate the libraries that it names, of this repository and of the toolchain, in the
+    order of crates.txt."""
     found = {}
     for line in (pathlib.Path(top) / "crates.txt").read_text().splitlines():
         head, _, names = line.split("#")[0].partition(":")

@@ -3,9 +3,10 @@
 
 usage: node.py NAME..
 
-NAME is a variant, as Glob, or several, as Closure TypedClosure. A line is printed for each file of sources, definitions and proofs that names one of
-them outside its imports, with the numbers of these lines; then the files of the other program, the documents and the tests that do. The last line counts
-them. The status is 1 where no crate names one.
+NAME is a variant, as Glob, or several, as Closure TypedClosure. A line is printed for each file of
+sources, definitions and proofs that names one of them outside its imports, with the numbers of
+these lines; then the files of the other program, the documents and the tests that do. The last line
+counts them. The status is 1 where no crate names one.
 """
 import collections
 import re
@@ -16,7 +17,13 @@ import usage
 
 IMPORT = re.compile(r"\s*(?:ghost |pub )*use ")
 PARTS = ("src", "specs", "proofs")
-OTHERS = [("tools/oracle/src", "*.rs"), ("docs", "*.md"), ("tests", "*.rt"), ("tests", "*.rs"), ("tests", "*.edit")]
+OTHERS = [
+    ("tools/oracle/src", "*.rs"),
+    ("docs", "*.md"),
+    ("tests", "*.rt"),
+    ("tests", "*.rs"),
+    ("tests", "*.edit"),
+]
 
 
 def lines_of(path, word):

@@ -3,8 +3,9 @@
 
 usage: gate_cost.py [--anew]    runs `rt ci` with the same word, which a toolchain that keeps what passed needs
 
-It prints the table of docs/GATE.md, the crates in the order of crates.txt, their sum, and the dearest chain: crates of which each stands on the one
-before it, so that no number of cores proves them sooner.
+It prints the table of docs/GATE.md, the crates in the order of crates.txt, their sum, and the
+dearest chain: crates of which each stands on the one before it, so that no number of cores proves
+them sooner.
 
 Every half second it looks at the processes that the gate has started, and keeps what each has used of a core when it was seen
 last. So the last moment of each process is missing, a percent or two of the whole. It reads /proc, as Linux has it.
