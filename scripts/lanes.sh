@@ -14,7 +14,7 @@ free=$(awk '/^MemAvailable:/ { print int($2 / 4000000) }' /proc/meminfo)
 # A group of processes may have a limit of its own.
 for limit in /sys/fs/cgroup/memory.max /sys/fs/cgroup/memory/memory.limit_in_bytes; do
     if [ -r "$limit" ] && grep -q '^[0-9]*$' "$limit"; then
-        group=$(awk '{ print int($1 / 4000000000) }' "$limit")
+        group=$(($(cat "$limit") / 4000000000))
         [ "$group" -ge "$free" ] || free=$group
     fi
 done
