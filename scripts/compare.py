@@ -2,11 +2,12 @@
 """Runs two built commands over the same sources, and compares what they answer: exit status, standard output and standard error have to be
 equal byte for byte.
 
-usage: compare.py [--changed COUNT SEED] COMMAND COMMAND PATH..
+usage: compare.py [--map] [--changed COUNT SEED] COMMAND COMMAND PATH..
 
-A PATH is a file, or a folder whose files named `.rs` are taken. Each is formatted, checked and
-mapped by its name. With --changed, COUNT sources are made of parts of the files with small changes,
-which SEED draws, and formatted and mapped from standard input.
+A PATH is a file, or a folder whose files named `.rs` are taken. Each is formatted and checked by
+its name, and with --map mapped too, where both commands can. With --changed, COUNT sources are made
+of parts of the files with small changes, which SEED draws, and formatted from standard input, and
+with --map mapped.
 
 The last line is `N the same, M of them accepted, K not`; the exit status is 0 where all are the same."""
 import concurrent.futures
@@ -69,8 +70,12 @@ def changed(draw, files):
 
 
 def main():
-    is_changed = sys.argv[1:2] == ['--changed']
-    words = usage.words(__doc__, least=6 if is_changed else 3, options=('--changed',))
+    words = usage.words(__doc__, least=3, options=('--changed', '--map'))
+    is_mapped = words[0] == '--map'
+    words = words[is_mapped:]
+    is_changed = words[0] == '--changed'
+    if len(words) < (6 if is_changed else 3) or any(word.startswith('-') for word in words[1:]):
+        usage.refuse(__doc__)
     count = seed = None
     if is_changed:
         if not (words[1].isdigit() and words[2].isdigit()):
@@ -78,12 +83,13 @@ def main():
         count, seed, words = int(words[1]), int(words[2]), words[3:]
     commands, files = [os.path.abspath(word) for word in words[:2]], list(sources(words[2:]))
     if count is None:
-        kinds = ([], ['--check'], ['--map'])
+        kinds = [[], ['--check'], *[['--map']] * is_mapped]
         named = [(path, [([*kind, '--', path], b'') for kind in kinds]) for path in files]
     else:
         draw = random.Random(seed)
         drawn = [changed(draw, files) for _ in range(count)]
-        named = [(f'source {number}', [([], data), (['--map'], data)])
+        kinds = [[], *[['--map']] * is_mapped]
+        named = [(f'source {number}', [(kind, data) for kind in kinds])
                  for number, data in enumerate(drawn)]
     same = accepted = 0
     with concurrent.futures.ThreadPoolExecutor(os.cpu_count()) as pool:
