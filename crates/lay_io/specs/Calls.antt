@@ -8,7 +8,7 @@ abbrev pub left_of : Option Which → (Which → Option (List ℕ)) → Option (
 left_of None left = None
 left_of (Some which) left = left which
 
--- Ok takes its bytes from the front of what is left, none only at the end or with no room. Err takes none.
+-- Ok takes its bytes from the beginning of what is left, none only at the end or with no room. Err takes none.
 abbrev pub Takes : {E : Type 0} → Option (List ℕ) → Option (List ℕ) → Result ℕ E → List ℕ → Type 0
 Takes before now result buf = MatchResult result
     (λ count. (before ≡ put_before (take count buf) now) × (count ≡ 0 → 0 < length buf → TellsAs now []))

@@ -5,7 +5,7 @@ use Rattle.lay_io.specs.Kept.{Kept, kept_behind, untold}
 use Rattle.lay_io.specs.declared.outside.Failed.{Failed}
 use Rattle.lay_io.specs.declared.inputs.MemoryInputs.{MemoryInputs}
 
--- A write of a sink that never fails: it keeps a piece that fits, and behind one that doesn't fit it tells nothing.
+-- A write of a sink that never fails: it keeps a piece that fits, and after one that doesn't fit it tells nothing.
 pub record QuietWrite (before : Kept) (piece : List ℕ) (result : Result (Unit {0}) Failed) (now : Kept) : Type 0 where
   pub never : IsOk result
   pub fits : length piece ≤ before.spare → now ≡ kept_behind before piece
@@ -23,10 +23,10 @@ pub record Device : Type 0 where
 pub record DeviceWrite (before : Device) (piece : List ℕ) (result : Result (Unit {0}) Failed) (now : Device) : Type 0 where
   -- It fails exactly where its number is among those that fail.
   pub failed : IsErr result ↔ Contains before.fail before.writes
-  -- Otherwise it keeps a piece that fits, and behind one that doesn't fit nothing is told.
+  -- Otherwise it keeps a piece that fits, and after one that doesn't fit nothing is told.
   pub fits : OnOk result (length piece ≤ before.kept.spare → now.kept ≡ kept_behind before.kept piece)
   pub too_much : OnOk result (before.kept.spare < length piece → now.kept ≡ untold before.kept)
-  -- Where it fails it keeps the front of its piece, no more than such a write keeps and no more than fits.
+  -- Where it fails it keeps a prefix of its piece, no more than such a write keeps and no more than fits.
   pub cut : OnErr result (now.kept ≡ kept_behind before.kept (take (min before.keep before.kept.spare) piece))
   -- Faults and writes are counted, and which writes fail stays as it was.
   pub once : CountsOnce before.faults now.faults result

@@ -17,13 +17,13 @@ waiting_in Stderr = Some []
 abbrev pub IsHandedOver : {R : Type 0} → HostSink R → Type 0
 IsHandedOver sink = waiting_in sink.stream ≡ Some []
 
--- What waits now that a piece was taken: one that fits waits behind what waited, and behind one that doesn't fit only it waits, or
+-- What waits now that a piece was taken: one that fits waits after what waited, and after one that doesn't fit only it waits, or
 -- nothing.
 pub record Waits (before : Kept) (piece : List ℕ) (now : Option (List ℕ)) : Type 0 where
   pub fits : length piece ≤ before.spare → now ≡ put_behind before.bytes piece
   pub too_much : before.spare < length piece → (now ≡ Some piece) ⊎ (now ≡ Some [])
 
--- what waits behind a piece that a stream took: standard error gathers nothing
+-- what waits after a piece that a stream took: standard error gathers nothing
 abbrev pub GathersAs : Stream → List ℕ → Option (List ℕ) → Type 0
 GathersAs (Stdout room) piece now = Waits (kept_in room) piece now
 GathersAs Stderr piece now = now ≡ Some []

@@ -12,11 +12,11 @@ pub record Kept : Type 0 where
 abbrev pub empty : ℕ → Kept
 empty room = record { bytes = Some []; spare = room }
 
--- a piece that fits stands behind what was kept, and takes its length of the room
+-- a piece that fits stands after what was kept, and takes its length of the room
 abbrev pub kept_behind : Kept → List ℕ → Kept
 kept_behind kept piece = record { bytes = put_behind kept.bytes piece; spare = kept.spare - length piece }
 
--- behind a piece that doesn't fit nothing is told, and the room is as it was: no memory was taken
+-- after a piece that doesn't fit nothing is told, and the room is as it was: no memory was taken
 abbrev pub untold : Kept → Kept
 untold kept = record { bytes = None; spare = kept.spare }
 

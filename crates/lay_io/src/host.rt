@@ -206,7 +206,7 @@ fn write_waiting<R: Print>(runtime: &R, waiting: &mut Room) -> Result<(), Failed
     answer.map_err(|_| Failed)
 }
 
-/// Keeps the piece behind what waits, or writes what waits first. After a failure nothing waits.
+/// Keeps the piece after what waits, or writes what waits first. After a failure nothing waits.
 #[inline]
 fn gather<R: Print>(runtime: &R, waiting: &mut Room, piece: &[u8]) -> Result<(), Failed>
     ensures kept { OnOk result (Waits (kept_in waiting.old) piece.now (kept_in waiting.new).bytes) }

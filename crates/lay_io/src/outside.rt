@@ -39,7 +39,7 @@ pub trait Inputs {
         ensures left { (w : Which) → left self.new w ≡ left self.old w }
         ensures faults { faults self.new ≡ faults self.old };
 
-    /// Moves the next bytes of the chosen input into the front of the buffer, and says how many: 0 only at the
+    /// Moves the next bytes of the chosen input into the beginning of the buffer, and says how many: 0 only at the
     /// end or where the buffer is empty. `Failed` takes none, and is counted.
     fn read(&mut self, buf: &mut [u8]) -> Result<usize, Failed>
         requires { IsSome (chosen self.old) }

@@ -83,7 +83,7 @@ impl Room {
     }
 }
 
-/// Puts a piece behind the bytes that are used.
+/// Puts a piece after the bytes that are used.
 fn put_at(bytes: &mut [u8], used: usize, piece: &[u8])
     requires { used + length piece.now ≤ length bytes.old }
     ensures { take (used + length piece.now) bytes.new ≡ take used bytes.old ++ piece.now }

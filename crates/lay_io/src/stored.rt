@@ -52,7 +52,7 @@ pub fn content_or_empty<'a>(
     }
 }
 
-/// Moves bytes to the front of the buffer, as many as fit.
+/// Moves bytes to the beginning of the buffer, as many as fit.
 fn fill(buf: &mut [u8], from: &[u8]) -> usize
     ensures count { result ≡ min (length buf.old) (length from.now) }
     ensures bytes { take result buf.new ≡ take result from.now }
@@ -62,7 +62,7 @@ fn fill(buf: &mut [u8], from: &[u8]) -> usize
     count
 }
 
-/// Moves the next bytes to the front of the buffer, and counts them as taken.
+/// Moves the next bytes to the beginning of the buffer, and counts them as taken.
 pub fn take_next(all: &[u8], taken: &mut usize, buf: &mut [u8]) -> usize
     ensures bound { (result ≤ length buf.new) × (result ≡ length (take result buf.new)) }
     ensures bytes { drop taken.old all.now ≡ take result buf.new ++ drop taken.new all.now }

@@ -65,7 +65,7 @@ text_stream d =
     let k : play (stream d) [] begun ≡ record { frames = []; state = render d outside start 0 } = rw e at h in
     ap (λ (m : Layout). m.state.text) k
 
--- where the tokens of a document stand at the front, they are laid out as the document before what follows it
+-- where the tokens of a document come next, they are laid out as the document before what follows it
 layout_front : (d : Document) (more : List Tok)
     → layout_after (stream d ++ more) (length (stream d)) ≡ record { frames = []; state = render d outside start (reach 0 more) }
 layout_front d more =

@@ -65,7 +65,7 @@ pub enum Frame {
 /// The text that the machine over tokens gives to a document's flattening is the text of the document. A
 /// list of tokens is the flattening of a document exactly where each of its groups is closed, and then of
 /// one document only. Of a group and of a break in it the machine measures what the document does: the flat width,
-/// and what is ahead of it. Where a document's tokens stand at the front of others, the text and the space behind them are
+/// and what is ahead of it. Where a document's tokens stand at the beginning of others, the text and the space after them are
 /// the document's, before what follows it. The text of a document is one of those that it may be laid out as where the
 /// space decides nothing.
 pub fn layout_law()

@@ -72,7 +72,7 @@ prefix_starts : (starts_word 114 ≡ true) × (starts_word 98 ≡ true) × (star
 unfolding unicode_ident starts_word
 prefix_starts = (refl, refl, refl)
 
--- A raw string begins with a hash or a quote behind its r.
+-- A raw string begins with a hash or a quote after its r.
 raw_begin : (y : Contents) (c : ℕ) (cs z : List ℕ) → after_raw y (c ∷ cs) ≡ Some z → c == 34 || c == 35 ≡ true
 unfolding raw_step
 raw_begin y c cs z h = by_case (c == 35) (c == 34) (sym (run-cons (raw_step y) (Hashes 0) c cs) ∙ h)

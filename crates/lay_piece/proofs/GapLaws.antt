@@ -1,4 +1,4 @@
--- No gap begins with a piece, and no piece with a gap. So a text has one gap at its front.
+-- No gap begins with a piece, and no piece with a gap. So a text has one gap at its beginning.
 use Rattle.std.proofs.Common.{◌≡◌, ◌≢◌, inl, inr, ℕ, ◌≤◌, List, [], ◌∷◌, ◌++◌, Bool, true, false, cond, not, ◌&&◌, ◌||◌, Some, None, sym, refl, ap, ◌∙◌, subst, arith}
 use Rattle.std.specs.Prelude.{IsTrue, ◌==◌, nat_le}
 use Rattle.std.specs.Char.{is_ascii_digit}
@@ -233,7 +233,7 @@ outside_step : (c : ℕ) (a b : Bool) → is_white c ≡ a → c == 47 ≡ b
 unfolding gap_step
 outside_step c a b e f = rw (e, f) refl
 
--- behind the first character of a piece
+-- after the first character of a piece
 behind_first : (i : Bool) (c : ℕ) (cs : List ℕ) (f : Kind × List ℕ) → front_of i (c ∷ cs) ≡ Some f
     → IsDead (gap_step Outside c) cs
 behind_first i c cs f h = by_case (is_white c) (c == 47) refl refl
@@ -285,7 +285,7 @@ closed_is_outside BlockStar h = cc
 closed_is_outside (Within b) h = cc
 closed_is_outside Spoilt h = cc
 
--- what stands behind a gap of a last gap is one too
+-- what follows a gap of a last gap is one too
 pub last_gap_rest : (g x : List ℕ) → IsTrue (is_gap g) → IsTrue (is_last_gap (g ++ x)) → IsTrue (is_last_gap x)
 last_gap_rest g x h e =
     ap is_closed_or_line (sym (gap_end-append Outside g x ∙ ap (λ s. gap_end s x) (closed_is_outside _ h))) ∙ e

@@ -62,7 +62,7 @@ run-split step s (c ∷ cs) y h =
     let r = by_split step c cs y (step s c) (λ t e. run-split step t cs y e) (sym (run-cons step s c cs) ∙ h) in
     (c ∷ r.0, ap (λ l. c ∷ l) r.1, run-cons step s c r.0 ∙ r.2)
 
--- behind a prefix
+-- after a prefix
 abbrev pub Appends : (List ℕ → Option (List ℕ)) → Type 0
 Appends f = (x y z : List ℕ) → f x ≡ Some y → f (x ++ z) ≡ Some (y ++ z)
 
@@ -150,7 +150,7 @@ suffix_stops (c ∷ y) r h m =
     rw (word.0, goes, not_not (is_nil y), not-true (c == 95 && is_nil y) parts.1, starts_in c word.0)
     (after-append in_word y r word.1 stop)
 
--- a suffix at the front of a text
+-- a suffix at the beginning of a text
 pub suffix_front : (y : List ℕ) → begins_suffix y ≡ true → is_suffix (front in_word y) ≡ true
 suffix_front [] h = cc
 suffix_front (c ∷ y) h =
@@ -207,7 +207,7 @@ had-literal CStr piece rest i h = refl
 had-literal RawCStr piece rest i h = refl
 had-literal _ piece rest i h = cc
 
--- A literal at the front of a text is had, with the suffix that follows it.
+-- A literal at the beginning of a text is had, with the suffix that follows it.
 pub literal_had : (k : Kind) (cs y : List ℕ) (i : Bool) → is_literal k ≡ true → after_literal k cs ≡ Some y
     → (piece : List ℕ) × (cs ≡ piece ++ after_suffix y) × Had k piece (after_suffix y) i
 literal_had k cs y i l h =

@@ -93,7 +93,7 @@ point_parts (c ∷ r) h = by_case (is_ascii_digit c) (c == 46) (starts_word c) h
     by_case false false true h = cc
     by_case false false false h = (refl, refl, refl)
 
--- what may follow a Float with this behind its whole part
+-- what may follow a Float with this after its whole part
 abbrev pub float_may_stop : List ℕ → List ℕ → Bool
 float_may_stop q r = cond (behind false (46 ∷ []) is_nil q)
     (not (begins (λ c. is_ascii_digit c || c == 46 || starts_word c) r)) (not (begins in_word r))

@@ -19,7 +19,7 @@ use Rattle.lay_piece.proofs.NumberFound.{float_may_stop, two_first, had-number, 
 use Rattle.lay_piece.proofs.Sound.{Stands, Sound, sound_cond}
 use Rattle.lay_piece.proofs.Booleans.{or_left, or_right, equal_both, apart_both}
 
--- What a part of a number leaves behind it, if it is found.
+-- What a part of a number leaves after it, if it is found.
 abbrev Ends : (Kind → List ℕ → List ℕ → Type 0) → List ℕ → FrontPiece → Type 0
 Ends P cs None = Unit {0}
 Ends P cs (Some f) = (q : List ℕ) × (cs ≡ q ++ f.1) × P f.0 q f.1
@@ -142,7 +142,7 @@ plain_from : (q r : List ℕ) → begins is_exponent_letter (q ++ r) ≡ false �
 plain_from [] r n h = refl
 plain_from (c ∷ q) r n h = and_from _ _ h (ap not n)
 
--- what stands behind the digits of a fraction
+-- what follows the digits of a fraction
 abbrev is_fraction_end : List ℕ → Bool
 is_fraction_end q = is_plain_suffix q || is_exponent q
 
@@ -161,7 +161,7 @@ fraction_ends cs h = ends_cond _ cs (begins is_exponent_letter cs) _ _ (λ l. by
     by_letter (c ∷ cs) l = ends_map (IsFloatPart is_exponent) (IsFloatPart is_fraction_end) [] (c ∷ cs) _
         (λ k q r w p. record { kind = p.kind; form = or_right _ _ p.form; stops = p.stops }) (letter_ends c cs l)
 
--- what stands behind the whole part
+-- what follows the whole part
 record IsFloatTail (k : Kind) (q r : List ℕ) : Type 0 where
   kind : k ≡ Float
   form : is_float_tail q ≡ true
@@ -222,7 +222,7 @@ point_ends c cs e h = ends_cond _ (c ∷ cs) (begins is_ascii_digit cs) _ _ (λ 
         (fraction (after in_digits cs))
         (λ k q r w p. part k q r d w p) (fraction_ends (after in_digits cs) (no_underscore Decimal cs)))
 
--- what stands behind the digits of a number
+-- what follows the digits of a number
 record IsIntTail (b : Base) (k : Kind) (q r : List ℕ) : Type 0 where
   kind : k ≡ Int
   form : is_int_suffix b q ≡ true
@@ -280,7 +280,7 @@ whole_ends b cs h = ends_cond _ cs (begins_point cs) _ _
         ends_map (IsFloatPart is_exponent) (IsNumberTail b) [] (c ∷ cs) _
         (λ k q r w t. inr (d, exponent_tail k q r t)) (letter_ends c cs l)
 
--- the piece: what names the base, the digits, and what stands behind them
+-- the piece: what names the base, the digits, and what follows them
 record Numeral (b : Base) (cs q r : List ℕ) : Type 0 where
   piece : List ℕ
   whole : cs ≡ piece ++ r

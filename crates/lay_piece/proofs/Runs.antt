@@ -8,7 +8,7 @@ use Rattle.lay_piece.specs.Quoted.{InEscape, escape_step, Plain, Escape, Skip, s
 use Rattle.lay_piece.specs.Found.{hashes, behind_hashes}
 use Rattle.lay_piece.specs.declared.piece.quoted.Contents.{Contents}
 
--- what follows the form, behind a character that does this to its state
+-- what follows the form, after a character that does this to its state
 abbrev pub next : {S : Type 0} → (S → ℕ → Next S) → List ℕ → Next S → Option (List ℕ)
 next step cs (Go t) = run step t cs
 next step cs End = Some cs

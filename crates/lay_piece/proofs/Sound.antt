@@ -16,7 +16,7 @@ use Rattle.lay_piece.proofs.Fronts.{begins_left, front-after, each-front, after-
 use Rattle.lay_piece.proofs.Literals.{is_literal, literal_had, suffix_front, run-split}
 use Rattle.lay_piece.proofs.Booleans.{neither, equal_both}
 
--- A piece of the kind is had at the front of the text, before the rest.
+-- A piece of the kind is had at the beginning of the text, before the rest.
 pub record Stands (i : Bool) (cs : List ℕ) (k : Kind) (r : List ℕ) : Type 0 where
   pub piece : List ℕ
   pub whole : cs ≡ piece ++ r

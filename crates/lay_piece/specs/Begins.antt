@@ -4,12 +4,12 @@ use Rattle.lay_piece.specs.Forms.{Had}
 use Rattle.lay_piece.specs.Gap.{is_gap, is_last_gap}
 use Rattle.lay_piece.specs.declared.kind.Kind.{Kind}
 
--- No gap stands at the front, and the text isn't one that ends the whole.
+-- No gap comes next, and the text isn't one that ends the whole.
 pub record BeginsNoGap (text : List ℕ) : Type 0 where
   pub none : (gap rest : List ℕ) → text ≡ gap ++ rest → IsTrue (is_gap gap) → gap ≡ []
   pub unended : IsFalse (is_last_gap text)
 
--- No piece stands at the front.
+-- No piece comes next.
 abbrev pub BeginsNoPiece : List ℕ → Bool → Type 0
 BeginsNoPiece text index =
     (k : Kind) (piece rest : List ℕ) → text ≡ piece ++ rest → Had k piece rest index → ⊥

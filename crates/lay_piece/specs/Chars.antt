@@ -37,7 +37,7 @@ abbrev pub begins : (ℕ → Bool) → List ℕ → Bool
 begins p [] = false
 begins p (c ∷ cs) = p c
 
--- the longest run of characters that pass, from the front on
+-- the longest run of characters that pass, from the first on
 abbrev pub front : (ℕ → Bool) → List ℕ → List ℕ
 front p [] = []
 front p (c ∷ cs) = cond (p c) (c ∷ front p cs) []
@@ -61,7 +61,7 @@ abbrev pub is_nil : List ℕ → Bool
 is_nil [] = true
 is_nil (c ∷ cs) = false
 
--- What stands behind these first characters, as `given` answers it; `other` where the text begins otherwise.
+-- What follows these first characters, as `given` answers it; `other` where the text begins otherwise.
 abbrev pub behind : {A : Type 0} → A → List ℕ → (List ℕ → A) → List ℕ → A
 behind other [] given cs = given cs
 behind other (p ∷ ps) given [] = other

@@ -19,7 +19,7 @@ ends_in_blank (c ∷ cs) = cond (is_nil cs) (c == char.blank) (ends_in_blank cs)
 abbrev pub is_line_text : Bool → List ℕ → Bool
 is_line_text inner text = is_line_doc inner text && not (ends_in_blank text)
 
--- It has several lines, and an end of a comment behind it is the first that closes the comment.
+-- It has several lines, and an end of a comment after it is the first that closes the comment.
 abbrev pub is_block_text : Bool → List ℕ → Bool
 is_block_text inner text = list_any (λ c. c == char.line_feed) text && is_block_doc inner (text ++ codes "*/")
 

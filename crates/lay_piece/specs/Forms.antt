@@ -15,7 +15,7 @@ use Rattle.lay_piece.specs.declared.kind.Delim.TheVariants.{Paren, Bracket, Brac
 use Rattle.lay_piece.specs.declared.kind.Kind.{Kind}
 use Rattle.lay_piece.specs.declared.kind.Kind.TheVariants.{Ident, RawIdent, Underscore, Lifetime, Char, Str, RawStr, Byte, ByteStr, RawByteStr, CStr, RawCStr, Int, Float, Punct, Opener, Closer, Doc}
 
--- what stands behind the form, where the text begins with it
+-- what follows the form, where the text begins with it
 abbrev pub after_string : Contents → List ℕ → Option (List ℕ)
 after_string y = run (string_step y) Plain
 
@@ -25,7 +25,7 @@ after_char y = run (char_step y) First
 abbrev pub after_raw : Contents → List ℕ → Option (List ℕ)
 after_raw y = run (raw_step y) (Hashes 0)
 
--- what stands behind the closing quote, or the hashes that follow it, of a literal of this kind
+-- what follows the closing quote, or the hashes that follow it, of a literal of this kind
 unfoldable pub after_literal : Kind → List ℕ → Option (List ℕ)
 after_literal Char cs = behind None (codes "'") (after_char of.Chars) cs
 after_literal Str cs = behind None (codes "\"") (after_string of.Chars) cs
@@ -71,7 +71,7 @@ doc_opening false true = codes "/**"
 doc_opening true false = codes "//!"
 doc_opening false false = codes "///"
 
--- Behind its opening an outer line doesn't begin with a slash, and no line holds an LF or a CR.
+-- After its opening an outer line doesn't begin with a slash, and no line holds an LF or a CR.
 abbrev pub is_line_doc : Bool → List ℕ → Bool
 is_line_doc inner cs = (inner || not (begins (λ c. c == char.slash) cs)) && not (list_any (λ c. c == char.line_feed || c == char.carriage_return) cs)
 
@@ -123,7 +123,7 @@ is_number_kind Int = true
 is_number_kind Float = true
 is_number_kind _ = false
 
--- A piece of the kind stands before the rest. Where `index` is true, as behind the `.` of a field, a number
+-- A piece of the kind stands before the rest. Where `index` is true, as after the `.` of a field, a number
 -- whose digits aren't followed by XID_Continue has the form of an index alone (Rust Reference, "Tuple index").
 unfoldable pub had : Kind → List ℕ → List ℕ → Bool → Bool
 had k piece rest index =

@@ -1,4 +1,4 @@
--- What stands at the front of a text: the kind of the piece, and what follows it. These are the words of the
+-- What stands at the beginning of a text: the kind of the piece, and what follows it. These are the words of the
 -- contracts within the crate; its laws say that what is found is what `Had` has there.
 use Rattle.std.specs.Prelude.{ℕ, zero, suc, ◌≡◌, Bool, true, false, cond, ◌&&◌, ◌||◌, ◌==◌, not, List, [], ◌∷◌, codes, drop, encode_utf8_all, Option, Some, None, MatchOption, option_and_then}
 use Rattle.std.specs.Borrow.{Bor}
@@ -72,7 +72,7 @@ abbrev pub or_else : FrontPiece → FrontPiece → FrontPiece
 or_else None other = other
 or_else (Some f) other = Some f
 
--- how many hashes stand at the front, up to a number of them, and what follows these
+-- how many hashes come next, up to a number of them, and what follows these
 abbrev pub hashes : ℕ → List ℕ → ℕ
 hashes zero cs = 0
 hashes (suc n) [] = 0
@@ -93,7 +93,7 @@ abbrev pub literal : Kind → Option (List ℕ) → FrontPiece
 literal k None = None
 literal k (Some cs) = found k (after_suffix cs)
 
--- a raw identifier behind its r#
+-- a raw identifier after its r#
 abbrev pub raw_name : List ℕ → FrontPiece
 raw_name cs =
     cond (begins_suffix cs && not (is_path_word (encode_utf8_all (front in_word cs))))
@@ -139,13 +139,13 @@ line_doc inner cs =
 abbrev pub block_doc : Bool → List ℕ → FrontPiece
 block_doc inner cs = option_and_then (λ rest. found (Doc inner true) rest) (run doc_step (Deep 0) cs)
 
--- behind //
+-- after //
 abbrev pub line_comment : List ℕ → FrontPiece
 line_comment [] = None
 line_comment (c ∷ cs) =
     cond (c == char.bang) (line_doc true cs) (cond (c == char.slash && not (begins (λ d. d == char.slash) cs)) (line_doc false cs) None)
 
--- behind /*
+-- after /*
 abbrev pub block_comment : List ℕ → FrontPiece
 block_comment [] = None
 block_comment (c ∷ cs) =
@@ -182,20 +182,20 @@ suffixed k cs =
 abbrev pub exponent_run : List ℕ → FrontPiece
 exponent_run cs = option_and_then (suffixed Float) (after_run Decimal cs)
 
--- behind the letter of an exponent
+-- after the letter of an exponent
 abbrev pub exponent : List ℕ → FrontPiece
 exponent [] = None
 exponent (c ∷ cs) = cond (is_sign c) (exponent_run cs) (exponent_run (c ∷ cs))
 
--- behind the digits of a fraction
+-- after the digits of a fraction
 abbrev pub fraction : List ℕ → FrontPiece
 fraction cs = cond (begins is_exponent_letter cs) (exponent (drop 1 cs)) (suffixed Float cs)
 
--- behind the point of a Float
+-- after the point of a Float
 abbrev pub point : List ℕ → FrontPiece
 point cs = cond (begins is_ascii_digit cs) (fraction (after in_digits cs)) (found Float cs)
 
--- behind the digits of a number
+-- after the digits of a number
 abbrev pub whole : Base → List ℕ → FrontPiece
 whole base cs =
     cond (begins_point cs) (cond (is_decimal base) (point (drop 1 cs)) None)

@@ -9,17 +9,17 @@ use Rattle.lay_piece.specs.Quoted.{InBlock, Deep, Star, block_step}
 pub data InGap : Type 0 where
   -- between comments
   Outside : InGap
-  -- behind /
+  -- after /
   Opening : InGap
-  -- behind //
+  -- after //
   Two : InGap
-  -- behind ///
+  -- after ///
   Three : InGap
   -- in a plain line comment
   Line : InGap
-  -- behind /*
+  -- after /*
   Block : InGap
-  -- behind /**
+  -- after /**
   BlockStar : InGap
   -- in a plain block comment
   Within : InBlock → InGap
@@ -43,7 +43,7 @@ gap_step BlockStar c = cond (c == char.star) (Within (Star 0)) (cond (c == char.
 gap_step (Within b) c = in_block (block_step b c)
 gap_step Spoilt c = Spoilt
 
--- the state behind these characters
+-- the state after these characters
 abbrev pub gap_end : InGap → List ℕ → InGap
 gap_end s [] = s
 gap_end s (c ∷ cs) = gap_end (gap_step s c) cs

@@ -15,7 +15,7 @@ base_of cs = behind Decimal (48 ∷ []) named cs
     named [] = Decimal
     named (c ∷ cs) = cond (c == char.letter_x) Hexadecimal (cond (c == char.letter_o) Octal (cond (c == char.letter_b) Binary Decimal))
 
--- what stands behind 0x, 0o or 0b
+-- what follows 0x, 0o or 0b
 abbrev pub digits_of : Base → List ℕ → List ℕ
 digits_of Decimal cs = cs
 digits_of _ cs = drop 2 cs
@@ -55,7 +55,7 @@ abbrev pub is_int_suffix : Base → List ℕ → Bool
 is_int_suffix Hexadecimal cs = is_any_suffix cs
 is_int_suffix _ cs = is_plain_suffix cs
 
--- what stands behind the digits at the front
+-- what follows the digits at the beginning
 abbrev pub behind_digits : List ℕ → List ℕ
 behind_digits cs = after (in_run (base_of cs)) (digits_of (base_of cs) cs)
 
@@ -84,7 +84,7 @@ abbrev pub is_fraction : List ℕ → Bool
 is_fraction cs =
     begins is_ascii_digit cs && (is_plain_suffix (after in_digits cs) || is_exponent (after in_digits cs))
 
--- what stands behind the whole part: a point alone, a point and a fraction, or an exponent
+-- what follows the whole part: a point alone, a point and a fraction, or an exponent
 abbrev pub is_float_tail : List ℕ → Bool
 is_float_tail [] = false
 is_float_tail (c ∷ cs) = cond (c == char.point) (is_nil cs || is_fraction cs) (is_exponent (c ∷ cs))
@@ -114,7 +114,7 @@ begins_point (c ∷ cs) = c == char.point && not (begins (λ d. d == char.point 
 abbrev pub is_index : List ℕ → Bool
 is_index cs = begins is_ascii_digit cs && list_all is_ascii_digit cs
 
--- The digits at the front of the piece and the rest aren't followed by XID_Continue. Where the piece is digits
+-- The digits at the beginning of the piece and the rest aren't followed by XID_Continue. Where the piece is digits
 -- alone and the rest begins with one more, no number ends there, be it an index or not.
 abbrev pub fronts_index : List ℕ → List ℕ → Bool
 fronts_index piece rest = begins is_ascii_digit piece

@@ -36,15 +36,15 @@ is_char_value of.CChars v = not (v == 0) && nat_lt v 1114112 && not (is_between 
 is_char_value _ v = nat_lt v 1114112 && not (is_between 55296 57343 v)
 
 pub data InEscape : Type 0 where
-  -- behind the backslash
+  -- after the backslash
   Backslash : InEscape
-  -- behind \x
+  -- after \x
   Hex : InEscape
-  -- behind \x and a digit of this value
+  -- after \x and a digit of this value
   HexTwo : ℕ → InEscape
-  -- behind \u
+  -- after \u
   Open : InEscape
-  -- behind \u{ and so many digits, which have this value
+  -- after \u{ and so many digits, which have this value
   Digits : ℕ → ℕ → InEscape
 
 -- Up to six digits; an underscore may follow a digit, and at least one digit stands before the closing brace.
@@ -61,13 +61,13 @@ escape_step y (HexTwo h) c = cond (is_ascii_hexdigit c && is_byte_value y (16 * 
 escape_step y Open c = cond (c == char.open_brace) (Go (Digits 0 0)) Bad
 escape_step y (Digits n v) c = digits_step y n v c
 
--- a string, behind its opening quote
+-- a string, after its opening quote
 pub data InString : Type 0 where
   Plain : InString
-  -- behind a backslash
+  -- after a backslash
   Turned : InString
   Escape : InEscape → InString
-  -- behind a backslash before an LF
+  -- after a backslash before an LF
   Skip : InString
 
 abbrev pub plain_step : Contents → ℕ → Next InString
@@ -88,7 +88,7 @@ string_step y Turned c = cond (c == char.line_feed) (Go Skip) (in_string (escape
 string_step y (Escape e) c = in_string (escape_step y e c)
 string_step y Skip c = cond (is_skipped c) (Go Skip) (plain_step y c)
 
--- a character, behind its opening quote
+-- a character, after its opening quote
 pub data InChar : Type 0 where
   First : InChar
   CharEscape : InEscape → InChar
@@ -108,13 +108,13 @@ char_step y First c = cond (c == char.backslash) (Go (CharEscape Backslash)) (co
 char_step y (CharEscape e) c = in_char (escape_step y e c)
 char_step y Last c = cond (c == char.apostrophe) End Bad
 
--- a raw string, behind its r (Rust Reference, "Raw string literals")
+-- a raw string, after its r (Rust Reference, "Raw string literals")
 pub data InRaw : Type 0 where
   -- so many hashes so far
   Hashes : ℕ → InRaw
   -- within so many hashes
   Inside : ℕ → InRaw
-  -- within so many hashes, behind a quote and so many hashes
+  -- within so many hashes, after a quote and so many hashes
   Closing : ℕ → ℕ → InRaw
 
 abbrev pub inside_step : Contents → ℕ → ℕ → Next InRaw
@@ -125,13 +125,13 @@ raw_step y (Hashes n) c = cond (c == char.hash && nat_lt n 255) (Go (Hashes (n +
 raw_step y (Inside n) c = inside_step y n c
 raw_step y (Closing n k) c = cond (c == char.hash) (cond (k + 1 == n) End (Go (Closing n (k + 1)))) (inside_step y n c)
 
--- a block comment, behind its opening (Rust Reference, "Comments")
+-- a block comment, after its opening (Rust Reference, "Comments")
 pub data InBlock : Type 0 where
   -- within so many more comments
   Deep : ℕ → InBlock
-  -- behind a star
+  -- after a star
   Star : ℕ → InBlock
-  -- behind a slash
+  -- after a slash
   Slash : ℕ → InBlock
 
 abbrev pub deep_step : ℕ → ℕ → Next InBlock

@@ -10,7 +10,7 @@ use Rattle.lay_piece.specs.declared.piece.quoted.Contents.TheVariants as of
 use Rattle.lay_piece.specs.declared.kind.Kind.{Kind}
 use Rattle.lay_piece.specs.declared.kind.Kind.TheVariants.{Str, RawStr}
 
--- what a character names behind a backslash, if it is an escape by itself
+-- what a character names after a backslash, if it is an escape by itself
 abbrev pub short_escape : ℕ → List ℕ
 short_escape c =
     cond (c == char.letter_n) (10 ∷ []) (cond (c == char.letter_r) (13 ∷ []) (cond (c == char.letter_t) (9 ∷ []) (cond (c == char.zero) (0 ∷ [])
@@ -30,7 +30,7 @@ adds (Escape Open) c = []
 adds (Escape (Digits n v)) c = cond (c == char.close_brace) (v ∷ []) []
 adds Skip c = cond (is_skipped c) [] (plain_adds c)
 
--- the value of a string, behind its opening quote
+-- the value of a string, after its opening quote
 unfoldable pub string_value : InString → List ℕ → List ℕ
 string_value s [] = []
 string_value s (c ∷ cs) =
@@ -39,7 +39,7 @@ string_value s (c ∷ cs) =
 abbrev pub is_hash : ℕ → Bool
 is_hash c = c == char.hash
 
--- The value of a raw string, behind its r, stands between the quotes, and as many hashes stand before and behind.
+-- The value of a raw string, after its r, stands between the quotes, and as many hashes stand before them as after them.
 abbrev pub raw_value : List ℕ → List ℕ
 raw_value cs = let around = length (front is_hash cs) + 1 in take (length cs - 2 * around) (drop around cs)
 

@@ -10,7 +10,7 @@ ghost use Rattle.lay_piece.specs.Docs.{depth, doc_form, ends_in_blank, goes, in_
 /// How a text of documentation may be written, so that the text is read again (Rust Reference, "Doc comments").
 #[derive(Clone, Copy, Debug, PartialEq, Eq)]
 pub enum DocForm {
-    /// On one line, behind `///` or `//!`.
+    /// On one line, after `///` or `//!`.
     Line,
     /// On several lines, between `/**` or `/*!` and `*/`.
     Block,
@@ -87,7 +87,7 @@ fn is_block_text(text: &[u8], inner: bool) -> bool
     closes_at_end(text)
 }
 
-/// Whether an end of a comment behind the text closes the comment in which the text stands, and nothing in the
+/// Whether an end of a comment after the text closes the comment in which the text stands, and nothing in the
 /// text does. Comments nest, and a CR spoils them.
 fn closes_at_end(text: &[u8]) -> bool
     ensures { result ≡ is_whole (run doc_step (Deep 0) (text.now ++ codes "*/")) }
@@ -106,14 +106,14 @@ fn closes_at_end(text: &[u8]) -> bool
 #[derive(Clone, Copy, Debug, PartialEq, Eq)]
 enum InComment {
     Deep(usize),
-    /// Behind a star.
+    /// After a star.
     Star(usize),
-    /// Behind a slash.
+    /// After a slash.
     Slash(usize),
 }
 
 impl InComment {
-    /// Behind one more byte, unless it closes the comment or spoils it.
+    /// After one more byte, unless it closes the comment or spoils it.
     #[tactic(auto, unfolding(crate::specs::Quoted::doc_step, crate::specs::Quoted::block_step))]
     fn step(self, byte: u8) -> Option<InComment>
         requires { depth self < 2 ^ 63 }
@@ -141,7 +141,7 @@ impl InComment {
         }
     }
 
-    /// Behind a byte that neither opens nor closes a comment.
+    /// After a byte that neither opens nor closes a comment.
     fn within(around: usize, byte: u8) -> InComment
         ensures moved { deep_step around byte ≡ Go (in_block result) }
         ensures around { depth result ≡ around }

@@ -1,4 +1,4 @@
-//! The piece at the front of a text.
+//! The piece at the beginning of a text.
 ghost use Rattle.std.specs.Prelude.{◌≡◌, ◌≢◌, ℕ, Bool, List, [], ◌∷◌, ◌++◌, length, IsTrue, IfSome, IsSomeAnd, encode_utf8_all};
 ghost use Rattle.std.specs.Str.{chars};
 ghost use Rattle.lay_piece.specs.Forms.{Had, had, is_punct_char};
@@ -23,7 +23,7 @@ pub struct Piece {
     pub len: usize,
 }
 
-/// The piece that stands at the front of a text, if one does (Rust Reference, "Tokens").
+/// The piece that stands at the beginning of a text, if one does (Rust Reference, "Tokens").
 ///
 /// `index` says that the text follows the `.` of a field, where digits may be the index of a tuple's field.
 #[inline(always)]
@@ -57,7 +57,7 @@ pub fn piece_law()
         → (kind ≡ other) × (piece ≡ longer) }
 {}
 
-/// The kind of the piece at the front, and what follows it.
+/// The kind of the piece at the beginning, and what follows it.
 #[inline(always)]
 #[tactic(auto, unfolding(crate::specs::Found::front_of))]
 fn front(index: bool, s: &str) -> Option<(Kind, &str)>

@@ -35,7 +35,7 @@ pub fn word_class(word: &[u8]) -> Class
     }
 }
 
-/// The class of a word of this first byte, by what stands behind it.
+/// The class of a word of this first byte, by what follows it.
 fn class_behind(first: u8, rest: &[u8]) -> Class
     ensures { result ≡ class_of (first ∷ rest.now) }
 {

@@ -1,4 +1,4 @@
--- Parts of a text, one list behind another.
+-- Parts of a text, one list after another.
 use Rattle.std.proofs.Common.{◌≡◌, List, [], ◌∷◌, ◌++◌, ℕ, Bool, true, false, refl, ap, ◌∙◌, append_assoc}
 use Rattle.lay_piece.specs.Forms.{had, has_form, after_literal}
 use Rattle.lay_token.specs.Lexes.{Part, Before, spell, step, steps}

@@ -48,7 +48,7 @@ LeaveOpen [] tokens = Balanced tokens
 LeaveOpen (opener ∷ others) tokens = (before inside : List Token) × (tokens ≡ before ++ opener ∷ inside)
     × IsTrue (is_opener opener.kind) × LeaveOpen others before × Balanced inside
 
--- Behind these open ones a token of this kind is a closer, and not the partner of the last.
+-- After these open ones a token of this kind is a closer, and not the partner of the last.
 abbrev pub is_stray : List Token → Kind → Bool
 is_stray [] kind = is_closer kind
 is_stray (opener ∷ others) kind = is_closer kind && not (is_pair opener.kind kind)

@@ -11,7 +11,7 @@ use Rattle.lay_piece.specs.declared.kind.Kind.{Kind}
 use Rattle.lay_piece.specs.declared.kind.Kind.TheVariants.{RawIdent, Punct, Doc}
 use Rattle.lay_token.specs.declared.token.Token.{Token}
 
--- a gap and the piece behind it
+-- a gap and the piece after it
 pub record Part : Type 0 where
   pub gap : List ℕ
   pub kind : Kind
@@ -22,13 +22,13 @@ abbrev pub spell : List Part → List ℕ → List ℕ
 spell [] last = last
 spell (p ∷ ps) last = p.gap ++ (p.piece ++ spell ps last)
 
--- what stands before a place: a point, a point behind a joint point, or anything else
+-- what stands before a place: a point, a point after a joint point, or anything else
 pub data Before : Type 0 where
   Other : Before
   Point : Before
   Points : Before
 
--- A number behind a point may be an index, but not behind `..`.
+-- A number after a point may be an index, but not after `..`.
 abbrev pub is_index_place : Before → Bool
 is_index_place Point = true
 is_index_place _ = false

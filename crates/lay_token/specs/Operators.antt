@@ -33,7 +33,7 @@ abbrev pub or_lone : Option (List ℕ) → List Token → Option (List ℕ)
 or_lone (Some op) ts = Some op
 or_lone None ts = lone_op ts
 
--- the operator at the front of the tokens: the longest that they begin with
+-- the operator at the beginning of the tokens: the longest that they begin with
 unfoldable pub op_at : List Token → Option (List ℕ)
 op_at ts = or_lone (first_op operators ts) ts
 
@@ -41,6 +41,6 @@ abbrev pub is_op_of : List ℕ → Option (List ℕ) → Bool
 is_op_of op None = false
 is_op_of op (Some other) = bytes_eq op other
 
--- The operator at the front of the tokens is this one.
+-- The operator at the beginning of the tokens is this one.
 abbrev pub is_op : List ℕ → List Token → Bool
 is_op op ts = is_op_of op (op_at ts)

@@ -50,7 +50,7 @@ source_of text = let line = front is_in_line text in record {
   start = cond (is_shebang line) (line_size text) 0;
 }
 
--- An input that is no UTF-8 is refused at the end of its longest front that is.
+-- An input that is no UTF-8 is refused at the end of its longest prefix that is.
 abbrev pub source : List ℕ → Result Source Refusal
 source bytes =
     cond (is_utf8 bytes) (Ok (source_of (folded (without_mark (chars bytes))))) (Err (NotUtf8 (utf8_valid_len bytes)))

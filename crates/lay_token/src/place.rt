@@ -28,7 +28,7 @@ fn line_feeds(bytes: &[u8]) -> usize
     bytes.iter().filter(|byte| **byte == b'\n').count()
 }
 
-/// How many bytes stand behind the last LF.
+/// How many bytes stand after the last LF.
 fn since_line_feed(bytes: &[u8]) -> usize
     ensures { result ≡ length (take_while is_in_line (reverse bytes.now)) }
 {

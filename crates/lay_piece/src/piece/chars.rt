@@ -1,4 +1,4 @@
-//! The characters at the front of a text, and runs of them.
+//! The characters at the beginning of a text, and runs of them.
 ghost use Rattle.std.specs.Prelude.{◌≡◌, ◌≤◌, ◌<◌, ◌∷◌, ◌==◌, [], length, MatchOption, IfSome, IsFalse};
 ghost use Rattle.std.specs.Str.{chars};
 ghost use Rattle.lay_piece.specs.Chars.{after, begins, in_word};
@@ -60,7 +60,7 @@ impl CharSet {
         }
     }
 
-    /// What follows the longest run of its characters at the front.
+    /// What follows the longest run of its characters at the beginning.
     #[inline(always)]
     pub fn after(self, s: &str) -> &str
         ensures run { chars result.now ≡ after (in_set self) (chars s.now) }
@@ -124,7 +124,7 @@ fn is_in_word(c: char) -> bool
     }
 }
 
-/// What follows the longest run of a word's characters at the front.
+/// What follows the longest run of a word's characters at the beginning.
 fn after_word(s: &str) -> &str
     ensures run { chars result.now ≡ after in_word (chars s.now) }
     ensures shorter { length result.now ≤ length s.now }

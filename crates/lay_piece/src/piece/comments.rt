@@ -8,7 +8,7 @@ ghost use Rattle.lay_piece.specs.Found.{Finds, Leaves, slash, line_comment, line
 use crate::kind::Kind;
 use crate::piece::chars::{CharSet, behind, first};
 
-/// A slash behind which documentation may follow, but no plain comment.
+/// A slash after which documentation may follow, but no plain comment.
 pub fn slash(tail: &str) -> Option<(Kind, &str)>
     ensures { Finds (slash (chars tail.now)) result }
 {
@@ -19,7 +19,7 @@ pub fn slash(tail: &str) -> Option<(Kind, &str)>
     }
 }
 
-/// A line of documentation, behind `//`.
+/// A line of documentation, after `//`.
 fn line_comment(s: &str) -> Option<(Kind, &str)>
     ensures { Finds (line_comment (chars s.now)) result }
 {
@@ -52,7 +52,7 @@ fn line_doc(inner: bool, s: &str) -> Option<(Kind, &str)>
     }
 }
 
-/// A block of documentation, behind `/*`.
+/// A block of documentation, after `/*`.
 fn block_comment(s: &str) -> Option<(Kind, &str)>
     ensures { Finds (block_comment (chars s.now)) result }
 {

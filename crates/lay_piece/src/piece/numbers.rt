@@ -50,7 +50,7 @@ impl Base {
 }
 
 /// A number, of which `s` is the whole text and `c` the first character. Where `index` is true, it is the digits
-/// at the front if no more of a word follows them.
+/// at the beginning if no more of a word follows them.
 pub fn number(index: bool, s: &str) -> Option<(Kind, &str)>
     ensures { Finds (number index (chars s.now)) result }
 {
@@ -101,7 +101,7 @@ fn after_run(base: Base, s: &str) -> Option<&str>
     Some(rest)
 }
 
-/// What stands behind the digits of a number: a point or an exponent makes a decimal one a Float.
+/// What follows the digits of a number: a point or an exponent makes a decimal one a Float.
 fn whole(base: Base, s: &str) -> Option<(Kind, &str)>
     ensures { Finds (whole base (chars s.now)) result }
 {
@@ -136,7 +136,7 @@ fn is_point(c: char, tail: &str) -> bool
     }
 }
 
-/// What stands behind the point of a Float.
+/// What follows the point of a Float.
 fn point(s: &str) -> Option<(Kind, &str)>
     ensures { Finds (point (chars s.now)) result }
 {
@@ -147,7 +147,7 @@ fn point(s: &str) -> Option<(Kind, &str)>
     }
 }
 
-/// What stands behind the digits of a fraction.
+/// What follows the digits of a fraction.
 fn fraction(s: &str) -> Option<(Kind, &str)>
     ensures { Finds (fraction (chars s.now)) result }
 {
@@ -161,7 +161,7 @@ fn fraction(s: &str) -> Option<(Kind, &str)>
     }
 }
 
-/// An exponent, behind its letter.
+/// An exponent, after its letter.
 fn exponent(s: &str) -> Option<(Kind, &str)>
     ensures { Finds (exponent (chars s.now)) result }
 {

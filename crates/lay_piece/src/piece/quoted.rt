@@ -1,4 +1,4 @@
-//! Characters, strings and raw strings, behind their opening.
+//! Characters, strings and raw strings, after their opening.
 ghost use Rattle.std.specs.Prelude.{◌≡◌, ◌≢◌, ◌≤◌, ◌<◌, ◌∷◌, length, IfSome, MatchOption, IsTrue, IsFalse, None};
 ghost use Rattle.std.specs.Str.{chars};
 ghost use Rattle.std.specs.Char.{is_ascii_hexdigit};
@@ -160,7 +160,7 @@ pub fn after_char(of: Contents, s: &str) -> Option<&str>
     }
 }
 
-/// What follows an escape, behind its backslash.
+/// What follows an escape, after its backslash.
 #[tactic(auto, unfolding(crate::specs::Scan::run, crate::specs::Quoted::escape_step))]
 fn after_escape(of: Contents, s: &str) -> Option<&str>
     ensures rest { Leaves (run (escape_step of) Backslash (chars s.now)) result }
@@ -178,7 +178,7 @@ fn after_escape(of: Contents, s: &str) -> Option<&str>
     }
 }
 
-/// What follows the two digits behind `\x`.
+/// What follows the two digits after `\x`.
 #[tactic(auto, unfolding(crate::specs::Scan::run, crate::specs::Quoted::escape_step))]
 fn after_byte_value(of: Contents, s: &str) -> Option<&str>
     ensures rest { Leaves (run (escape_step of) Hex (chars s.now)) result }
@@ -195,7 +195,7 @@ fn after_byte_value(of: Contents, s: &str) -> Option<&str>
     }
 }
 
-/// What follows the digits behind `\u{`, and their brace.
+/// What follows the digits after `\u{`, and their brace.
 fn after_char_value(of: Contents, s: &str) -> Option<&str>
     ensures rest { Leaves (run (escape_step of) (Digits 0 0) (chars s.now)) result }
     ensures shorter { IfSome result (λ r. length r.now ≤ length s.now) }
@@ -246,7 +246,7 @@ fn hex_value(c: char) -> Option<u32>
     }
 }
 
-/// What follows a raw string, behind its `r`.
+/// What follows a raw string, after its `r`.
 pub fn after_raw(of: Contents, s: &str) -> Option<&str>
     ensures { Leaves (after_raw of (chars s.now)) result }
 {
@@ -267,7 +267,7 @@ pub fn after_raw(of: Contents, s: &str) -> Option<&str>
     None
 }
 
-/// How many `#` stand at the front, up to a number of them, and what follows these.
+/// How many `#` come next, up to a number of them, and what follows these.
 fn hashes(most: usize, s: &str) -> (usize, &str)
     ensures count { result.0 ≡ hashes most (chars s.now) }
     ensures rest { chars result.1.now ≡ behind_hashes most (chars s.now) }

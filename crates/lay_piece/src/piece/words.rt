@@ -8,7 +8,7 @@ use crate::piece::chars::{CharSet, behind, first};
 use crate::piece::quoted::{Contents, after_char, after_raw, after_string, begins_suffix, literal};
 use crate::word::is_path_word;
 
-/// A word behind its first character. Before a quote or a `#` it is the prefix of a literal, or no token.
+/// A word after its first character. Before a quote or a `#` it is the prefix of a literal, or no token.
 #[inline(always)]
 pub fn word(c: char, tail: &str) -> Option<(Kind, &str)>
     ensures { Finds (word c (chars tail.now)) result }
@@ -34,7 +34,7 @@ fn prefixed(c: char, tail: &str) -> Option<(Kind, &str)>
     }
 }
 
-/// A raw string or a raw identifier, behind its `r`.
+/// A raw string or a raw identifier, after its `r`.
 fn raw_word(s: &str) -> Option<(Kind, &str)>
     ensures { Finds (raw_word (chars s.now)) result }
 {
@@ -47,7 +47,7 @@ fn raw_word(s: &str) -> Option<(Kind, &str)>
     }
 }
 
-/// A raw identifier, behind its `r#`.
+/// A raw identifier, after its `r#`.
 fn raw_name(s: &str) -> Option<(Kind, &str)>
     ensures { Finds (raw_name (chars s.now)) result }
 {
@@ -69,7 +69,7 @@ fn before<'a>(s: &'a str, rest: &str) -> &'a [u8]
     &s.as_bytes()[..s.len() - rest.len()]
 }
 
-/// A literal of bytes, behind its `b`.
+/// A literal of bytes, after its `b`.
 fn byte_word(s: &str) -> Option<(Kind, &str)>
     ensures { Finds (byte_word (chars s.now)) result }
 {
@@ -82,7 +82,7 @@ fn byte_word(s: &str) -> Option<(Kind, &str)>
     }
 }
 
-/// A C string, behind its `c`.
+/// A C string, after its `c`.
 fn c_word(s: &str) -> Option<(Kind, &str)>
     ensures { Finds (c_word (chars s.now)) result }
 {
@@ -94,7 +94,7 @@ fn c_word(s: &str) -> Option<(Kind, &str)>
     }
 }
 
-/// A character or a lifetime, behind its quote.
+/// A character or a lifetime, after its quote.
 pub fn quote(s: &str) -> Option<(Kind, &str)>
     ensures { Finds (quote (chars s.now)) result }
 {

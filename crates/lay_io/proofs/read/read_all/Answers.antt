@@ -1,4 +1,4 @@
--- What a turn takes stands behind what was read before it.
+-- What a turn takes stands after what was read before it.
 use Rattle.std.proofs.Common.{rules, arith, ◌≡◌, ◌≢◌, ℕ, ◌<◌, ◌≤◌, ◌-◌, Option, None, Some, IfSome, ap, sym, ◌∙◌}
 use Rattle.std.proofs.Common.{List, [], ◌++◌, take, length, append_assoc, append-nil, length-append}
 use Rattle.lay_io.specs.Faults.{Rose}
@@ -20,7 +20,7 @@ all-read before middle (Some rest) read buf bytes count first second zero ended 
     let nothing : take count buf ++ rest ≡ [] = ap (λ n. take n buf ++ rest) zero ∙ ended in
     rw (first ∙ ap (put_before read) second) (ap (λ more. read ++ more) nothing ∙ append-nil read ∙ sym same)
 
--- a text is longer than a limit that a front of it passes
+-- a text is longer than a limit that a prefix of it passes
 overran : (before middle now : Option (List ℕ)) (x y : List ℕ) (limit count len : ℕ) → before ≡ put_before x middle
     → middle ≡ put_before y now → count ≡ length y → len ≡ length x → limit - len < count
     → IfSome before (λ all. limit < length all)

@@ -15,7 +15,7 @@ underscore_in : (a b : Bool) → b ≡ true → a || b ≡ true
 underscore_in true b h = refl
 underscore_in false b h = h
 
--- the underscores, and then the run behind them
+-- the underscores, and then the run after them
 in_parts : (base : Base) (cs ds rest : List ℕ) → ds ≡ after is_underscore cs → rest ≡ after (in_digits_of base) ds
     → after_run base cs ≡ cond (begins (in_base base) ds && not (begins (in_run base) rest)) (Some rest) None
 in_parts base cs ds rest e f =

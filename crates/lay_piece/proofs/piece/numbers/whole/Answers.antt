@@ -4,7 +4,7 @@ use Rattle.lay_piece.specs.Found.{FrontPiece, Finds, whole, exponent}
 use Rattle.lay_piece.specs.declared.piece.numbers.Base.{Base}
 use Rattle.lay_piece.proofs.piece.numbers.whole.Goals as goal
 
--- the letter of an exponent behind the digits of a decimal number
+-- the letter of an exponent after the digits of a decimal number
 exponent_at : (base : Base) (cs tail : List ℕ) (c : ℕ) → cs ≡ c ∷ tail → false ≡ begins_point (c ∷ tail)
     → true ≡ is_exponent_letter c → true ≡ is_decimal base
     → exponent tail ≡ whole base cs

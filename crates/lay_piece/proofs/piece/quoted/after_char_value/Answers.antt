@@ -10,7 +10,7 @@ use Rattle.lay_piece.specs.declared.piece.quoted.Contents.{Contents}
 use Rattle.lay_piece.proofs.Runs.{next, run-nil, run-step}
 use Rattle.lay_piece.proofs.piece.quoted.after_char_value.Goals as goal
 
--- one character behind n digits of the value v
+-- one character after n digits of the value v
 at : (y : Contents) (n v c : ℕ) (text cs : List ℕ) (to : Next InEscape) → text ≡ c ∷ cs → digits_step y n v c ≡ to
     → run (escape_step y) (Digits n v) text ≡ next (escape_step y) cs to
 unfolding escape_step

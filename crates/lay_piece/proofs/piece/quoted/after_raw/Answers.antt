@@ -11,7 +11,7 @@ use Rattle.lay_piece.specs.declared.piece.quoted.Contents.{Contents}
 use Rattle.lay_piece.proofs.Runs.{run-nil, run-step, opened, raw-hashes, raw-quote}
 use Rattle.lay_piece.proofs.piece.quoted.after_raw.Goals as goal
 
--- behind the hashes that open it
+-- after the hashes that open it
 open_at : (y : Contents) (cs rest : List ℕ) (n : ℕ) → n ≡ hashes 255 cs → rest ≡ behind_hashes 255 cs
     → after_raw y cs ≡ opened y n rest
 open_at y cs rest n e f =
@@ -22,7 +22,7 @@ no_quote : (y : Contents) (n : ℕ) (rest : List ℕ) → begins (λ d. d == 34)
 no_quote y n [] h = refl
 no_quote y n (c ∷ cs) h = rw h refl
 
--- behind a quote, and the hashes that follow it
+-- after a quote, and the hashes that follow it
 close_at : (y : Contents) (n k c : ℕ) (text cs rest : List ℕ) → text ≡ c ∷ cs → c ≡ 34 → k ≡ hashes n cs
     → rest ≡ behind_hashes n cs
     → run (raw_step y) (Inside n) text ≡ cond (k == n) (Some rest) (run (raw_step y) (Inside n) rest)
