@@ -57,7 +57,7 @@ whole_some None h = cc
 whole_some (Some []) h = refl
 whole_some (Some (c ∷ cs)) h = cc
 
--- what stands behind the first character
+-- what follows the first character
 pub string_closes : (c : ℕ) (text cs : List ℕ) (r : Bool) → text ≡ c ∷ cs → r ≡ not (is_whole (after_literal Str text))
     → r ≡ false → Closes Plain cs
 unfolding after_literal

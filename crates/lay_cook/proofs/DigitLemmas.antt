@@ -12,7 +12,7 @@ use Rattle.lay_piece.specs.declared.piece.quoted.Contents.TheVariants as of
 use Rattle.lay_cook.specs.Steps.{Closes, Reads}
 use Rattle.lay_cook.proofs.StepLemmas.{Goes, goes, stays}
 
--- the two digits behind \x
+-- the two digits after \x
 high_step : (c : ℕ) (b : Bool) → is_ascii_hexdigit c ≡ b
     → string_step of.Chars (Escape Hex) c ≡ cond b (Go (Escape (HexTwo (hex_value c)))) Bad
 unfolding string_step escape_step
@@ -71,7 +71,7 @@ byte_value text tail rest high low h e f =
       };
     }
 
--- the digits behind \u{, so many of them so far
+-- the digits after \u{, so many of them so far
 pub record InDigits (v : ℕ) (cs : List ℕ) (whole : List ℕ) : Type 0 where
   pub count : ℕ
   pub few : count ≤ 6
@@ -203,7 +203,7 @@ brace v text cs whole d e = elim (cases_Bool (d.count == 0)) [
     here : Closes (Escape (Digits d.count v)) (125 ∷ cs)
     here = subst (Closes (Escape (Digits d.count v))) e d.closes
 
--- behind \u
+-- after \u
 open_step : (c : ℕ) (b : Bool) → c == 123 ≡ b
     → string_step of.Chars (Escape Open) c ≡ cond b (Go (Escape (Digits 0 0))) Bad
 unfolding string_step escape_step

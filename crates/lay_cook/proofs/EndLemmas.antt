@@ -108,7 +108,7 @@ run_ends {S = S} step p h s (c ∷ cs) e =
     go End f e more = let g : cs ≡ [] = cc in ap (λ l. ends p (c ∷ l)) g ∙ h s c f
     go Bad f e more = cc
 
--- behind the first character of a literal
+-- after the first character of a literal
 pub behind_one : (p c : ℕ) (cs : List ℕ) (f : List ℕ → Option (List ℕ)) → cond (p == c) (f cs) None ≡ Some []
     → f cs ≡ Some []
 behind_one p c cs f h = go (p == c) h

@@ -18,7 +18,7 @@ scalars_front [] y h = refl
 scalars_front (c ∷ x) y h =
     let p = and_parts (scalar c) (scalars (x ++ y)) h in and_from (scalar c) (scalars x) p.0 (scalars_front x y p.1)
 
--- a piece at the front of a text
+-- a piece at the beginning of a text
 pub piece_of_text : (k : Kind) (s piece more text : List ℕ) (index : Bool) → IsUtf8 s → chars s ≡ piece ++ more
     → Had k piece more index → text ≡ encode_utf8_all piece → IsPiece k text
 piece_of_text k s piece more text index u e h f = record {

@@ -39,7 +39,7 @@ unfolding encode
 encode-hashes zero = refl
 encode-hashes (suc n) = ap (λ l. 35 ∷ l) (encode-hashes n)
 
--- within so many hashes, and maybe behind a quote and so many hashes
+-- within so many hashes, and maybe after a quote and so many hashes
 abbrev within : ℕ → Option ℕ → InRaw
 within n None = Inside n
 within n (Some k) = Closing n k

@@ -13,7 +13,7 @@ use Rattle.lay_piece.proofs.Runs.{run-nil, run-step, string_skip}
 use Rattle.lay_piece.proofs.Fronts.{after-stops}
 use Rattle.lay_cook.specs.Steps.{Closes, Reads, is_unmarked}
 
--- The string goes on behind a character, which adds this to the value.
+-- The string goes on after a character, which adds this to the value.
 pub record Goes (s : InString) (c : ℕ) (cs : List ℕ) (said : List ℕ) (t : InString) : Type 0 where
   pub value : string_value s (c ∷ cs) ≡ said ++ string_value t cs
   pub closes : Closes t cs
@@ -43,7 +43,7 @@ pub not_empty : (s : InString) (cs : List ℕ) → Closes s cs → cs ≢ []
 not_empty s cs h e =
     let f : None ≡ Some [] = sym (run-nil (string_step of.Chars) s) ∙ subst (Closes s) e h in cc
 
--- behind a backslash
+-- after a backslash
 line_step : string_step of.Chars Turned 10 ≡ Go Skip
 unfolding string_step
 line_step = refl
@@ -175,7 +175,7 @@ closed cs rest e h = go rest h (ap (begins is_unmarked) e ∙ after-stops is_unm
       | inr e ↦ let f : is_unmarked c ≡ true = rw (e, h) refl in cc
     ]
 
--- a character that says nothing, and what is read behind it
+-- a character that says nothing, and what is read after it
 pub silent : (s t : InString) (c : ℕ) (text cs said rest : List ℕ) → text ≡ c ∷ cs → Goes s c cs [] t
     → Reads t cs said rest → Reads s text said rest
 silent s t c text cs said rest e g r = record {

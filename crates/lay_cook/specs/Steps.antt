@@ -15,11 +15,11 @@ IsLiteral kind cs = IsTrue (is_literal_end (after_literal kind cs))
 abbrev pub Closes : InString → List ℕ → Type 0
 Closes s cs = run (string_step of.Chars) s cs ≡ Some []
 
--- The text is a raw string, behind its r, to its closing quote and hashes.
+-- The text is a raw string, after its r, to its closing quote and hashes.
 abbrev pub ClosesRaw : List ℕ → Type 0
 ClosesRaw cs = after_raw of.Chars cs ≡ Some []
 
--- The front of a string's rest says this, and the string goes on with what follows.
+-- The beginning of a string's rest says this, and the string goes on with what follows.
 pub record Reads (s : InString) (cs said rest : List ℕ) : Type 0 where
   pub value : string_value s cs ≡ said ++ string_value Plain rest
   pub closes : Closes Plain rest

@@ -6,7 +6,7 @@ ghost use Rattle.lay_cook.specs.Steps.{ClosesRaw};
 
 use lay_token::piece::chars::CharSet;
 
-/// What stands between the quotes of a raw string, which is passed from behind its `r` to its end.
+/// What stands between the quotes of a raw string, which is passed from after its `r` to its end.
 pub fn raw_value(quoted: &str) -> &[u8]
     requires { ClosesRaw (chars quoted.now) }
     ensures { result.now ≡ encode_utf8_all (raw_value (chars quoted.now)) }

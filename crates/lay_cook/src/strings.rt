@@ -1,4 +1,4 @@
-//! The values of strings, from behind their opening quote to their end.
+//! The values of strings, from after their opening quote to their end.
 ghost use Rattle.std.specs.Prelude.{◌≡◌, ◌≢◌, ◌≤◌, ◌<◌, ◌∷◌, ◌++◌, [], length, IsTrue, OnOk, encode_utf8_all, option_to_list};
 ghost use Rattle.std.specs.Str.{chars};
 ghost use Rattle.std.specs.Char.{is_ascii_hexdigit};
@@ -32,7 +32,7 @@ pub fn push_value(value: &mut Text, inside: &str) -> Result<(), NoMemory>
     }
 }
 
-/// The characters at the front that stand for themselves, and what follows them.
+/// The characters at the beginning that stand for themselves, and what follows them.
 fn run(s: &str) -> (&[u8], &str)
     ensures run { result.0.now ≡ encode_utf8_all (front is_unmarked (chars s.now)) }
     ensures rest { chars result.1.now ≡ after is_unmarked (chars s.now) }
@@ -42,7 +42,7 @@ fn run(s: &str) -> (&[u8], &str)
     (&s.as_bytes()[..s.len() - rest.len()], rest)
 }
 
-/// What follows the characters at the front that stand for themselves.
+/// What follows the characters at the beginning that stand for themselves.
 fn after_run(s: &str) -> &str
     ensures run { chars result.now ≡ after is_unmarked (chars s.now) }
     ensures shorter { length result.now ≤ length s.now }
@@ -67,7 +67,7 @@ fn push_escaped(value: &mut Text, escaped: Option<char>) -> Result<(), NoMemory>
     }
 }
 
-/// The character that an escape stands for, behind its backslash, and what follows it. A skipped line end stands
+/// The character that an escape stands for, after its backslash, and what follows it. A skipped line end stands
 /// for none.
 fn escape(s: &str) -> (Option<char>, &str)
     requires { Closes Turned (chars s.now) }
@@ -103,7 +103,7 @@ fn short_escape(c: char) -> char
     }
 }
 
-/// The character of the two digits behind `\x`, and what follows them.
+/// The character of the two digits after `\x`, and what follows them.
 fn byte_value(s: &str) -> (char, &str)
     requires { Closes (Escape Hex) (chars s.now) }
     ensures value { Reads (Escape Hex) (chars s.now) (result.0 ∷ []) (chars result.1.now) }
@@ -114,7 +114,7 @@ fn byte_value(s: &str) -> (char, &str)
     ((16 * digit(high) + digit(low)) as char, rest)
 }
 
-/// The character of the digits behind `\u`, and what follows their closing brace.
+/// The character of the digits after `\u`, and what follows their closing brace.
 fn char_value(s: &str) -> (char, &str)
     requires { Closes (Escape Open) (chars s.now) }
     ensures value { Reads (Escape Open) (chars s.now) (result.0 ∷ []) (chars result.1.now) }

@@ -1,4 +1,4 @@
--- A token behind those that were read: the last of them is joint with it, or they are as they were.
+-- A token after those that were read: the last of them is joint with it, or they are as they were.
 use Rattle.std.proofs.Common.{◌≡◌, ℕ, not, cond, Bool, true, false, if◌then◌else◌, ◌&&◌, List, [], ◌∷◌, ◌++◌, length, ◌<◌, inl, inr, sym, refl, ap, ◌∙◌, arith}
 use Rattle.std.proofs.lemmas.Bool.{cases_Bool}
 use Rattle.lay_token.specs.declared.token.Token.{Token}
@@ -68,7 +68,7 @@ pushed touches mark may joint next old ts us read m j e f g h r =
     h ∙ ap (λ (l : List Token). if joint then last_joint l else l) g ∙ ap (λ (b : Bool). if b then last_joint old else old) test in
     r ∙ added_by touches mark next old us m j tokens
 
--- of punctuation its text alone tells whether it may be joint, and what stands behind it
+-- of punctuation its text alone tells whether it may be joint, and what follows it
 pub punct_mark : (t : Token) (text : List ℕ) → is_punct t.kind ≡ true → t.text ≡ text → not (is_separator text) ≡ is_mark t
 punct_mark t text k e = sym (ap (λ (b : Bool). b && not (is_separator t.text)) k ∙ ap (λ (l : List ℕ). not (is_separator l)) e)
 

@@ -40,23 +40,23 @@ other_spoils : (c : ℕ) → is_white c ≡ false → c ≢ 47 → Spoilt ≡ ga
 unfolding gap_step
 other_spoils c h n = rw (h, ne_eqb c 47 n) refl
 
--- white space at the front
+-- white space at the beginning
 pub rest_of-white : (text cs : List ℕ) (c : ℕ) → text ≡ c ∷ cs → is_white c ≡ true
     → rest_of Outside cs cs ≡ rest_of Outside text text
 rest_of-white text cs c e h = rest_of-step Outside Outside text text cs c true e (white_stays c h) refl
 
--- a character at the front that no gap begins with
+-- a character at the beginning that no gap begins with
 pub rest_of-other : (text cs : List ℕ) (c : ℕ) → text ≡ c ∷ cs → is_white c ≡ false → c ≢ 47
     → rest_of Outside text text ≡ Some text
 rest_of-other text cs c e h n =
     sym (rest_of-step Outside Spoilt text text cs c false e (other_spoils c h n) refl) ∙ rest_of-spoilt text cs
 
--- no front of the text closes the gap, and the text may not end in it
+-- no prefix of the text closes the gap, and the text may not end in it
 pub record Held (s : InGap) (cs : List ℕ) : Type 0 where
   pub none : (gap rest : List ℕ) → cs ≡ gap ++ rest → IsTrue (is_closed (gap_end s gap)) → gap ≡ []
   pub unended : IsFalse (is_closed_or_line (gap_end s cs))
 
--- a front of the text closes the gap, and no longer one does
+-- a prefix of the text closes the gap, and no longer one does
 pub record Passed (s : InGap) (cs r : List ℕ) : Type 0 where
   pub gap : List ℕ
   pub whole : cs ≡ gap ++ r
@@ -130,7 +130,7 @@ none_left s closed (c ∷ cs) h = none_left (gap_step s c) (cond (is_closed (gap
 pub last_gap : (text : List ℕ) → rest_of Outside text text ≡ None → IsTrue (is_last_gap text)
 last_gap text h = none_left Outside text text h
 
--- the longest gap at the front
+-- the longest gap at the beginning
 pub record Longest (text rest : List ℕ) : Type 0 where
   pub gap : List ℕ
   pub whole : text ≡ gap ++ rest

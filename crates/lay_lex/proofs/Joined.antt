@@ -1,4 +1,4 @@
--- Windows one behind another: their tokens are those of the whole, and those of one window are what some text lexes to.
+-- Windows one after another: their tokens are those of the whole, and those of one window are what some text lexes to.
 use Rattle.std.proofs.Common.{◌≡◌, ℕ, ◌+◌, List, [], ◌∷◌, ◌++◌, Bool, true, false, not, ◌||◌, ◌&&◌, ◌⊎◌, inl, inr, sym, refl, ap, ◌∙◌, subst, arith, length, take, drop, IsUtf8, length-drop}
 use Rattle.std.specs.Prelude.{◌==◌, codes, cond}
 use Rattle.std.specs.Str.{bytes_eq, chars, encode_utf8_all, IsCharBoundary}
@@ -144,7 +144,7 @@ tokens_joined b at (p ∷ r ∷ ps) qs x f e =
     ap (λ (l : List Token). token_at p (is_joint p rest) place ∷ l)
     (tokens_joined (step b p) (place + size p.piece) (r ∷ ps) qs x f.2 e ∙ ap (λ (n : ℕ). tokens_from (place + size p.piece) rest ++ tokens_from n qs) sum)
 
--- ---- one window behind another
+-- ---- one window after another
 
 ends_last : (ts us : List Token) → ends_in_stop us ≡ true → ends_in_stop (ts ++ us) ≡ true
 ends_last [] us e = e
@@ -188,7 +188,7 @@ module _ (text : List ℕ) (from to : ℕ) (ts : List Token) (u : IsUtf8 text) (
     border = y.border;
   }
 
-  -- Behind a window the text lexes to more tokens: it lexes to all of them.
+  -- After a window the text lexes to more tokens: it lexes to all of them.
   pub joined_end : (us : List Token) → Lexes text to us → Lexes text from (ts ++ us)
   joined_end us l = (
     x.parts ++ l.0,

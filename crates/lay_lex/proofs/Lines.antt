@@ -32,7 +32,7 @@ line_end s r us ur e =
     let n : length (encode_utf8_all ds) ≡ length s - length r = omega (arith, length_parts s r ds us ur (line_parts s r e)) in
     subst (IsCharBoundary s) n seam
 
--- the bytes of the LF behind the line
+-- the bytes of the LF after the line
 abbrev feed : List ℕ → ℕ
 feed xs = cond (is_nil xs) 0 1
 
@@ -62,7 +62,7 @@ source-no_text bytes at n l =
     let e : is_utf8 bytes ≡ false = false_from_ne_true (is_utf8 bytes) (λ h. n (IsUtf8-from_is_utf8 bytes h)) in
     rw (e, l) refl
 
--- A text may be cut where its first line ends, and behind the LF there.
+-- A text may be cut where its first line ends, and after the LF there.
 border : (ds more : List ℕ) → scalars more ≡ true → IsCharBoundary (encode_utf8_all (ds ++ more)) (size ds)
 border ds more h =
     IsCharBoundary-at_seam (encode_utf8_all (ds ++ more)) (encode_utf8_all ds) (encode_utf8_all more) (encodes-append ds more)

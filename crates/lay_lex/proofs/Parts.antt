@@ -61,7 +61,7 @@ pub record SoFar (start : ℕ) (bytes ahead : List ℕ) (tokens : List Token) (b
   pub tokens_are : tokens ≡ tokens_from start parts
   pub before_is : before ≡ steps Other parts
 
--- It is read as far as where `rest` begins, behind the longest gap in front of `ahead`.
+-- It is read as far as where `rest` begins, after the longest gap before `ahead`.
 pub record Reached (start : ℕ) (bytes ahead rest : List ℕ) (tokens : List Token) (before : Before) : Type 0 where
   pub parts : List Part
   pub gap : List ℕ
@@ -111,7 +111,7 @@ pub ended : {start : ℕ} {bytes ahead : List ℕ} {tokens : List Token} {before
     → IsTrue (is_last_gap (chars ahead)) → Lexes bytes start tokens
 ended {ahead = ahead} s l = (s.parts, chars ahead, record { whole = s.whole; fit = s.fit; end = l }, s.tokens_are)
 
--- no piece stands behind the gap
+-- no piece stands after the gap
 pub stopped : {start : ℕ} {bytes ahead rest : List ℕ} {tokens : List Token} {before : Before}
     → Reached start bytes ahead rest tokens before → BeginsNoPiece (chars rest) (is_index_place before)
     → NoTokenAt bytes start (length bytes - length rest)

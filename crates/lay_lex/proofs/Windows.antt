@@ -1,4 +1,4 @@
--- Windows: the tokens of some parts of a text, one window behind another.
+-- Windows: the tokens of some parts of a text, one window after another.
 use Rattle.std.proofs.Common.{◌≡◌, ℕ, ◌+◌, ◌-◌, ◌≤◌, List, [], ◌∷◌, ◌++◌, true, false, sym, refl, ap, ◌∙◌, subst, arith, length, take, drop, IsUtf8, length-append, Err}
 use Rattle.std.specs.Str.{chars, encode_utf8_all, IsCharBoundary}
 use Rattle.std.proofs.Math.Seq.{drop-append_seam}

@@ -17,11 +17,11 @@ before place.Points = lexes.Points
 abbrev pub is_point_token : Token → Bool
 is_point_token t = is_punct t.kind && bytes_eq t.text (codes ".")
 
--- what stands behind the token, before which no gap stands if it touches
+-- what follows the token, before which no gap stands if it touches
 abbrev pub behind : lexes.Before → Bool → Token → lexes.Before
 behind b touches t = cond (is_point_token t) (cond (is_point b && touches) lexes.Points lexes.Point) lexes.Other
 
--- The token may be joint, or stand behind one that is.
+-- The token may be joint, or stand after one that is.
 abbrev pub is_mark : Token → Bool
 is_mark t = is_punct t.kind && not (is_separator t.text)
 

@@ -12,7 +12,7 @@ use Rattle.lay_lex.specs.declared.window.Stop.{Stop}
 use Rattle.lay_lex.specs.declared.window.Stop.TheVariants.{End, More, Opened, Closed}
 use Rattle.lay_lex.specs.declared.window.Window.{Window}
 
--- a delimiter or a `;`, of which nothing that stands behind makes another token
+-- a delimiter or a `;`, of which nothing that follows makes another token
 abbrev pub is_stop : Kind → List ℕ → Bool
 is_stop kind text = is_opener kind || (is_closer kind || is_punct kind && bytes_eq text (codes ";"))
 

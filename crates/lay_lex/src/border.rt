@@ -25,7 +25,7 @@ pub fn ends_before(
     }
 }
 
-/// What a window ends behind, if it does behind the last token, before which so many groups were open.
+/// What a window ends after, if a window may end after the last token; this many groups were open before that token.
 #[inline]
 pub fn ends_behind(least: Option<usize>, open: usize, tokens: &[Token]) -> Option<Stop>
     ensures stops { IsSome result → IsTrue (ends_in_stop tokens.now) }
@@ -39,7 +39,7 @@ pub fn ends_behind(least: Option<usize>, open: usize, tokens: &[Token]) -> Optio
     }
 }
 
-/// How many groups are open behind a token of this kind.
+/// How many groups are open after a token of this kind.
 #[inline]
 pub fn open_behind(open: usize, kind: Kind) -> usize {
     match kind {
@@ -77,7 +77,7 @@ fn ends_in_module(tokens: &[Token]) -> bool {
     }
 }
 
-/// Whether the last token may end an item, which goes on behind it in few ways.
+/// Whether the last token may end an item, which goes on after it in few ways.
 fn ends_item(tokens: &[Token]) -> bool
     ensures { IsTrue result → IsTrue (ends_in_stop tokens.now) }
 {

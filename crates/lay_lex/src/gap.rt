@@ -34,17 +34,17 @@ fn is_rare_white(c: char) -> bool
 enum State {
     /// Between comments.
     Outside,
-    /// Behind `/`.
+    /// After `/`.
     Opening,
-    /// Behind `//`.
+    /// After `//`.
     Two,
-    /// Behind `///`.
+    /// After `///`.
     Three,
     /// In a plain line comment.
     Line,
-    /// Behind `/*`.
+    /// After `/*`.
     Block,
-    /// Behind `/**`.
+    /// After `/**`.
     BlockStar,
     /// In a plain block comment.
     Within(InBlock),
@@ -56,14 +56,14 @@ enum State {
 #[derive(Clone, Copy)]
 enum InBlock {
     Deep(usize),
-    /// Behind a star.
+    /// After a star.
     Star(usize),
-    /// Behind a slash.
+    /// After a slash.
     Slash(usize),
 }
 
 impl State {
-    /// Behind one more character.
+    /// After one more character.
     #[tactic(auto, unfolding(lay_piece::specs::Gap::gap_step, lay_piece::specs::Quoted::block_step))]
     fn step(self, c: char) -> State
         requires { depth self < 2 ^ 63 }
@@ -124,7 +124,7 @@ impl State {
 }
 
 impl InBlock {
-    /// Behind one more character.
+    /// After one more character.
     #[tactic(auto, unfolding(lay_piece::specs::Quoted::block_step))]
     fn step(self, c: char) -> State
         requires { open_around self < 2 ^ 63 }
@@ -148,7 +148,7 @@ impl InBlock {
         }
     }
 
-    /// Behind a character that goes with none before it.
+    /// After a character that goes with none before it.
     fn lone(more: usize, c: char) -> State
         ensures moved { in_gap result ≡ in_block (deep_step more c) }
         ensures same_depth { depth result ≡ more }
@@ -161,7 +161,7 @@ impl InBlock {
     }
 }
 
-/// What follows the longest gap at the front; nothing where a gap ends the whole text.
+/// What follows the longest gap at the beginning; nothing where a gap ends the whole text.
 #[inline(always)]
 pub fn after_gap(s: &str) -> Option<&str>
     ensures { Leaves (rest_of Outside (chars s.now) (chars s.now)) result }
@@ -179,7 +179,7 @@ pub fn after_gap(s: &str) -> Option<&str>
     None
 }
 
-/// What follows the longest gap at the front, which may hold comments.
+/// What follows the longest gap at the beginning, which may hold comments.
 fn after_comments(s: &str) -> Option<&str>
     ensures { Leaves (rest_of Outside (chars s.now) (chars s.now)) result }
 {

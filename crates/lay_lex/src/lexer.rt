@@ -42,8 +42,8 @@ fn tokens_of(alloc: Global, text: &str, start: usize) -> Result<List<Token>, For
     }
 }
 
-/// The tokens of a text from a place on, and how far they go: to the end, or, behind so many tokens at least, to where an item
-/// may end and another begin outside all groups. They end behind the opening brace of a module too, and behind a closing
+/// The tokens of a text from a place on, and how far they go: to the end, or, after so many tokens at least, to where an item
+/// may end and another begin outside all groups. They end after the opening brace of a module too, and after a closing
 /// brace that is the partner of none of them.
 ///
 /// It refuses the first place past gaps where no token is had, if it comes to that.

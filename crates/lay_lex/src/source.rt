@@ -19,7 +19,7 @@ pub struct Source {
     pub shebang: Option<Text>,
     /// The whole text, without a byte order mark and with each CR LF as one LF.
     pub text: List<u8>,
-    /// Where lexing begins, behind a shebang line.
+    /// Where lexing begins, after a shebang line.
     pub start: usize,
 }
 
@@ -196,7 +196,7 @@ fn is_no_command(s: &str) -> bool
     }
 }
 
-/// What follows the white space at the front.
+/// What follows the white space at the beginning.
 fn after_white(s: &str) -> &str
     ensures { chars result.now ≡ after is_white (chars s.now) }
 {

@@ -17,12 +17,12 @@ pub enum Before {
     Other,
     /// A point.
     Point,
-    /// A point behind a joint point.
+    /// A point after a joint point.
     Points,
 }
 
 impl Before {
-    /// What stands behind punctuation, which is a point or isn't; `touches` says that no gap stands before it.
+    /// What follows punctuation, which is a point or isn't; `touches` says that no gap stands before it.
     pub fn behind(self, point: bool, touches: bool) -> Before
         ensures { before result ≡ cond point (cond
             (is_point (before self) && touches) lexes.Points lexes.Point) lexes.Other }
@@ -147,7 +147,7 @@ impl Tokens {
         })
     }
 
-    /// Whether a number behind the tokens may be an index.
+    /// Whether a number after the tokens may be an index.
     pub fn is_index_place(&self) -> bool
         ensures { result ≡ is_index_place (before self.now.before) }
     {

@@ -1,4 +1,4 @@
-//! Windows: some of the tokens of a text, one behind another.
+//! Windows: some of the tokens of a text, one after another.
 use lay_token::{List, Token};
 
 /// Where a window ends.
@@ -8,9 +8,9 @@ pub enum Stop {
     End,
     /// Between two items.
     More,
-    /// Behind the opening brace of a module.
+    /// After the opening brace of a module.
     Opened,
-    /// Behind a closing brace that is the partner of none of its tokens.
+    /// After a closing brace that is the partner of none of its tokens.
     Closed,
 }
 

@@ -69,7 +69,7 @@ abbrev of_two : List ℕ → Bool
 of_two (c ∷ d ∷ []) = not (c == 0) && not (d == 0)
 of_two _ = false
 
--- behind a joint token
+-- after a joint token
 begins_three : (op : List ℕ) (t : Token) (ts : List Token) → of_three op ≡ true → t.joint ≡ true
     → begins_op op (t ∷ ts) ≡ bytes_eq op (mark t ∷ first_mark ts ∷ second_mark ts ∷ [])
 begins_three [] t ts h j = absurd (false≢true h)

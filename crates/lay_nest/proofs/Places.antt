@@ -10,7 +10,7 @@ use Rattle.lay_nest.specs.Spans.{Spanned, spans_of}
 use Rattle.lay_nest.proofs.Delimiters.{not_pair_stray}
 use Rattle.lay_nest.proofs.Steps.{length-spans}
 
--- trees behind trees
+-- trees after trees
 abbrev joined : Trees → Trees → Trees
 joined delimiters.NoTree more = more
 joined (delimiters.One t rest) more = delimiters.One t (joined rest more)
@@ -35,7 +35,7 @@ paired-joined delimiters.NoTree more p q = q
 paired-joined (delimiters.One t rest) more p q = (p.0, p.1, paired-joined rest more p.2 q)
 paired-joined (delimiters.Nest o inside c rest) more p q = (p.0, p.1, paired-joined rest more p.2 q)
 
--- trees behind the last of what is read
+-- trees after the last of what is read
 abbrev with_trees : Partial → Trees → Partial
 with_trees (Closed trees) more = Closed (joined trees more)
 with_trees (Within before o inside) more = Within before o (joined inside more)
@@ -84,7 +84,7 @@ front_is : {X : Type 0} (ys : List X) (x : X) → slice_get ys 0 ≡ Some x → 
 front_is [] x e = cc
 front_is (y ∷ ys) x e = (ys, cc)
 
--- the next token, behind those read
+-- the next token, after those read
 pub next_is : {tokens : List Token} {spans places : List ℕ} (s : SoFar tokens spans places) (t : Token)
     → slice_get tokens (length spans) ≡ Some t
     → (more : List Token) × (s.behind ≡ t ∷ more)
@@ -135,7 +135,7 @@ read_opener {tokens} {spans} {places} s t e o =
       places_are = ap (λ ns. ns ++ length spans ∷ []) s.places_are ∙ ap (λ k. places_open s.partial ++ k ∷ []) n;
     }
 
--- The last opener that is still open stands at this place, behind the others.
+-- The last opener that is still open stands at this place, after the others.
 pub record LastOpen (tokens : List Token) (spans others : List ℕ) (at : ℕ) : Type 0 where
   pub before : Partial
   pub opener : Token

@@ -1,4 +1,4 @@
--- What is ahead behind a token, and behind a group.
+-- What is ahead after a token, and after a group.
 use Rattle.std.proofs.Common.{◌≡◌, ℕ, ◌<◌, true, List, [], ◌∷◌, ◌++◌, length, drop, get_or, IsTrue, Some, refl, sym, ap, ◌∙◌, subst, arith, append_assoc, length-append}
 use Rattle.std.specs.List.{slice_get}
 use Rattle.std.proofs.lemmas.Bool.{false≢true}
@@ -67,7 +67,7 @@ step_ahead (UpTo (delimiters.Nest o inside c trees) closer more) p h = record {
   spans_are = append_assoc (spans_of inside) (0 ∷ spans_of trees) (0 ∷ spans_ahead more);
 }
 
--- What is ahead behind a token.
+-- What is ahead after a token.
 pub stepped : {tokens : List Token} {spans : List ℕ} → SpannedAhead tokens spans → 0 < length tokens
     → SpannedAhead (drop 1 tokens) (drop 1 spans)
 stepped {tokens} {spans} s h =
@@ -76,7 +76,7 @@ stepped {tokens} {spans} s h =
     let g : 0 < length (tokens_ahead s.ahead) = omega (arith, ap length s.tokens_are) in
     subst Q (sym s.spans_are) (subst P (sym s.tokens_are) (step_ahead s.ahead s.paired g))
 
--- An opener that a caller has seen at the front begins a group.
+-- An opener that a caller has seen at the beginning begins a group.
 pub begins_group_opener : (tokens : List Token) (opener : Token) → slice_get tokens 0 ≡ Some opener
     → is_opener opener.kind ≡ true
     → begins_group tokens ≡ true
@@ -84,7 +84,7 @@ begins_group_opener [] opener e h = cc
 begins_group_opener (t ∷ ts) opener e h =
     let same : t ≡ opener = cc in ap (λ (o : Token). is_opener o.kind) same ∙ h
 
--- The group at the front, and what is ahead behind it.
+-- The group at the beginning, and what is ahead after it.
 pub record Opened (tokens : List Token) (spans : List ℕ) : Type 0 where
   pub opener : Token
   pub closer : Token

@@ -1,4 +1,4 @@
--- The token tree at the front of tokens.
+-- The token tree at the beginning of tokens.
 use Rattle.std.proofs.Common.{◌≡◌, Bool, true, false, not, List, [], ◌∷◌, ◌++◌, drop, get_or, IsTrue, refl, sym, ap, ◌∙◌, arith, append_assoc}
 use Rattle.std.proofs.lemmas.Bool.{false≢true}
 use Rattle.lay_token.specs.Delimiters.{One, Nest, NoTree, is_opener}
@@ -34,7 +34,7 @@ token_tree (t ∷ ts) h g = record {
   some = omega arith;
 }
 
--- A token at the front that is no opener begins no group.
+-- A token at the beginning that is no opener begins no group.
 pub front_plain : (tokens : List Token) (default : Token) → is_opener (get_or tokens 0 default).kind ≡ false
     → begins_group tokens ≡ false
 front_plain [] default h = refl

@@ -4,7 +4,7 @@ use Rattle.lay_token.specs.Delimiters.{Trees, Paired, tokens_of, is_closer}
 use Rattle.lay_token.specs.declared.token.Token.{Token}
 use Rattle.lay_nest.specs.Spans.{spans_of}
 
--- token trees, or those up to a closer whose opener was stepped over, and what is ahead behind it
+-- token trees, or those up to a closer whose opener was stepped over, and what is ahead after it
 pub data Ahead : Type 0 where
   Last : Trees → Ahead
   UpTo : Trees → Token → Ahead → Ahead

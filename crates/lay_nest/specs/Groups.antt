@@ -1,4 +1,4 @@
--- A group and a token tree at the front of tokens.
+-- A group and a token tree at the beginning of tokens.
 use Rattle.std.specs.Prelude.{◌≡◌, ◌<◌, Bool, true, false, not, List, [], ◌∷◌, ◌++◌, length, IsTrue}
 use Rattle.lay_token.specs.Delimiters.{Balanced, NoTree, One, Nest, Paired, Trees, is_opener, is_closer, is_pair, tokens_of}
 use Rattle.lay_token.specs.declared.token.Token.{Token}
@@ -8,7 +8,7 @@ abbrev pub begins_group : List Token → Bool
 begins_group [] = false
 begins_group (t ∷ ts) = is_opener t.kind
 
--- The tokens are a group and what is behind it: an opener, the tokens inside, and the partner of the opener.
+-- The tokens are a group and what follows it: an opener, the tokens inside, and the partner of the opener.
 pub record Grouped (tokens inside behind : List Token) : Type 0 where
   pub opener : Token
   pub closer : Token
@@ -30,7 +30,7 @@ is_one _ = false
 abbrev pub AreTree : List Token → Type 0
 AreTree tokens = (tree : Trees) × IsTrue (is_one tree) × Paired tree × (tokens ≡ tokens_of tree)
 
--- The tokens are a token tree and what is behind it.
+-- The tokens are a token tree and what follows it.
 pub record BehindTree (tokens behind : List Token) : Type 0 where
   pub tree : List Token
   pub whole : tokens ≡ tree ++ behind

@@ -1,4 +1,4 @@
--- The characters of the operator at the front of tokens.
+-- The characters of the operator at the beginning of tokens.
 use Rattle.std.specs.Prelude.{ℕ, ◌==◌, Bool, true, false, ◌&&◌, cond, List, [], ◌∷◌, take, drop}
 use Rattle.lay_token.specs.Lexes.{is_punct}
 use Rattle.lay_token.specs.Operators.{operators}

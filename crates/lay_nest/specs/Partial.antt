@@ -7,7 +7,7 @@ use Rattle.lay_nest.specs.Nested.{RefusedAs}
 use Rattle.lay_nest.specs.Spans.{spans_of}
 use Rattle.lay_nest.specs.declared.partners.Reading.{Reading}
 
--- token trees, behind each of the openers that are still open
+-- token trees, after each of the openers that are still open
 pub data Partial : Type 0 where
   Closed : Trees → Partial
   Within : Partial → Token → Trees → Partial

@@ -48,7 +48,7 @@ impl<'a> Cursor<'a> {
         }
     }
 
-    /// The token behind this many others, or `None` where no more than so many are ahead.
+    /// The token after this many others, or `None` where no more than so many are ahead.
     pub fn peek(&self, ahead: usize) -> Option<&'a Token>
         ensures token { option_copied result ≡ slice_get self.now ahead }
         ensures within { MatchOption result (length self.now ≤ ahead)
@@ -64,7 +64,7 @@ impl<'a> Cursor<'a> {
         self.tokens.is_empty()
     }
 
-    /// Whether the operator at the front is this one (Rust Reference, "Punctuation").
+    /// Whether the operator at the beginning is this one (Rust Reference, "Punctuation").
     pub fn op_is(&self, op: &[u8]) -> bool
         ensures { result ≡ is_op op.now self.now }
     {
@@ -80,7 +80,7 @@ impl<'a> Cursor<'a> {
         self.spans = behind_first(self.spans);
     }
 
-    /// Moves past the group at the front, and gives what is inside its delimiters.
+    /// Moves past the group at the beginning, and gives what is inside its delimiters.
     pub fn group(&mut self) -> Cursor<'a>
         requires { IsTrue (begins_group self.old) }
         ensures { Grouped self.old result self.new }
@@ -93,7 +93,7 @@ impl<'a> Cursor<'a> {
         Cursor { tokens, spans }
     }
 
-    /// Moves past the token tree at the front, and gives its tokens: one token, or a group with its delimiters
+    /// Moves past the token tree at the beginning, and gives its tokens: one token, or a group with its delimiters
     /// (Rust Reference, "Macros": token trees).
     pub fn tree(&mut self) -> &'a [Token]
         requires { IsTrue (begins_tree self.old) }
@@ -106,7 +106,7 @@ impl<'a> Cursor<'a> {
         &tokens[..tokens.len() - self.as_slice().len()]
     }
 
-    /// Moves past the token tree at the front.
+    /// Moves past the token tree at the beginning.
     fn pass_tree(&mut self)
         requires { IsTrue (begins_tree self.old) }
         ensures { BehindTree self.old self.new }
@@ -133,7 +133,7 @@ fn is_opener(token: &Token) -> bool
     matches!(token.kind, Kind::Opener(_))
 }
 
-/// What is behind the first item.
+/// What follows the first item.
 fn behind_first<T>(items: &[T]) -> &[T]
     requires { 0 < length items.now }
     ensures { result.now ≡ drop 1 items.now }
@@ -141,7 +141,7 @@ fn behind_first<T>(items: &[T]) -> &[T]
     &items[1..]
 }
 
-/// What stands between the delimiters of the group at the front, which has this span, and what is behind it.
+/// What stands between the delimiters of the group at the beginning, which has this span, and what follows it.
 fn split_group<T>(items: &[T], span: usize) -> (&[T], &[T])
     requires { (opener closer : T) × (inside : List T) × (behind : List T)
         × (items.now ≡ opener ∷ (inside ++ closer ∷ behind)) × (span ≡ length inside) }

@@ -1,4 +1,4 @@
-//! The operator at the front of tokens.
+//! The operator at the beginning of tokens.
 ghost use Rattle.std.specs.Prelude.{◌≡◌, true, ◌&&◌, ◌∷◌, []};
 ghost use Rattle.std.specs.Str.{bytes_eq};
 ghost use Rattle.lay_token.specs.Lexes.{is_punct};
@@ -8,7 +8,7 @@ ghost use Rattle.lay_nest.specs.Marks.{first_mark, is_same_first, mark, may_begi
 
 use lay_token::{Kind, Token};
 
-/// Whether the operator at the front of the tokens is this one: the longest that they begin with (Rust Reference,
+/// Whether the operator at the beginning of the tokens is this one: the longest that they begin with (Rust Reference,
 /// "Punctuation").
 pub fn is_op(tokens: &[Token], op: &[u8]) -> bool
     ensures { result ≡ is_op op.now tokens.now }
@@ -40,7 +40,7 @@ fn is_same_first(text: &[u8], op: &[u8]) -> bool
     }
 }
 
-/// Whether the operator at the front of the tokens is this one.
+/// Whether the operator at the beginning of the tokens is this one.
 #[inline(never)]
 fn is_begun(front: &Token, behind: &[Token], op: &[u8]) -> bool
     ensures { result ≡ is_op op.now (front.now ∷ behind.now) }

@@ -16,7 +16,7 @@ use Rattle.lay_lex.specs.Gap.{rest_of}
 use Rattle.lay_lex.proofs.Gaps.{Longest, last_gap, longest}
 use Rattle.lay_lex.specs.one_by_one.Ahead.{Next, next_is, next_part, parts_by, parts_in, parts_of, up_to, with_gap, with_piece}
 
--- ---- the part at the front
+-- ---- the part at the beginning
 
 -- what stands before the end
 up_to_end : (x y : List ℕ) → up_to (x ++ y) y ≡ x
@@ -27,7 +27,7 @@ up_to_end x y =
 pub up_to_is : (cs x y : List ℕ) → cs ≡ x ++ y → up_to cs y ≡ x
 up_to_is cs x y e = ap (λ (l : List ℕ). up_to l y) e ∙ up_to_end x y
 
--- A text isn't its last gap where a gap and a piece stand at its front.
+-- A text isn't its last gap where a gap and a piece stand at its beginning.
 unended : (gap piece rest cs : List ℕ) (k : Kind) (i : Bool) → cs ≡ gap ++ (piece ++ rest) → IsTrue (is_gap gap) → Had k piece rest i
     → IsTrue (is_last_gap cs) → ⊥
 unended gap piece rest cs k i e g h l =
@@ -44,7 +44,7 @@ gap_found gap piece rest cs k i e g h (Some r) f =
     let gaps : l.gap ≡ gap = gap_unique l.gap gap r (piece ++ rest) both l.closed g l.no_more (piece_no_gap k piece rest i h) in
     ap (λ (x : List ℕ). Some x) (same_rest l.gap r (piece ++ rest) (both ∙ ap (λ (x : List ℕ). x ++ (piece ++ rest)) (sym gaps)))
 
--- behind the gap that is found and the piece that is found there
+-- after the gap that is found and the piece that is found there
 pub next_found : (b : Before) (gap piece rest t cs : List ℕ) (k : Kind) → rest_of Outside cs cs ≡ Some t → front_of (is_index_place b) t ≡ found k rest
     → cs ≡ gap ++ t → t ≡ piece ++ rest → next_part b cs ≡ next_is (record { gap = gap; kind = k; piece = piece }) rest
 next_found b gap piece rest t cs k r f e w =
@@ -61,7 +61,7 @@ part_found b p rest cs e g h =
     (gap_found p.gap p.piece rest cs p.kind (is_index_place b) e g h (rest_of Outside cs cs) refl)
     (front_complete p.kind p.piece rest (is_index_place b) h) e refl
 
--- ---- nothing at the front
+-- ---- nothing at the beginning
 
 pub none_behind : (b : Before) (cs : List ℕ) → rest_of Outside cs cs ≡ None → next_part b cs ≡ None
 none_behind b cs r = ap (with_gap (is_index_place b) cs) r

@@ -36,7 +36,7 @@ touch : (gap : List ℕ) (ahead rest : ℕ) → ahead ≡ size gap + rest → re
 touch [] ahead rest e = eq-eqb rest ahead (omega arith)
 touch (c ∷ gap) ahead rest e = ne_eqb rest ahead (λ h. absurd (omega (arith, length-le-encodes (c ∷ gap))))
 
--- ---- what stands behind a piece
+-- ---- what follows a piece
 
 point_bytes : (bytes : List ℕ) → IsUtf8 bytes → bytes_eq bytes (codes ".") ≡ bytes_eq (chars bytes) (codes ".")
 point_bytes bytes u =
@@ -64,7 +64,7 @@ stepped_other b kind part n k =
 
 -- ---- the next token
 
--- The next token, and what is ahead behind it: behind a gap stands a piece, in a text that ends at this byte.
+-- The next token, and what is ahead after it: after a gap stands a piece, in a text that ends at this byte.
 pub record Turned (b : Before) (end : ℕ) (ahead rest behind : List ℕ) (kind : Kind) (piece : List ℕ) : Type 0 where
   pub part : Part
   pub kind_is : part.kind ≡ kind

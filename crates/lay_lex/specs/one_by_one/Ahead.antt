@@ -1,4 +1,4 @@
--- The tokens ahead of a place in a text: those of its parts, as far as a gap and a piece stand at the front. Where the text lexes to
+-- The tokens ahead of a place in a text: those of its parts, as far as a gap and a piece come next. Where the text lexes to
 -- tokens from there on, they are these.
 use Rattle.std.specs.Prelude.{ℕ, zero, suc, ◌-◌, ◌≡◌, Bool, List, [], ◌∷◌, length, take, Option, Some, None, MatchOption}
 use Rattle.std.specs.Str.{chars}
@@ -11,7 +11,7 @@ use Rattle.lay_lex.specs.Gap.{rest_of}
 use Rattle.lay_lex.specs.declared.one_by_one.cursor.Cursor.{Cursor}
 use Rattle.lay_lex.specs.declared.one_by_one.cursor.Lexeme.{Lexeme}
 
--- a part, and the characters behind it, if there are
+-- a part, and the characters after it, if there are
 abbrev pub Next : Type 0
 Next = Option (Part × List ℕ)
 
@@ -22,17 +22,17 @@ next_is p rest = Some (p, rest)
 abbrev pub up_to : List ℕ → List ℕ → List ℕ
 up_to cs rest = take (length cs - length rest) cs
 
--- Behind the gap stands this piece, if one does.
+-- After the gap stands this piece, if one does.
 abbrev pub with_piece : List ℕ → List ℕ → FrontPiece → Next
 with_piece cs rest None = None
 with_piece cs rest (Some f) = next_is (record { gap = up_to cs rest; kind = f.0; piece = up_to rest f.1 }) f.1
 
--- This stands behind the gap, if anything does.
+-- This stands after the gap, if anything does.
 abbrev pub with_gap : Bool → List ℕ → Option (List ℕ) → Next
 with_gap index cs None = None
 with_gap index cs (Some rest) = with_piece cs rest (front_of index rest)
 
--- the part at the front: the longest gap there, and a piece
+-- the part at the beginning: the longest gap there, and a piece
 abbrev pub next_part : Before → List ℕ → Next
 next_part b cs = with_gap (is_index_place b) cs (rest_of Outside cs cs)
 
@@ -59,6 +59,6 @@ pub record Tells (l : Lexeme) (t : Token) : Type 0 where
   pub at : t.at ≡ l.at
   pub len : t.len ≡ l.len
 
--- Of the tokens the next one is told, if there is one, and these are behind it.
+-- Of the tokens the next one is told, if there is one, and these are after it.
 abbrev pub IsNext : List Token → Option Lexeme → List Token → Type 0
 IsNext ts result behind = MatchOption result ((ts ≡ []) × (behind ≡ [])) (λ l. (t : Token) × (ts ≡ t ∷ behind) × Tells l t)

@@ -80,7 +80,7 @@ fn is_index_place(before: Before) -> bool
     before == Before::Point
 }
 
-/// What stands behind a piece; `touches` says that no gap stands before it.
+/// What follows a piece; `touches` says that no gap stands before it.
 #[inline]
 fn behind_piece(before: Before, kind: Kind, piece: &str, touches: bool) -> Before
     ensures { (part : Part) → part.kind ≡ kind → part.piece ≡ chars piece.now

@@ -1,4 +1,4 @@
--- The gap and the piece that were found are the part at the front.
+-- The gap and the piece that were found are the part at the beginning.
 use Rattle.std.proofs.Common.{rules, ◌≡◌, ℕ, Bool, List, ◌∷◌, ◌++◌, ◌-◌, Option, IsUtf8, length, refl, sym, ap, ◌∙◌, subst}
 use Rattle.std.specs.Prelude.{encode_utf8_all}
 use Rattle.std.specs.Str.{chars}
