@@ -1,4 +1,4 @@
--- The readers, a family a file: what is read stands at the front of the tokens, and what stands there is read.
+-- The readers, a family a file: what is read stands at the beginning of the tokens, and what stands there is read.
 pub mod Followed
 pub mod ItemBodies
 pub mod ItemSound

@@ -42,7 +42,7 @@ is_block_word text ts =
     is_of (codes "for" ∷ codes "if" ∷ codes "loop" ∷ codes "match" ∷ codes "unsafe" ∷ codes "while" ∷ []) text
     || (if bytes_eq text (codes "const") then first (opens Brace) ts else false)
 
--- the `|` before the parameters of a closure, behind a `move` if that stands there
+-- the `|` before the parameters of a closure, after a `move` if that stands there
 abbrev pub begins_closure : Tokens → Bool
 begins_closure ts = first (is_mark (codes "|")) ts || (first (is_keyword (codes "move")) ts && first (is_mark (codes "|")) (tail ts))
 

@@ -81,7 +81,7 @@ abbrev pub named : List Op → List ℕ → Option Op
 named [] text = None
 named (o ∷ os) text = cond (bytes_eq (op_text o) text) (Some o) (named os text)
 
--- the operator between operands at the front
+-- the operator between operands at the beginning
 unfoldable pub binary : Tokens → Option Op
 binary ts = option_and_then (named all_ops) (op_at ts)
 
@@ -93,7 +93,7 @@ is_angle_op _ = false
 
 -- ---- before an operand
 
--- what stands behind `&`: `mut`, `raw const`, `raw mut`, or no more of the operator
+-- what follows `&`: `mut`, `raw const`, `raw mut`, or no more of the operator
 abbrev pub raw_by : Tokens → Prefix
 raw_by ts =
     if first (is_keyword (codes "const")) ts then before.RawConst
@@ -111,7 +111,7 @@ prefix_by text ts =
     else (if bytes_eq text (codes "!") then Some before.Bang
     else (if bytes_eq text (codes "&") then Some (amp_by ts) else None)))
 
--- The operator before an operand at the front: one character, whatever follows it, and the words that belong to it.
+-- The operator before an operand at the beginning: one character, whatever follows it, and the words that belong to it.
 unfoldable pub prefix : Tokens → Option Prefix
 prefix [] = None
 prefix (t ∷ ts) = if is_punct t.kind then prefix_by t.text ts else None
@@ -123,7 +123,7 @@ prefix_length before.RawConst = 3
 prefix_length before.RawMut = 3
 prefix_length _ = 1
 
--- ---- behind an expression
+-- ---- after an expression
 
 -- `.` or `?`, which go on with an expression even where nothing else does
 abbrev pub is_dot_or_try : Tokens → Bool

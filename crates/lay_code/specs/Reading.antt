@@ -21,7 +21,7 @@ top = 256
 abbrev pub SpellsFile : ℕ → File → List Token → Type 0
 SpellsFile depth file tokens = Written file × Spells (form_of_file file) depth tokens []
 
--- The first tokens, so many, spell the inner attributes and the items of a file that can be written. What stands behind
+-- The first tokens, so many, spell the inner attributes and the items of a file that can be written. What follows
 -- them doesn't matter: an attribute and an item end in a `;`, in a delimiter, or with a comment.
 abbrev pub SpellsFront : ℕ → ℕ → List Token → Type 0
 SpellsFront depth count tokens =
@@ -37,7 +37,7 @@ pub record NoItemAt (depth : ℕ) (tokens : List Token) (at : ℕ) : Type 0 wher
   pub front : SpellsFront depth count tokens
   pub longest : (more : ℕ) → count < more → SpellsFront depth more tokens → ⊥
 
--- The bytes are a text that lexes to balanced tokens which spell the file, behind the file's shebang.
+-- The bytes are a text that lexes to balanced tokens which spell the file, after the file's shebang.
 pub record ReadsAt (depth : ℕ) (bytes : List ℕ) (file : File) : Type 0 where
   pub from : Source
   pub tokens : List Token

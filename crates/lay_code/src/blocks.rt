@@ -40,7 +40,7 @@ impl Block {
 /// A statement (Rust Reference, "Statements").
 #[cycle(code)]
 pub enum Stmt {
-    /// `let a: B = c else { d };`, where `else` stands behind a value alone
+    /// `let a: B = c else { d };`, where `else` stands after a value alone
     Let {
         attrs: List<Attr>,
         pat: Pat,

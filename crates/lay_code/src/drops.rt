@@ -36,7 +36,7 @@ pub(crate) fn discard_fields(nodes: List<FieldExpr>) {
     left.destroy_empty();
 }
 
-/// What is behind `..`, if anything is.
+/// What follows `..`, if anything is.
 #[cycle(drops)]
 pub(crate) fn discard_base(node: Option<Option<Boxed<Expr>>>) {
     match node {
@@ -46,7 +46,7 @@ pub(crate) fn discard_base(node: Option<Option<Boxed<Expr>>>) {
     }
 }
 
-/// Each operand behind its operator.
+/// Each operand after its operator.
 #[cycle(drops)]
 pub(crate) fn discard_operands(nodes: List<(Op, Boxed<Expr>)>) {
     let mut left = nodes.into_vec();

@@ -72,7 +72,7 @@ pub enum Expr {
         element: Boxed<Expr>,
         length: Tokens,
     },
-    /// `A { b: c, 0: d, e, ..f }`, where the base behind `..` may be left out
+    /// `A { b: c, 0: d, e, ..f }`, where the base after `..` may be left out
     Struct {
         path: Path,
         fields: List<FieldExpr>,

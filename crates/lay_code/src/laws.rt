@@ -20,7 +20,7 @@ ghost use Rattle.lay_code.specs.declared.item.Item.{Item};
 ghost use Rattle.lay_code.specs.declared.operators.Op.{Op};
 ghost use Rattle.lay_code.specs.declared.operators.Prefix.{Prefix};
 
-/// The functions that read expressions and items read exactly what stands at the front of the tokens; and the shebang line of
+/// The functions that read expressions and items read exactly what stands at the beginning of the tokens; and the shebang line of
 /// each source is one that a file may have.
 pub fn reading_law()
     ensures exprs { (place : Place) → Exact (expr_at place)

@@ -76,7 +76,7 @@ pub record IsEnd (rest ts : List Token) : Type 0 where
 same_end : (ts rest : List Token) → ts ≡ rest → IsEnd rest ts
 same_end ts rest e = record { before = []; whole = e }
 
--- what is left behind two parts
+-- what is left after two parts
 both_ends : {x y z : List Token} → IsEnd y x → IsEnd z y → IsEnd z x
 both_ends {x} {y} {z} a b = record {
   before = a.before ++ b.before;
@@ -145,7 +145,7 @@ behind_end Nothing n ts rest s = same_end ts rest s
 behind_end (ArmComma last block_like) n ts rest (inl s) = same_end ts rest s.1
 behind_end (ArmComma last block_like) n ts rest (inr s) = bits_end comma ts rest s
 
--- What is left behind a form ends the tokens.
+-- What is left after a form ends the tokens.
 pub is_end : (f : Form) (depth : ℕ) (ts rest : List Token) → Spells f depth ts rest → IsEnd rest ts
 is_end Done depth ts rest s = same_end ts rest s
 is_end (Piece bits f) depth ts rest s = both_ends (bits_end bits _ _ s.1) (is_end f depth _ rest s.2)

@@ -44,7 +44,7 @@ two_elements = refl
 a_broken_list : laid (comma_list true (opener Paren) (closer Paren) (a ∷ long 88 ∷ [])) ≡ codes "(\n    a,\n    " ++ (replicate 88 99 ++ codes ",\n)")
 a_broken_list = refl
 
--- the parameters of a variadic function, behind the last of which no comma stands
+-- the parameters of a variadic function, after the last of which no comma stands
 abbrev variadic : Form → Form
 variadic e = comma_list false (opener Paren) (closer Paren) (e ∷ piece (Operator (codes "...") ∷ []) ∷ [])
 
@@ -88,7 +88,7 @@ predicates_before_a_semicolon = refl
 dropped_semicolons : document (Piece (Semicolons ∷ []) a) ≡ AddText (codes "a") Empty
 dropped_semicolons = refl
 
--- a step behind a literal that ends in a point
+-- a step after a literal that ends in a point
 a_point_behind_a_point : laid (Part (Leaf Float (codes "1.") Done) (piece (Operator (codes ".") ∷ []))) ≡ codes "1. ."
 unfolding chars
 a_point_behind_a_point = refl
@@ -190,7 +190,7 @@ abbrev begins_comma : List Token → Bool
 begins_comma [] = false
 begins_comma (t ∷ ts) = elim (t.kind) [ Punct ↦ true | _ ↦ false ]
 
--- one predicate with its comma or without it, and whether the tokens behind it may follow
+-- one predicate with its comma or without it, and whether the tokens after it may follow
 abbrev one_predicate : Bool → Form
 one_predicate last = wheres_spelled last (a ∷ [])
 

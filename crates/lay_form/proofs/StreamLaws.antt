@@ -16,7 +16,7 @@ use Rattle.lay_form.specs.Stream.{feed_text, feed_doc, feed_token, feed_behind, 
 under : (t : Tok) {x y : List Tok} → x ≡ y → (t ∷ x) ≡ (t ∷ y)
 under t e = ap (λ l. t ∷ l) e
 
--- In each of these `more` is what the document's tokens and the list behind them make.
+-- In each of these `more` is what the document's tokens and the list after them make.
 text_fed : (text : List ℕ) (d : Document) (behind more : List Tok) → stream d ++ behind ≡ more
     → stream (add text d) ++ behind ≡ feed_text text more
 text_fed [] d behind more e = e
@@ -47,7 +47,7 @@ behind_fed : (b : Behind) (d : Document) (behind more : List Tok) → stream d +
 behind_fed Nothing d behind more e = e
 behind_fed (ArmComma last block_like) d behind more e = under (tok.Text (codes ",")) e
 
--- The layout of a form in front of a document, with tokens behind, is what the form is fed as before these.
+-- The layout of a form before a document, with tokens after it, is what the form is fed as before these.
 pub laid_fed : (point : Bool) (f : Form) (d : Document) (behind : List Tok)
     → stream (laid_out point f d) ++ behind ≡ fed point f (stream d ++ behind)
 laid_fed point Done d behind = refl

@@ -1,10 +1,10 @@
--- What is spelled may end within braces that aren't in the tree: what stands behind it follows a block then.
+-- What is spelled may end within braces that aren't in the tree: what follows it follows a block then.
 use Rattle.std.specs.Prelude.{ℕ, zero, suc, ◌-◌, ◌≤◌, ◌≡◌, List, ◌⊎◌}
 use Rattle.lay_token.specs.declared.token.Token.{Token}
 use Rattle.lay_form.specs.Form.{Form, Done, Piece, Leaf, Listed, ListedDoc, Brk, LastComma, Group, Part, Deeper, Optional, Docs, Body, comma}
 use Rattle.lay_form.specs.Spelled.{AreBits, Braced, IsBehind, IsComment, IsDoc, IsListed, IsOne, MayBe, MayBrace, Spells, Then, cost}
 
--- The second ends so behind the first, or the first ends so and the second is spelled by nothing.
+-- The second ends so after the first, or the first ends so and the second is spelled by nothing.
 abbrev pub EndsIn : (List Token → List Token → Type 0) → (List Token → List Token → Type 0) → (List Token → List Token → Type 0)
     → (List Token → List Token → Type 0) → List Token → List Token → Type 0
 EndsIn First FirstEnds Second SecondEnds ts rest = Then First SecondEnds ts rest ⊎ (FirstEnds ts rest × Second rest rest)

@@ -35,10 +35,10 @@ pub data Braces : Type 0 where
   -- they may be spelled, and are laid out where the body is broken
   Marked : Braces
 
--- what stands behind a body
+-- what follows a body
 pub data Behind : Type 0 where
   Nothing : Behind
-  -- the comma of an arm; it may be left out behind the last arm, and behind a body that is block-like
+  -- the comma of an arm; it may be left out after the last arm, and after a body that is block-like
   ArmComma : Bool → Bool → Behind
 
 pub data Form : Type 0 where
@@ -62,11 +62,11 @@ pub data Form : Type 0 where
   Part : Form → Form → Form
   -- a form that is spelled one level deeper
   Deeper : Form → Form → Form
-  -- a piece that may be left out; it is laid out always, as the comma behind the last of several fields, or never
+  -- a piece that may be left out; it is laid out always, as the comma after the last of several fields, or never
   Optional : Bool → List Bit → Form → Form
   -- documentation of what it stands in, or of what follows it
   Docs : Bool → List ℕ → Form → Form
-  -- the body of an arm or a closure, and what stands behind it
+  -- the body of an arm or a closure, and what follows it
   Body : Braces → Behind → Form → Form → Form
 
 abbrev pub punct : ℕ → Bit

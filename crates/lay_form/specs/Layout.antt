@@ -46,9 +46,9 @@ add_token RawIdent text d = AddText (codes "r#") (AddText text d)
 add_token (Doc inner block) text d = add_doc inner (is_block (doc_form inner text)) text d
 add_token kind text d = AddText text d
 
--- A text that begins with a point gets a blank where it would stand directly behind the point of a Float or behind
--- `..`. There are three such places: a step behind a literal as `1.`, a range behind one, and a base that begins with
--- a range behind the `..` of a struct literal. The blank belongs to the text that gets it, which may stand deep within a
+-- A text that begins with a point gets a blank where it would stand directly after the point of a Float or after
+-- `..`. There are three such places: a step after a literal as `1.`, a range after one, and a base that begins with
+-- a range after the `..` of a struct literal. The blank belongs to the text that gets it, which may stand deep within a
 -- part. These say whether the text so far ends so. A number is ASCII, so its bytes tell it.
 abbrev pub token_ends_in_point : Kind → List ℕ → Bool
 token_ends_in_point Float text = ends_in_point text
@@ -111,7 +111,7 @@ break_of Never = record { offset = pos 0; blank = 0; before = Absent; after = Ab
 abbrev pub comma_break : ℕ → Break
 comma_break blanks = record { offset = negsuc 3; blank = blanks; before = Comma; after = Absent; instead = Absent; never = false }
 
--- the breaks round a body: braces where they are newlines, and else, behind the body of an arm, a comma
+-- the breaks round a body: braces where they are newlines, and else, after the body of an arm, a comma
 abbrev pub opening_break : Break
 opening_break = record { offset = pos 0; blank = 0; before = OpenBrace; after = Absent; instead = Absent; never = false }
 
@@ -128,7 +128,7 @@ abbrev pub add_behind : Behind → Document → Document
 add_behind Nothing d = d
 add_behind (ArmComma last block_like) d = AddText (codes ",") d
 
--- the layout of a form, in front of a document
+-- the layout of a form, before a document
 abbrev pub laid_out : Bool → Form → Document → Document
 laid_out point Done d = d
 laid_out point (Piece bits f) d = add (text_of_bits (led point bits)) (laid_out (bits_end_in_point point bits) f d)

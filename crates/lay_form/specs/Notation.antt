@@ -53,25 +53,25 @@ each lead (e ∷ es) = lead (Part e (each lead es))
 abbrev pub comma_gap : Form → Form
 comma_gap f = Piece comma (B f)
 
--- the break of so many blanks behind the last element, where a comma may stand or not
+-- the break of so many blanks after the last element, where a comma may stand or not
 abbrev pub last_break : Bool → ℕ → Form → Form
 last_break true blanks f = LastComma blanks f
 last_break false blanks f = Brk (Soft true blanks) f
 
--- LIST: elements with a `,` between them. The flag says that a comma may stand behind the last one.
+-- LIST: elements with a `,` between them. The flag says that a comma may stand after the last one.
 abbrev pub comma_list : Bool → Bit → Bit → List Form → Form
 comma_list may opening closing [] = piece (opening ∷ closing ∷ [])
 comma_list may opening closing (e ∷ es) =
     C4 (Piece (opening ∷ []) (Z (Part e (Part (each comma_gap es) (last_break may 0 (piece (closing ∷ []))))))) Done
 
 -- BODY: parts in braces, each on a line of its own. `before` is its leading blank, if it has one, and `skipped`
--- what may stand behind the opening brace without being laid out.
+-- what may follow the opening brace without being laid out.
 abbrev pub body : List Bit → List Bit → List Form → Form
 body before skipped [] = piece (before ++ (opener Brace ∷ (skipped ++ closer Brace ∷ [])))
 body before skipped (e ∷ es) =
     Piece (before ++ (opener Brace ∷ skipped)) (N (C4 (Part (each H (e ∷ es)) (H- Done)) (piece (closer Brace ∷ []))))
 
--- parts with a `,` behind each; the last one's may be left out
+-- parts with a `,` after each; the last one's may be left out
 abbrev pub with_commas : List Form → List Form
 with_commas [] = []
 with_commas (e ∷ []) = Part e (Optional true comma Done) ∷ []
@@ -81,8 +81,8 @@ with_commas (e ∷ f ∷ es) = Part e (piece comma) ∷ with_commas (f ∷ es)
 abbrev pub fields : List Bit → List Form → Form
 fields before es = body before [] (with_commas es)
 
--- BRACES: parts in braces on one line, or each on its own. The flag says that a comma may stand behind the last one:
--- behind a rest or a base none may.
+-- BRACES: parts in braces on one line, or each on its own. The flag says that a comma may stand after the last one:
+-- after a rest or a base none may.
 abbrev pub braces : Bool → List Form → Form
 braces may [] = piece (Blank ∷ opener Brace ∷ closer Brace ∷ [])
 braces may (e ∷ es) =
@@ -95,7 +95,7 @@ soft e = Piece (Blank ∷ opener Brace ∷ Semicolons ∷ []) (N (C4 (B (Part e 
 abbrev pub where_word : List Bit
 where_word = keyword (codes "where") ∷ []
 
--- predicates behind `where`, and what ends them
+-- predicates after `where`, and what ends them
 abbrev pub predicates : Form → List Form → Form
 predicates end [] = Optional false where_word Done
 predicates end (e ∷ es) = N (C4 (B- (Piece where_word (B (Part e (Part (each comma_gap es) end))))) Done)

@@ -1,4 +1,4 @@
--- Which tokens spell a form at a depth. Each relation R x ts rest says that the front of ts, up to rest, spells x.
+-- Which tokens spell a form at a depth. Each relation R x ts rest says that the prefix of ts before rest spells x.
 use Rattle.std.specs.Prelude.{ℕ, zero, suc, ◌-◌, ◌≤◌, ◌≡◌, Bool, true, false, ◌||◌, List, [], ◌∷◌, ◌++◌, IsTrue, ◌⊎◌, codes, length, drop, Some, encode_utf8_all}
 use Rattle.std.specs.Str.{chars}
 use Rattle.lay_piece.specs.Characters as char
@@ -77,7 +77,7 @@ IsDoc inner text ts rest = IsComment inner text ts rest ⊎ IsDocAttr inner text
 
 -- ---- bodies
 
--- opening braces that aren't in the tree, each with any number of `;` behind it, and the closing ones
+-- opening braces that aren't in the tree, each with any number of `;` after it, and the closing ones
 abbrev pub Opens : ℕ → List Token → List Token → Type 0
 Opens zero ts rest = ts ≡ rest
 Opens (suc n) ts rest = Then (AreBits (opener Brace ∷ Semicolons ∷ [])) (Opens n) ts rest
@@ -105,11 +105,11 @@ abbrev pub cost : ℕ → ℕ
 cost zero = 1
 cost (suc n) = suc n
 
--- The comma may be left out: behind the last arm, behind braces, and behind what is block-like.
+-- The comma may be left out: after the last arm, after braces, and after what is block-like.
 abbrev pub may_lack : Bool → Bool → ℕ → Bool
 may_lack last block_like n = last || (block_like || is_braced n)
 
--- what stands behind a body within so many pairs
+-- what follows a body within so many pairs
 abbrev pub IsBehind : Behind → ℕ → List Token → List Token → Type 0
 IsBehind Nothing n ts rest = ts ≡ rest
 IsBehind (ArmComma last block_like) n ts rest = (IsTrue (may_lack last block_like n) × (ts ≡ rest)) ⊎ AreBits comma ts rest
@@ -133,8 +133,8 @@ Spells (Docs inner text f) depth ts rest = Then (IsDoc inner text) (Spells f dep
 Spells (Body braces behind i f) depth ts rest = (n : ℕ) × MayBrace braces n × (cost n ≤ depth)
     × Then (Braced n (Spells i (depth - cost n))) (Then (IsBehind behind n) (Spells f depth)) ts rest
 
--- A node with this form, which is well formed or not, stands at the front of the tokens: the first n spell it, and what
--- stands behind them may follow it.
+-- A node with this form, which is well formed or not, stands at the beginning of the tokens: the first n spell it, and what
+-- stands after them may follow it.
 abbrev pub Front : Form → Bool → (List Token → Bool) → List Token → ℕ → ℕ → Type 0
 Front form good follows ts n depth =
     (n ≤ length ts) × Spells form depth ts (drop n ts) × IsTrue good × IsTrue (follows (drop n ts))

@@ -27,7 +27,7 @@ abbrev pub feed_behind : Behind → List Tok → List Tok
 feed_behind Nothing more = more
 feed_behind (ArmComma last block_like) more = Text (codes ",") ∷ more
 
--- the stream of a form behind a text that ends in a point or doesn't, in front of more
+-- the stream of a form after a text that ends in a point or doesn't, before more
 abbrev pub fed : Bool → Form → List Tok → List Tok
 fed point Done more = more
 fed point (Piece bits f) more = feed_text (text_of_bits (led point bits)) (fed (bits_end_in_point point bits) f more)

@@ -1,4 +1,4 @@
--- What the tests of the front of a list of tokens tell of it, and what stands there tells of the tests.
+-- What the tests of the beginning of a list of tokens tell of it, and what stands there tells of the tests.
 use Rattle.std.proofs.Common.{◌≡◌, ℕ, suc, ◌≤◌, ◌<◌, Bool, true, false, List, [], ◌∷◌, ◌&&◌, length, codes, Option, Some, None, refl, sym, ap, subst, ◌∙◌, inl, inr, arith, length-append, length-drop, cond}
 use Rattle.std.specs.List.{list_all}
 use Rattle.std.specs.Str.{bytes_eq}
@@ -94,7 +94,7 @@ closer_passed_is d ts rest t h =
 
 -- ---- one token
 
--- the token at the front, with the kind and text that it has written out
+-- the token at the beginning, with the kind and text that it has written out
 pub one_front : (kind : Kind) (text : List ℕ) (ts rest : Tokens) → IsOne kind text ts rest
     → (t : Token) × (ts ≡ record t { kind = kind; text = text } ∷ rest)
 one_front kind text [] rest h = absurd h
@@ -108,7 +108,7 @@ pub one_shorter : (kind : Kind) (text : List ℕ) (ts rest : Tokens) → IsOne k
 one_shorter kind text [] rest h = absurd h
 one_shorter kind text (t ∷ ts) rest h = omega (arith, ap length h.2)
 
--- what a test of kinds says of the front
+-- what a test of kinds says of the first token
 pub one_test : (p : Kind → Bool) (kind : Kind) (text : List ℕ) (ts rest : Tokens) → IsOne kind text ts rest → first (λ t. p t.kind) ts ≡ p kind
 one_test p kind text [] rest h = absurd h
 one_test p kind text (t ∷ ts) rest h = ap p h.0
@@ -128,7 +128,7 @@ opener_passed d ts rest o = rw ((one_front (Opener d) (opening d ∷ []) ts rest
 pub closer_passed : (d : Delim) (ts rest : Tokens) → IsOne (Closer d) (closing d ∷ []) ts rest → passed (closes d) ts ≡ Some rest
 closer_passed d ts rest o = rw ((one_front (Closer d) (closing d ∷ []) ts rest o).1, same_itself d) refl
 
--- a closing delimiter stands at the front
+-- a closing delimiter comes next
 pub closer_first : (d : Delim) (ts rest : Tokens) → IsOne (Closer d) (closing d ∷ []) ts rest → (first (closes d) ts ≡ true) × (tail ts ≡ rest)
 closer_first d ts rest o = let f = (one_front (Closer d) (closing d ∷ []) ts rest o).1 in (rw (f, same_itself d) refl, rw f refl)
 

@@ -1,4 +1,4 @@
--- Tokens that stand in a row in what a text lexes to: what is behind some of them stands so too, and each token whose
+-- Tokens that stand in a row in what a text lexes to: what follows some of them stands so too, and each token whose
 -- kind has one text has this one.
 use Rattle.std.proofs.Common.{◌≡◌, ℕ, Bool, true, false, List, [], ◌∷◌, ◌++◌, not, ◌&&◌, ◌||◌, codes, Option, None, Some, refl, sym, ap, ◌∙◌, subst, arith}
 use Rattle.std.specs.Prelude.{◌==◌, encode_utf8_all}

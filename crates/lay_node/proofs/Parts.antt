@@ -1,4 +1,4 @@
--- Parts that stand one behind the other, and the forms that lay them out so: lines, bodies, and lists in delimiters.
+-- Parts that stand one after the other, and the forms that lay them out so: lines, bodies, and lists in delimiters.
 use Rattle.std.proofs.Common.{◌≡◌, ℕ, Bool, true, false, List, [], ◌∷◌, ◌++◌, map, refl, sym, subst, ◌∙◌, codes}
 use Rattle.std.specs.List.{list_all}
 use Rattle.std.proofs.lemmas.Bool.{and_parts, and_from}
@@ -18,7 +18,7 @@ use Rattle.lay_node.specs.nodes.Fields.{blank_if}
 
 -- ---- rows
 
--- parts one behind the other, each with what holds of it and of the tokens up to the next
+-- parts one after the other, each with what holds of it and of the tokens up to the next
 abbrev pub Rows : {A : Type 0} → (A → Tokens → Tokens → Type 0) → List A → Tokens → Tokens → Type 0
 Rows P [] ts rest = ts ≡ rest
 Rows P (x ∷ xs) ts rest = (mid : Tokens) × P x ts mid × Rows P xs mid rest
@@ -69,7 +69,7 @@ SpelledAt depth f ts rest = Spells f depth ts rest
 abbrev pub GoodAt : {A : Type 0} → (A → Facts) → ℕ → A → Tokens → Tokens → Type 0
 GoodAt about depth x ts rest = Spells (about x).form depth ts rest × ((about x).good ≡ true)
 
--- Good nodes one behind the other: their forms are spelled so, and all of them are good.
+-- Good nodes one after the other: their forms are spelled so, and all of them are good.
 pub rows_spelled : {A : Type 0} (about : A → Facts) (depth : ℕ) (xs : List A) (ts rest : Tokens) → Rows (GoodAt about depth) xs ts rest
     → Rows (SpelledAt depth) (forms (map about xs)) ts rest × (all_good (map about xs) ≡ true)
 rows_spelled about depth xs ts rest r = (
@@ -193,7 +193,7 @@ pub led_blank : (lead : Bool) (ts : Tokens) → AreBits (blank_if lead) ts ts
 led_blank true ts = (ts, refl, refl)
 led_blank false ts = refl
 
--- a body, behind a blank or not, with nothing that isn't laid out
+-- a body, after a blank or not, with nothing that isn't laid out
 pub body_rows : (lead : Bool) (fs : List Form) (depth : ℕ) (ts rest : Tokens) → Spells (body (blank_if lead) [] fs) depth ts rest
     → (inside end : Tokens) × IsBit (opener Brace) ts inside × Rows (SpelledAt depth) fs inside end × IsBit (closer Brace) end rest
 body_rows lead [] depth ts rest s =
@@ -207,7 +207,7 @@ body_rows lead (f ∷ fs) depth ts rest s =
 
 -- ---- lists
 
--- an element behind its comma
+-- an element after its comma
 abbrev pub Further : {A : Type 0} → (A → Tokens → Tokens → Type 0) → A → Tokens → Tokens → Type 0
 Further P x = Then (IsOne Punct (codes ",")) (P x)
 

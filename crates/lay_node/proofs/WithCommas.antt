@@ -9,7 +9,7 @@ use Rattle.lay_node.specs.Ahead.{Tokens}
 use Rattle.lay_node.specs.nodes.Fields.{blank_if}
 use Rattle.lay_node.proofs.Parts.{Closed, Elements, Further, Rows, SpelledAt, bit_piece, body_rows, body_spelled, led_blank, list_elements, list_spelled, piece_bit}
 
--- an element, those behind it, and the last comma
+-- an element, those after it, and the last comma
 abbrev Commas : ℕ → Form → List Form → Tokens → Tokens → Type 0
 Commas depth f fs ts end =
     (mid behind : Tokens) × Spells f depth ts mid × Rows (Further (SpelledAt depth)) fs mid behind × MayBe comma behind end

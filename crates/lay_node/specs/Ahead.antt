@@ -65,7 +65,7 @@ is_lifetime t = is_lifetime_kind t.kind
 abbrev pub opens_args : Tokens → Bool
 opens_args ts = is_op (codes "<") ts || (is_op (codes "<<") ts || is_op (codes "<-") ts)
 
--- the same behind a `::`
+-- the same after a `::`
 abbrev pub opens_args_late : Tokens → Bool
 opens_args_late ts = is_op (codes "::") ts && opens_args (drop 2 ts)
 

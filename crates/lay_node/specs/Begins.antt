@@ -69,7 +69,7 @@ begins_bound ts =
 abbrev pub is_literal_token : Token → Bool
 is_literal_token t = is_literal t.kind t.text
 
--- a literal in a pattern, or a number behind a `-`
+-- a literal in a pattern, or a number after a `-`
 abbrev pub begins_value : Tokens → Bool
 begins_value ts = first is_literal_token ts || first (is_mark (codes "-")) ts
 

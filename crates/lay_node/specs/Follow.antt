@@ -6,19 +6,19 @@ use Rattle.lay_piece.specs.declared.kind.Delim.TheVariants.{Paren, Brace}
 use Rattle.lay_node.specs.Ahead.{Tokens, first, is_keyword, opens, opens_args, opens_args_late}
 
 pub data Begin : Type 0 where
-  -- an optional last part that is left out: another name, behind the word that an import ends in
+  -- an optional last part that is left out: another name, after the word that an import ends in
   OfRename : Begin
   -- generic arguments that are left out: in what names a kind of things, and in code
   OfArgs : Begin
   OfCodeArgs : Begin
   -- a return type that is left out
   OfArrow : Begin
-  -- `::`, behind a path and a use tree
+  -- `::`, after a path and a use tree
   OfColons : Begin
-  -- `!`, behind a path that is a type
+  -- `!`, after a path that is a type
   OfBang : Begin
 
--- It stands at the front.
+-- It comes next.
 abbrev pub begins_there : Begin → Tokens → Bool
 begins_there OfRename ts = first (is_keyword (codes "as")) ts
 begins_there OfArgs ts = opens_args ts || (opens_args_late ts || first (opens Paren) ts)

@@ -68,12 +68,12 @@ abbrev pub behind_sign : List ℕ → List ℕ
 behind_sign [] = []
 behind_sign (c ∷ cs) = cond (is_sign c) cs (c ∷ cs)
 
--- what stands behind an exponent, if there is one
+-- what follows an exponent, if there is one
 abbrev pub behind_exponent : List ℕ → List ℕ
 behind_exponent [] = []
 behind_exponent (c ∷ cs) = cond (is_exponent_letter c) (after in_digits (behind_sign cs)) (c ∷ cs)
 
--- what stands behind a fraction and an exponent, if there are any
+-- what follows a fraction and an exponent, if there are any
 abbrev pub behind_fraction : List ℕ → List ℕ
 behind_fraction [] = []
 behind_fraction (c ∷ cs) = cond (c == char.point) (behind_exponent (after in_digits cs)) (behind_exponent (c ∷ cs))

@@ -1,5 +1,5 @@
 -- Reading as functions of the tokens ahead, a family a file: what is read and what is left, or none. These are the words
--- of readers' contracts, and stand in no promise of their own: that what is read is what stands at the front of the
+-- of readers' contracts, and stand in no promise of their own: that what is read is what stands at the beginning of the
 -- tokens, and all of it, is proved of them.
 pub mod Loops
 pub mod Exact

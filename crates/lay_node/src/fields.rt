@@ -17,7 +17,7 @@ pub enum Fields {
     Named { fields: List<Field> },
 }
 
-/// A field without a name. Behind `pub` its type is no `(crate)`, `(self)` or `(super)`, which would restrict it.
+/// A field without a name. After `pub` its type is no `(crate)`, `(self)` or `(super)`, which would restrict it.
 #[derive(Drop)]
 pub struct TupleField {
     pub attrs: List<Attr>,

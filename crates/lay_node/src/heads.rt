@@ -36,7 +36,7 @@ pub struct Alias {
     pub wheres: Wheres,
 }
 
-/// `struct A<B>(C) where D` (Rust Reference, "Structs"). The where clause stands before fields with names, and behind
+/// `struct A<B>(C) where D` (Rust Reference, "Structs"). The where clause stands before fields with names, and after
 /// others.
 #[derive(Drop)]
 pub struct Struct {

@@ -53,7 +53,7 @@ ghost use Rattle.lay_node.specs.declared.types.TypePlace.{TypePlace};
 ghost use Rattle.lay_node.specs.declared.use_tree.UseTree.{UseTree};
 ghost use Rattle.lay_node.specs.declared.vis.Vis.{Vis};
 
-/// The functions that read nodes read exactly what stands at the front of the tokens.
+/// The functions that read nodes read exactly what stands at the beginning of the tokens.
 pub fn reading_law()
     ensures simple_paths { Exact (needless simple_path)
         (λ (x : SimplePath). Front (about_simple_path x)) }

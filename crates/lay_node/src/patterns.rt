@@ -103,7 +103,7 @@ pub enum FieldPat {
     },
 }
 
-/// A literal in a pattern, or a number behind a `-`.
+/// A literal in a pattern, or a number after a `-`.
 #[derive(Drop)]
 pub struct PatValue {
     pub negative: bool,

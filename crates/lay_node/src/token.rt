@@ -30,7 +30,7 @@ pub struct Word {
 /// A token of a token list. Where it stood isn't in the tree, nor whether documentation was a block.
 #[derive(Debug, Drop)]
 pub enum Listed {
-    /// Any token but documentation, with its joint mark: another punctuation token stands directly behind it.
+    /// Any token but documentation, with its joint mark: another punctuation token stands directly after it.
     Token { kind: Kind, text: Text, joint: bool },
     /// Documentation.
     Doc { inner: bool, text: Text },

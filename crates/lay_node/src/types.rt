@@ -5,8 +5,8 @@ use crate::token::{GivenName, Lifetime, Literal, Name, Word};
 use crate::tokens::{MacroCall, Tokens};
 use lay_token::List;
 
-/// How generic arguments are spelled in a path: in code behind `::`, and in what names a kind of things, as a type,
-/// behind an optional `::`, where they may also stand in parentheses.
+/// How generic arguments are spelled in a path: in code after `::`, and in what names a kind of things, as a type,
+/// after an optional `::`, where they may also stand in parentheses.
 #[derive(Clone, Copy)]
 pub enum PathStyle {
     Code,
@@ -59,7 +59,7 @@ pub enum Ty {
     Slice {
         inner: Boxed<Ty>,
     },
-    /// `[A; n]`, with one token at least behind the `;`
+    /// `[A; n]`, with one token at least after the `;`
     Array {
         inner: Boxed<Ty>,
         length: Tokens,
@@ -200,7 +200,7 @@ pub enum Capture {
 pub enum ConstArg {
     /// `1`, `true`
     Literal(Literal),
-    /// `-1`: a number behind a `-`
+    /// `-1`: a number after a `-`
     Negative(Literal),
     /// `{ n }`: a group in braces
     Braces(Tokens),

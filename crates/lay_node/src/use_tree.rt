@@ -8,12 +8,12 @@ use lay_token::List;
 pub struct UseTree {
     /// It begins with `::`.
     pub global: bool,
-    /// The words that have a `::` behind them.
+    /// The words that have a `::` after them.
     pub path: List<Word>,
     pub end: UseEnd,
 }
 
-/// What a use tree names behind its path.
+/// What a use tree names after its path.
 #[cycle(use_trees)]
 #[derive(Debug, Drop)]
 pub enum UseEnd {

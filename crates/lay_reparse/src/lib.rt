@@ -8,7 +8,7 @@
 //!   laid out in bytes and lexed by characters. What is laid out of a token is a piece of its kind again, and holds
 //!   no CR, so folding line ends leaves a layout's text as it is.
 //! - **Borders and moves** (`borders`: `Need`, `OperatorRuns`, `Border`, `Move`). Whether two pieces stay two tokens
-//!   is decided where they meet. A border, behind a piece, says what it needs of all that may follow: that no letter
+//!   is decided where they meet. A border, after a piece, says what it needs of all that may follow: that no letter
 //!   makes a word longer, no character an operator, that a line ends. A piece, a blank, a newline is a move from
 //!   border to border: it knows which characters it adds, and that they lex to the tokens of its part, whatever meets
 //!   the border.
@@ -29,7 +29,7 @@
 //!   lexes to is balanced, and spells the file.
 //! - **Each input** (`file`: `SomeTokens`, `SomeNesting`, `SomeAnswer`). A text is gaps and pieces to its end, or up to a
 //!   place where neither stands; its tokens are balanced, or a delimiter has no partner; and the longest run of inner
-//!   attributes and items that they begin with is all of them, or a token stands behind it.
+//!   attributes and items that they begin with is all of them, or a token stands after it.
 //! - **Token lists** (`tokens`: `Table`, `Neighbours`, `Rows`, `Lexed`, `TokenLists`, `Within`). What stands between
 //!   two tokens of a list is told by a table. Where that leaves nothing, the right token meets what the left one
 //!   needs, because the list passes the test of token lists. So a list passes as a part of any node, and so does a

@@ -1,7 +1,7 @@
 use Rattle.std.proofs.Common.{◌≡◌, length, take}
 use Rattle.lay_code.proofs.+drops.Given as goal
 
--- What is left of a list is a front of it.
+-- What is left of a list is a prefix of it.
 abbrev pub invariant-drops::discard_arms-loop-node : goal.invariant-drops::discard_arms-loop-node
 invariant-drops::discard_arms-loop-node l = l.left.items ≡ take (length l.left.items) l.fn.nodes
 

@@ -1,6 +1,6 @@
--- The body of a closure stands behind the parameters, at a place where struct literals may stand or not, and within braces that
--- aren't in the tree as a statement. Of what stands behind the parameters `starts` and `tight` say whether it may be a statement;
--- of what may be a statement `structless` says whether it may stand behind the parameters where no struct literal may.
+-- The body of a closure stands after the parameters, at a place where struct literals may stand or not, and within braces that
+-- aren't in the tree as a statement. Of what follows the parameters `starts` and `tight` say whether it may be a statement;
+-- of what may be a statement `structless` says whether it may stand after the parameters where no struct literal may.
 --
 -- What stands within delimiters doesn't see these places. So each layer keeps the law whose operands outside delimiters do, and
 -- each tree has it.
@@ -635,13 +635,13 @@ facts_place x no_struct is h = by no_struct
     by false = sym low
     by true = plain_literal x is 0 low
 
--- What may stand behind a closure's parameters may be a statement if what stands first in it may begin one, and if no closure ends
+-- What may follow a closure's parameters may be a statement if what stands first in it may begin one, and if no closure ends
 -- it whose body keeps braces only since no struct literal may stand there.
 pub body_law : (x : Expr) (no_struct : Bool) → placed (about_expr x) (plain 0 no_struct) ≡ true
     → ((about_expr x).starts && (about_expr x).tight) ≡ placed (about_expr x) statement
 body_law x no_struct = facts_body (about_expr x) no_struct (expr_lawful x)
 
--- What may be a statement may stand behind a closure's parameters, and where no struct literal may stand it may if it holds none
+-- What may be a statement may stand after a closure's parameters, and where no struct literal may stand it may if it holds none
 -- outside delimiters.
 pub place_law : (x : Expr) (no_struct : Bool) → placed (about_expr x) statement ≡ true
     → (not no_struct || (about_expr x).structless) ≡ placed (about_expr x) (plain 0 no_struct)

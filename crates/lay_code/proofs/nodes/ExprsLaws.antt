@@ -133,7 +133,7 @@ step_view x = subst StepView (views.roll-out-Step x) (step_layer (views.out-Step
 
 -- ---- what is told of it
 
--- an operator and the operand behind it, and an operand and the operator behind it
+-- an operator and the operand after it, and an operand and the operator after it
 abbrev pub behind_op : Op × Expr → Op × ExprFacts
 behind_op x = (x.0, about_expr x.1)
 

@@ -204,7 +204,7 @@ module _ (p : Place) where
             (and_from (is_there targets && before) (placed x (plain 1 p.no_struct)) (and_from (is_there targets) before t.1 t.2) c.1)),
       )
 
-  -- Chain: the operands behind the first, the last of them with the rest as the node's
+  -- Chain: the operands after the first, the last of them with the rest as the node's
   -- what the place asks of the last operand
   abbrev Asked : Tail → Type 0
   Asked t = (not (p.op_after && is_open t) ≡ true) × (not (p.lt_after && is_typed t) ≡ true)
@@ -442,7 +442,7 @@ module _ (p : Place) (ts : Tokens) where
       last (y ∷ []) = refl
       last (y ∷ z ∷ more) = last (z ∷ more)
 
-  -- A unary expression refuses besides, behind `&` and the path `raw`, what would make it a raw borrow.
+  -- A unary expression refuses besides, after `&` and the path `raw`, what would make it a raw borrow.
   pub unary_follows : (ps : List Prefix) (x : ExprFacts) → p.level ≤ 12 → (ends_in_amp ps && x.is_raw) ≡ false
       → Iff (follows (expr_facts (Expr-F.Unary ps x)) p ts ≡ true)
       ((nat_le (strength ts) p.level ≡ true) × (follows x (as_node p 12) ts ≡ true))

@@ -51,7 +51,7 @@ undress_dressed k n y le bare macro =
     strip_dressed is_lone_body undressed undressed_strips k n y le bare
     (λ j l. alone_is_lone (dress j y) (dressed_no_macro j y (macro (omega (arith, l)))))
 
--- ---- what stands behind an arm
+-- ---- what follows an arm
 
 pub record ArmBehind (last : Bool) (ts : Tokens) : Type 0 where
   pub begun : Begun ts
@@ -93,7 +93,7 @@ module _ (fronts : Fronts) (depth : ℕ) (within : ExprWithin) (reads : (least :
       → undressed (length ts) x ≡ y → arm_body within ts ≡ Some ((y, body_need (is_lone_body (about_expr x).kind) n), rest)
   body_made x y n ts at rest h e u = rw (h, e, u) refl
 
-  -- what stands behind the body, and how its end is read
+  -- what follows the body, and how its end is read
   body_end : (y : Expr) (last : Bool) (k : ℕ) (ts rest : Tokens) → IsBehind (ArmComma last (is_free (about_expr y))) k ts rest → ArmBehind last rest
       → (follows (about_expr (dress k y)) statement ts ≡ true) × (arm_end (is_free (about_expr (dress k y))) ts ≡ Some rest) × (length rest ≤ length ts)
   body_end y last k ts rest (inl e) b =
@@ -220,7 +220,7 @@ module _ (fronts : Fronts) (depth : ℕ) (within : ExprWithin) (reads : (least :
   one_turn a last ts rest s g b =
       let r = arm_read a last ts rest s g b in let f = fronts.arms a last depth ts rest s g in (r.0, r.1, (f.more, r.2, f.less))
 
-  -- further arms stand behind
+  -- further arms follow
   next_behind : (a : Arm) (last : Bool) (ts rest : Tokens) → Spells ((about_arm a).form last) depth ts rest → (about_arm a).good ≡ true → ArmBehind false ts
   next_behind a last ts rest s g =
       let f = fronts.arms a last depth ts rest s g in record { begun = f.begun; no_comma = f.no_comma; end = λ h. absurd (cc) }

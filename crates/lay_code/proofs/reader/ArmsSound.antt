@@ -82,7 +82,7 @@ body_by x y m last ts z mid p behind = by (is_lone_body (about_expr x).kind) ref
         let s = subst (λ d. Spells told.form d p.at p.end) depth p.form in
         within_pairs y last (suc m) 0 ts p.at p.end z mid may (omega arith) o s c (behind 0 (λ e. bare.1))
 
--- ---- the comma behind a body
+-- ---- the comma after a body
 
 or_true : (b : Bool) → (b || true) ≡ true
 or_true true = refl
@@ -109,7 +109,7 @@ no_comma x y false zero z f e same =
     inl (subst (λ (v : Expr). (is_free (about_expr v) || false) ≡ true) (sym (same refl)) free, refl)
 
 module _ (budget : ℕ) (within : ExprWithin) (sound : SoundExprWithin budget within) where
-  -- The body of an arm stands there, whether the arm is the last, where nothing more stands behind the last alone.
+  -- The body of an arm stands there, whether the arm is the last, where nothing more stands after the last alone.
   record BodyHeld (x : Expr × ℕ) (ts rest : Tokens) : Type 0 where
     form : (last : Bool) → (last ≡ false → more_items rest ≡ true) → Spells (body_form x.0 last) x.1 ts rest
     stands : placed (about_expr x.0) statement ≡ true

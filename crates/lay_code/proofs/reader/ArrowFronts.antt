@@ -1,4 +1,4 @@
--- No expression begins with a `->`: behind a `-` an operand stands.
+-- No expression begins with a `->`: after a `-` an operand stands.
 use Rattle.std.proofs.Common.{◌≡◌, ℕ, zero, suc, Bool, true, false, not, ◌&&◌, nat_le, List, [], ◌∷◌, map, codes, Option, option_map, Some, None, if◌then◌else◌, refl, sym, ap, subst, ◌∙◌}
 use Rattle.std.specs.Prelude.{◌==◌}
 use Rattle.std.proofs.lemmas.Bool.{and_parts, false_from_ne_true}
@@ -59,7 +59,7 @@ arrow_lead ts l h e =
 lead_no_arrow : (ts : Tokens) (l : ExprLead) → expr_lead_at ts ≡ Some l → is_prefix_lead l ≡ false → is_op (codes "->") ts ≡ false
 lead_no_arrow ts l e n = false_from_ne_true (is_op (codes "->") ts) (λ h. let k = arrow_lead ts l h e in absurd (cc))
 
--- ---- behind a `-`
+-- ---- after a `-`
 
 -- A `>` begins no expression.
 greater_lead : (ts rest : Tokens) → IsOne Punct (codes ">") ts rest → expr_lead_at ts ≡ None

@@ -1,4 +1,4 @@
--- What stands behind the word `async` tells what it begins: behind that of a closure its bars do, or `move` and its bars.
+-- What follows the word `async` tells what it begins: after that of a closure its bars do, or `move` and its bars.
 use Rattle.std.proofs.Common.{◌≡◌, ℕ, Bool, true, false, List, [], ◌∷◌, map, codes, Some, refl, ap, ◌∙◌}
 use Rattle.lay_piece.specs.Forms.{opening}
 use Rattle.lay_piece.specs.declared.kind.Delim.TheVariants.{Brace}

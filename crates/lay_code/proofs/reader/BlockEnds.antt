@@ -112,12 +112,12 @@ word_ends word ts rest o span bound rename =
       bound = bound;
     }
 
--- `if`, behind which a guard stands
+-- `if`, after which a guard stands
 pub if_ends : (ts rest : Tokens) → IsOne Ident (codes "if") ts rest → Ends ts
 unfolding lead_at
 if_ends ts rest o = let f = (one_front Ident (codes "if") ts rest o).1 in word_ends (codes "if") ts rest o (rw f refl) (rw f refl) (rw f refl)
 
--- `in`, behind the pattern of a loop
+-- `in`, after the pattern of a loop
 pub in_ends : (ts rest : Tokens) → IsOne Ident (codes "in") ts rest → Ends ts
 unfolding lead_at
 in_ends ts rest o = let f = (one_front Ident (codes "in") ts rest o).1 in word_ends (codes "in") ts rest o (rw f refl) (rw f refl) (rw f refl)
@@ -156,7 +156,7 @@ else_follows x ts rest o n =
     not_both true = refl
     not_both false = refl
 
--- ---- `=` and `|` behind patterns
+-- ---- `=` and `|` after patterns
 
 -- An `=` may follow every pattern.
 pub equals_fits : (place : PatPlace) (x : PatFacts) (ts : Tokens) → is_op (codes "=") ts ≡ true → Fits place x ts
@@ -183,7 +183,7 @@ equals_fits place x ts h = by place
     by Alternatives = (other_op (codes "=") (codes "|") refl ts h, found)
     by Single = found
 
--- The `|` behind the parameters of a closure may follow every pattern, though another one may stand behind it.
+-- The `|` after the parameters of a closure may follow every pattern, though another one may stand after it.
 pub bar_free : (ts rest : Tokens) → IsOne Punct (codes "|") ts rest → types.Free ts
 bar_free ts rest o = record {
   colons = no_other_op 58 (codes ":") 124 ts rest refl o;
@@ -196,7 +196,7 @@ bar_free ts rest o = record {
 pub bar_quiet : (ts rest : Tokens) → IsOne Punct (codes "|") ts rest → Quiet ts
 bar_quiet ts rest o = free_quiet ts (bar_free ts rest o) (rw (one_front Punct (codes "|") ts rest o).1 refl)
 
--- and every type, as no bound goes on behind it
+-- and every type, as no bound goes on after it
 pub bar_type : (ts rest : Tokens) → IsOne Punct (codes "|") ts rest → types.Quiet ts
 bar_type ts rest o = record { free = bar_free ts rest o; plus = no_other_op 43 [] 124 ts rest refl o }
 

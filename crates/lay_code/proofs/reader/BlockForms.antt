@@ -23,7 +23,7 @@ use Rattle.lay_code.proofs.nodes.BlocksLaws.{StmtView, IsLet, IsItem, IsExpr, bl
 
 -- ---- a block begins with a `{`
 
--- A `{` stands at the front, and no less is left behind it than behind the whole.
+-- A `{` comes next, and no less is left after it than after the whole.
 abbrev pub Opened : Tokens → Tokens → Type 0
 Opened ts rest = (inside : Tokens) × IsOne (Opener Brace) (opening Brace ∷ []) ts inside × (length rest ≤ length inside)
 
@@ -57,7 +57,7 @@ block_opened b lead depth ts rest s =
 
 -- ---- a block taken apart
 
--- its braces, what is skipped behind the first, its inner attributes and its statements
+-- its braces, what is skipped after the first, its inner attributes and its statements
 pub record BlockParts (attrs : List Attr) (stmts : List StmtFacts) (depth : ℕ) (ts rest : Tokens) : Type 0 where
   pub inside : Tokens
   pub start : Tokens
@@ -71,7 +71,7 @@ each_line_rows : (fs : List Form) (depth : ℕ) (ts rest : Tokens) → Spells (e
 each_line_rows [] depth ts rest s = s
 each_line_rows (f ∷ fs) depth ts rest s = (s.0, s.1, each_line_rows fs depth s.0 rest s.2)
 
--- a body, whatever is skipped behind its `{`
+-- a body, whatever is skipped after its `{`
 abbrev BodyParts : List Bit → List Form → ℕ → Tokens → Tokens → Type 0
 BodyParts skips fs depth ts rest = (inside start end : Tokens) × IsOne (Opener Brace) (opening Brace ∷ []) ts inside
     × AreBits skips inside start × Rows (SpelledAt depth) fs start end × IsOne (Closer Brace) (closing Brace ∷ []) end rest
@@ -103,7 +103,7 @@ parts_block attrs stmts lead depth ts rest p =
 
 -- ---- SOFT
 
--- What has neither attributes nor a `;` is no statement behind which `;` may stand.
+-- What has neither attributes nor a `;` is no statement after which `;` may stand.
 pub bare_unended : (s : Stmt) → (about_stmt s).bare ≡ true → (about_stmt s).unended ≡ true
 bare_unended s h = by s (stmt_view s) h
   where

@@ -1,4 +1,4 @@
--- What statements, arms and parameters of closures begin with, what stands behind their attributes, and the `;` of a block
+-- What statements, arms and parameters of closures begin with, what follows their attributes, and the `;` of a block
 -- that are dropped.
 use Rattle.std.proofs.Common.{◌≡◌, ℕ, zero, suc, ◌<◌, Bool, true, false, not, ◌&&◌, ◌||◌, List, [], ◌∷◌, map, length, codes, Option, option_map, Some, None, inl, inr, refl, sym, ap, subst, ◌∙◌, arith}
 use Rattle.std.proofs.lemmas.Bool.{and_parts, cases_Bool, false_from_ne_true, not-true, or_cases, or_left, or_right}
@@ -61,11 +61,11 @@ semicolons_behind : (n : ℕ) (ts rest : Tokens) → AreSemicolons n ts rest →
 semicolons_behind zero ts rest s h = rw s (none_behind rest h)
 semicolons_behind (suc n) ts rest s h = rw (one_front Punct (codes ";") ts s.0 s.1).1 (semicolons_behind n s.0 rest s.2 h)
 
--- Behind any number of `;` what is left begins where no `;` stands.
+-- After any number of `;` what is left begins where no `;` stands.
 pub any_behind : (ts rest : Tokens) → AnySemicolons ts rest → first (is_mark (codes ";")) rest ≡ false → behind_semicolons ts ≡ rest
 any_behind ts rest s h = semicolons_behind s.0 ts rest s.1 h
 
--- ---- what ends a statement begins no item behind `union`
+-- ---- what ends a statement begins no item after `union`
 
 pub semicolon_no_item : (ts rest : Tokens) → IsOne Punct (codes ";") ts rest → NoItem ts
 unfolding name
@@ -98,7 +98,7 @@ const_opens ts l h c = by (first (opens Brace) (tail ts)) refl
 none_of : (a b c d e : Bool) → a ≡ false → b ≡ false → c ≡ false → d ≡ false → e ≡ false → (a || b || c || d || e) ≡ false
 none_of a b c d e f g h i j = rw (f, g, h, i, j) refl
 
--- It begins no item, where nothing that makes one stands behind it.
+-- It begins no item, where nothing that makes one stands after it.
 pub expr_no_item : (x : Expr) (place : Place) (depth : ℕ) (ts rest : Tokens) → Spells (about_expr x).form depth ts rest
     → placed (about_expr x) place ≡ true → ((about_expr x).block_like ≡ false → NoItem rest) → begins_item ts ≡ false
 expr_no_item x place depth ts rest s w behind =
@@ -168,7 +168,7 @@ expr_no_item x place depth ts rest s w behind =
       | inr e ↦ rw e refl
     ]
 
--- What stands at the front of a statement behind its attributes: no attribute, no `;`, and no `}`.
+-- What stands at the beginning of a statement after its attributes: no attribute, no `;`, and no `}`.
 pub record Start (ts : Tokens) : Type 0 where
   pub more : ends_items ts ≡ false
   pub semicolon : first (is_mark (codes ";")) ts ≡ false
@@ -206,7 +206,7 @@ item_start (t ∷ ts) h = by t.kind h
 
 -- ---- attributes before them
 
--- at the front of a statement: no inner attribute, no `;`, and no `}`; fewer tokens are left
+-- at the beginning of a statement: no inner attribute, no `;`, and no `}`; fewer tokens are left
 pub record StmtFront (ts rest : Tokens) : Type 0 where
   pub more : ends_items ts ≡ false
   pub semicolon : first (is_mark (codes ";")) ts ≡ false
@@ -241,13 +241,13 @@ attrs_begin (a ∷ more) depth ts mid rest r s less =
       less = omega (arith, f.shorter, less);
     }
 
--- ---- statements, behind their attributes
+-- ---- statements, after their attributes
 
 five_good : (a b c d e : Bool) → (a && b && c && d && e) ≡ true → (a ≡ true) × (b ≡ true) × (c ≡ true) × (d ≡ true) × (e ≡ true)
 five_good true true true true true h = (h, h, h, h, h)
 five_good _ _ _ _ _ h = absurd (cc)
 
--- what stands behind `let`
+-- what follows `let`
 abbrev pub behind_let : Pat → Option Ty → Option Expr → Option Block → Form
 behind_let pat ty x o = Part (pat_form Single (about_pat pat))
     (let_type ty (Part (value_form (option_map about_expr x)) (Part (else_form (option_map about_block o)) (piece semicolon))))
@@ -329,7 +329,7 @@ expr_parts attrs x ended depth ts rest s g ends =
     by true mid t n = semicolon_no_item mid rest (piece_bit (Fixed Punct (codes ";")) depth mid rest t)
     by false mid t n = subst NoItem (sym t) (n refl)
 
--- ---- the front of any statement
+-- ---- the beginning of any statement
 
 pub stmt_front : (s : Stmt) (depth : ℕ) (ts rest : Tokens) → Spells (about_stmt s).form depth ts rest → (about_stmt s).good ≡ true
     → StmtFront ts rest

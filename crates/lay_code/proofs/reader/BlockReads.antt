@@ -52,7 +52,7 @@ pub record StmtBegun (ts rest : Tokens) : Type 0 where
   pub more : more_items ts ≡ true
   pub less : length rest < length ts
 
--- An item is told by what stands behind its attributes.
+-- An item is told by what follows its attributes.
 pub record ItemAhead (ts : Tokens) : Type 0 where
   pub attrs : List Attr
   pub mid : Tokens
@@ -73,7 +73,7 @@ pub record ArmBegun (ts rest : Tokens) : Type 0 where
   pub more : more_items ts ≡ true
   pub less : length rest < length ts
 
--- neither a name, nor a `!` before one: so no item behind a word of its own
+-- neither a name, nor a `!` before one: so no item after a word of its own
 abbrev pub NoItem : Tokens → Type 0
 NoItem ts = (is_some (name ts) ≡ false) × ((is_op (codes "!") ts && is_some (name (drop 1 ts))) ≡ false)
 
@@ -81,13 +81,13 @@ NoItem ts = (is_some (name ts) ≡ false) × ((is_op (codes "!") ts && is_some (
 pub record Fronts : Type 0 where
   pub stmts : (s : Stmt) (depth : ℕ) (ts rest : Tokens) → Spells (about_stmt s).form depth ts rest → (about_stmt s).good ≡ true → StmtBegun ts rest
   pub items : (one : Item) (depth : ℕ) (ts rest : Tokens) → GoodAt (about_item Module) depth one ts rest → (told_of_item one).call ≡ false → ItemAhead ts
-  -- Nothing stands behind an expression that makes it an item.
+  -- Nothing stands after an expression that makes it an item.
   pub exprs : (x : Expr) (depth : ℕ) (ts rest : Tokens) → Spells (about_expr x).form depth ts rest → placed (about_expr x) statement ≡ true
       → ((about_expr x).block_like ≡ false → NoItem rest) → ExprAhead ts
   pub leads : (x : Expr) (place : Place) (depth : ℕ) (ts rest : Tokens) → Spells (about_expr x).form depth ts rest → placed (about_expr x) place ≡ true
       → (expr_lead_at ts ≡ Some (about_expr x).lead) × (length rest < length ts)
   pub arms : (a : Arm) (last : Bool) (depth : ℕ) (ts rest : Tokens) → Spells ((about_arm a).form last) depth ts rest → (about_arm a).good ≡ true → ArmBegun ts rest
-  -- No attribute stands at the front of a pattern.
+  -- No attribute stands at the beginning of a pattern.
   pub pats : (x : Pat) (depth : ℕ) (ts rest : Tokens) → Spells (pat_form Alternatives (about_pat x)) depth ts rest
       → pat_good Alternatives (about_pat x) ≡ true → begins_attr false ts ≡ false
   -- A parameter of a closure begins with no bar.
@@ -98,6 +98,6 @@ pub record Fronts : Type 0 where
       → is_op (codes "->") ts ≡ false
   -- A `=>` ends an expression.
   pub arrows : (ts : Tokens) → is_op (codes "=>") ts ≡ true → ExprEnds false ts
-  -- An `else` may stand behind an expression that may precede one.
+  -- An `else` may stand after an expression that may precede one.
   pub elses : (x : Expr) (depth : ℕ) (ts rest : Tokens) → Spells (about_expr x).form depth ts rest → placed (about_expr x) FREE ≡ true
       → may_precede_else (about_expr x) ≡ true → first (is_keyword (codes "else")) rest ≡ true → follows (about_expr x) FREE rest ≡ true

@@ -1,5 +1,5 @@
--- A block taken apart: its inner attributes, the `;` that are dropped behind them, and its statements, each with the `;` that
--- are dropped behind it. Behind a statement that doesn't end by itself the `}` stands.
+-- A block taken apart: its inner attributes, the `;` that are dropped after them, and its statements, each with the `;` that
+-- are dropped after it. After a statement that doesn't end by itself the `}` stands.
 use Rattle.std.proofs.Common.{◌≡◌, ℕ, Bool, true, false, not, ◌&&◌, ◌||◌, List, [], ◌∷◌, map, if◌then◌else◌, ◌⊎◌, inl, inr, refl, sym, ap, subst, ◌∙◌}
 use Rattle.std.proofs.lemmas.Bool.{and_parts, cases_Bool}
 use Rattle.lay_piece.specs.Forms.{closing, opening}
@@ -23,7 +23,7 @@ use Rattle.lay_code.proofs.reader.BlockForms.{PartsOf}
 
 -- ---- inner attributes
 
--- The `;` behind attributes stand behind the last; where there is none, they stand behind the `{`.
+-- The `;` after attributes stand after the last; where there is none, they stand after the `{`.
 attrs_apart : (attrs : List Attr) (depth : ℕ) (inside start mid : Tokens) → AreBits (dropped_if (is_plain attrs)) inside start
     → Rows (SpelledAt depth) (attrs_before (map attr_form attrs)) start mid
     → (at : Tokens) × Rows (SpelledAt depth) (map attr_form attrs) inside at × AnySemicolons at mid
@@ -43,12 +43,12 @@ attrs_apart (a ∷ more) depth inside start mid s r = subst Apart (sym s) (by a 
 
 -- ---- statements
 
--- what stands behind a statement; the flag says that it is an expression without a `;`
+-- what follows a statement; the flag says that it is an expression without a `;`
 abbrev pub Behind : Bool → Tokens → Tokens → Type 0
 Behind true ts rest = ts ≡ rest
 Behind false ts rest = AnySemicolons ts rest
 
--- a statement and what stands behind it
+-- a statement and what follows it
 pub record StmtRow (depth : ℕ) (s : Stmt) (ts rest : Tokens) : Type 0 where
   pub at : Tokens
   pub spelled : Spells (about_stmt s).form depth ts at

@@ -45,7 +45,7 @@ pub record BlockAt (depth : ℕ) (b : Block) (ts rest : Tokens) : Type 0 where
   pub stmts : Rows (λ s. SpelledAt depth (stmt_form (about_stmt s))) b.stmts start end
   pub closed : Closed Brace end rest
 
--- inner attributes, and the `;` behind the last
+-- inner attributes, and the `;` after the last
 attrs_then : (a : Attr) (more : List Attr) (depth : ℕ) (ts rest : Tokens) → Rows (SpelledAt depth) (attrs_before (map attr_form (a ∷ more))) ts rest
     → (mid : Tokens) × Rows (SpelledAt depth) (map attr_form (a ∷ more)) ts mid × AnySemicolons mid rest
 attrs_then a [] depth ts rest r =

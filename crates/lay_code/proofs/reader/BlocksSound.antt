@@ -45,7 +45,7 @@ use Rattle.lay_code.proofs.reader.ExprSoundLevel.{SoundExprWithin}
 
 -- ---- any number of `;`
 
--- All `;` at the front are left behind.
+-- What is left begins after all `;` that come first.
 pub semicolons_behind : (ts : Tokens) → AnySemicolons ts (behind_semicolons ts)
 semicolons_behind [] = (0, refl)
 semicolons_behind (t ∷ ts) = by (is_mark (codes ";") t) refl (semicolons_behind ts)
@@ -58,7 +58,7 @@ semicolons_behind (t ∷ ts) = by (is_mark (codes ";") t) refl (semicolons_behin
 pub semicolons_texts : (ts : Tokens) → InText ts → InText (behind_semicolons ts)
 semicolons_texts ts t = bit_texts Semicolons ts (behind_semicolons ts) (semicolons_behind ts) t
 
--- Where none stands, nothing is left behind.
+-- Where no `;` comes first, nothing is skipped.
 pub no_semicolons : (ts : Tokens) → first (is_mark (codes ";")) ts ≡ false → behind_semicolons ts ≡ ts
 no_semicolons [] h = refl
 no_semicolons (t ∷ ts) h = rw h refl
@@ -82,7 +82,7 @@ never A h = absurd (cc h)
 
 -- ---- what is held of statements
 
--- A statement stands there at the depth that stands with it, which is within the budget. No `;` stands behind one that
+-- A statement stands there at the depth that stands with it, which is within the budget. No `;` stands after one that
 -- may not have one.
 pub record IsStmt (budget : ℕ) (s : StmtFacts) (n : ℕ) (ts rest : Tokens) : Type 0 where
   pub need : n ≤ budget
@@ -114,7 +114,7 @@ bare_unended s = by s (stmt_view s)
 module _ (budget : ℕ) (within : ExprWithin) (sound : SoundExprWithin budget within) where
   -- ---- the parts of a `let`
 
-  -- A type behind its `:` leads to what stands behind it, or there is none.
+  -- A type after its `:` leads to what follows it, or there is none.
   abbrev pub TypeHeld : Option Ty × ℕ → Tokens → Tokens → Type 0
   TypeHeld x ts rest =
       (x.1 ≤ budget) × ((f : Form) (depth : ℕ) (end : Tokens) → x.1 ≤ depth → Spells f depth rest end → Spells (let_type x.0 f) depth ts end)
@@ -137,7 +137,7 @@ module _ (budget : ℕ) (within : ExprWithin) (sound : SoundExprWithin budget wi
       ))
       (λ b. (omega arith, (λ f depth end le r. r), refl)) t x rest h
 
-  -- a value behind its `=`, if there is one
+  -- a value after its `=`, if there is one
   abbrev pub ValueHeld : Option Expr × ℕ → Tokens → Tokens → Type 0
   ValueHeld x ts rest =
       (x.1 ≤ budget) × Spells (value_form (option_map about_expr x.0)) x.1 ts rest × (value_placed (option_map about_expr x.0) ≡ true)
@@ -153,7 +153,7 @@ module _ (budget : ℕ) (within : ExprWithin) (sound : SoundExprWithin budget wi
       ((s.0.0, (at, (ts, refl, (at, o, (at, refl, refl))), (mid, s.0.1, refl)), s.0.2), s.1))
       (λ b. (omega arith, refl, refl)) t x rest h
 
-  -- a block behind its `else`, if there is one
+  -- a block after its `else`, if there is one
   abbrev may_good : Option Block → Type 0
   may_good None = Unit {0}
   may_good (Some b) = (about_block b).good ≡ true
@@ -178,11 +178,11 @@ module _ (budget : ℕ) (within : ExprWithin) (sound : SoundExprWithin budget wi
   else_good_is None (Some b) h g = absurd (cc h)
   else_good_is (Some x) (Some b) h g = and_from (precedes_else (Some (about_expr x))) (about_block b).good h g
 
-  -- ---- statements, behind their attributes
+  -- ---- statements, after their attributes
 
   module _ (ts : Tokens) (attrs : List Attr) (at : Tokens)
       (rows : (depth : ℕ) → Rows (GoodAt (about_attr false) depth) attrs ts at) (t : InText at) where
-    -- What is spelled behind attributes is spelled with them.
+    -- What is spelled after attributes is spelled with them.
     led : (f : Form) (depth : ℕ) (rest : Tokens) → Spells f depth at rest → Spells (behind_attrs (map attr_form attrs) f) depth ts rest
     led f depth rest s =
         behind_attrs_spelled (map attr_form attrs) f depth ts at rest (attrs_spelled false depth attrs ts at (rows depth)).0 s

@@ -43,7 +43,7 @@ last_attr depth f [] ts at r =
     (end, (at, form, (end, (end, semicolons_behind at, refl), refl)), refl)
 last_attr depth f (g ∷ fs) ts at r = (r.0, r.1, last_attr depth g fs r.0 at r.2)
 
--- What is behind the `{` up to the first statement.
+-- What follows the `{` up to the first statement.
 abbrev Begun : ℕ → List Attr → Tokens → Tokens → Type 0
 Begun depth attrs ts rest =
     (start : Tokens) × AreBits (dropped_if (is_plain attrs)) ts start × Rows (SpelledAt depth) (attrs_before (map attr_form attrs)) start rest
@@ -79,7 +79,7 @@ soft_spelled (a ∷ attrs) stmts depth ts rest h = h
 
 -- ---- statements in a block
 
--- A statement stands in a block, with the `;` that are dropped behind it; one that doesn't end by itself is the last.
+-- A statement stands in a block, with the `;` that are dropped after it; one that doesn't end by itself is the last.
 record StmtRow (budget : ℕ) (x : Stmt × ℕ) (ts rest : Tokens) : Type 0 where
   more : more_items ts ≡ true
   need : x.1 ≤ budget
@@ -109,7 +109,7 @@ stmts_spelled budget most (x ∷ xs) ts rest le r =
 
 -- ---- what is held of blocks
 
--- A block stands there, behind a blank or not, at the depth that stands with it, which is within the budget.
+-- A block stands there, after a blank or not, at the depth that stands with it, which is within the budget.
 pub record BlockStands (budget : ℕ) (b : BlockFacts) (n : ℕ) (ts rest : Tokens) : Type 0 where
   pub need : n ≤ budget
   pub form : (lead : Bool) → Spells (b.form lead) n ts rest
@@ -119,7 +119,7 @@ pub record BlockStands (budget : ℕ) (b : BlockFacts) (n : ℕ) (ts rest : Toke
 abbrev pub BlockHeld : ℕ → Block × ℕ → Tokens → Tokens → Type 0
 BlockHeld budget x ts rest = BlockStands budget (about_block x.0) x.1 ts rest
 
--- A statement, and the `;` behind it.
+-- A statement, and the `;` after it.
 stmt_behind : (s : StmtFacts) (b : Bool) (depth : ℕ) (ts mid : Tokens) → (b ≡ true → first (is_mark (codes ";")) mid ≡ false)
     → Spells s.form depth ts mid
     → Spells (if b then Part s.form Done else Part s.form (piece dropped)) depth ts (behind_semicolons mid)

@@ -43,7 +43,7 @@ use Rattle.lay_code.proofs.reader.Followed.{bodiless, takes}
 abbrev pub EndsBare : Form → Type 0
 EndsBare f = bodiless f ≡ true
 
--- It does so where what stands behind a part does, and the part does or isn't last.
+-- It does so where what follows a part does, and the part does or isn't last.
 pub part_bare : (i f : Form) → EndsBare f → EndsBare i → EndsBare (Part i f)
 part_bare i f h g = and_from (bodiless f) (takes f || bodiless i) h (or_right (takes f) (bodiless i) g)
 

@@ -30,7 +30,7 @@ module _ (fronts : Fronts) (depth : ℕ) (within : ExprWithin) (reads : ExprRead
   before_block level x ts rest inside s g o =
       reads.exprs (plain level true) x ts rest s g (inl (ends_follow (about_expr x) (plain level true) rest (brace_ends_expr rest inside o)))
 
-  -- ---- a branch, behind its `if`
+  -- ---- a branch, after its `if`
 
   branch_made : (b : Branch) (m n : ℕ) (ts mid rest : Tokens) → condition_by within ts ≡ Some ((b.condition, m), mid)
       → block_by within mid ≡ Some ((b.body, n), rest) → branch_by within ts ≡ Some ((b, max m n), rest)

@@ -83,7 +83,7 @@ alone_follows no_struct y ts h =
 
 -- ---- its form
 
--- Whatever its braces are, it is spelled as a body with nothing behind it, and ends as one.
+-- Whatever its braces are, it is spelled as a body with nothing after it, and ends as one.
 body_spelled : (b : Braces) (f : Form) (depth : ℕ) (ts rest : Tokens) → Spells (Body b Nothing f Done) depth ts rest → Spells (closure_body b f) depth ts rest
 body_spelled Bare f depth ts rest s = s
 body_spelled Unseen f depth ts rest s = s

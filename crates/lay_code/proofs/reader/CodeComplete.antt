@@ -1,4 +1,4 @@
--- Expressions, blocks behind an `else` and items that are spelled are read, at each budget from their depth on: all of them at once,
+-- Expressions, blocks after an `else` and items that are spelled are read, at each budget from their depth on: all of them at once,
 -- since each is within the others.
 use Rattle.std.proofs.Common.{◌≡◌, ℕ, zero, suc, ◌≤◌, true, refl, subst, arith}
 use Rattle.lay_form.specs.Form.{Done, Deeper}

@@ -103,7 +103,7 @@ code_sound (suc budget) =
 pub expr_in_sound : (budget : ℕ) (place : Place) → SoundStep (expr_at place budget) (ExprHeld place budget)
 expr_in_sound budget place = (code_sound budget).exprs place
 
--- An expression that is read stands there, at the depth that it needs, and the tokens behind it may follow it at its place.
+-- An expression that is read stands there, at the depth that it needs, and the tokens after it may follow it at its place.
 pub exprs_stand : (place : Place) (budget : ℕ) (ts : Tokens) (x : Expr) (need : ℕ) (rest : Tokens) → InText ts
     → expr_at place budget ts ≡ Some ((x, need), rest)
     → (n : ℕ) × (drop n ts ≡ rest) × (need ≤ budget) × ExprFront place (about_expr x) ts n need

@@ -80,7 +80,7 @@ let_told [] = refl
 let_told ((None, x) ∷ rs) = let_told rs
 let_told ((Some pat, x) ∷ rs) = refl
 
--- Further links are spelled one behind the other, each behind its `&&`.
+-- Further links are spelled one after the other, each after its `&&`.
 abbrev LinkSpelled : ℕ → ReadLink → Tokens → Tokens → Type 0
 LinkSpelled depth r ts mid = (at : Tokens) × IsOperator (codes "&&") ts at × Spells (told r).form depth at mid
 
@@ -93,7 +93,7 @@ links_spelled depth (r ∷ rs) ts rest s =
 module _ (depth : ℕ) (within : ExprWithin) (reads : ExprReads depth within) where
   -- ---- a link
 
-  -- what stands behind it; the flag says that a further link does, with its `&&`
+  -- what follows it; the flag says that a further link does, with its `&&`
   abbrev Behind : Bool → Tokens → Type 0
   Behind true ts = binary ts ≡ Some op.AndAnd
   Behind false ts = ExprEnds true ts

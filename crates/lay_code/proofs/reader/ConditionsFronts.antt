@@ -168,7 +168,7 @@ no_range : (depth : ℕ) → NoRange depth
 no_range zero x no_struct first ts rest s w l = absurd (no_depth x ts rest s)
 no_range (suc depth) x no_struct first ts rest s w l = by_kind depth (no_range depth) no_struct first ts rest x (rising x) s w l
 
--- ---- at the front of the tokens
+-- ---- at the beginning of the tokens
 
 -- Where `..` or `..=` stands, a range begins.
 dots_range : (ts : Tokens) → begins_dots ts ≡ true → expr_lead_at ts ≡ Some ByRange

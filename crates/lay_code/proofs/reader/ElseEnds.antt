@@ -72,7 +72,7 @@ soft_ends b = subst (λ (F : BlockFacts). EndsInBrace F.soft) (sym (block_is b))
 branch_soft : (b : Branch) → EndsInBrace (about_branch b).soft
 branch_soft b = subst (λ (F : BranchFacts). EndsInBrace F.soft) (sym (branch_is b)) (soft_ends b.body)
 
--- further branches, behind what ends so
+-- further branches, after what ends so
 more_end : (bs : List Branch) (before : Bool) → before ≡ true → brace_behind before (more_branches (map about_branch bs) Done) ≡ true
 more_end [] before h = h
 more_end (b ∷ bs) before h = more_end bs (brace_behind _ (about_branch b).soft) (branch_soft b _)

@@ -112,7 +112,7 @@ module _ (within : ExprWithin) (place : Place) where
         (x : Expr) (level : ℕ) (first : Bool) (ts mid : Tokens) → level ≤ top → Known level depth (about_expr x) first ts mid
         → Reach level depth x ts mid
 
-    -- ---- by an operator behind an operand
+    -- ---- by an operator after an operand
 
     -- Where an operand is reached, so is what an operator of its level makes of it.
     pub reach_on : (x y : Expr) (operator level depth : ℕ) (ts mid rest : Tokens) → Reach (suc operator) depth x ts mid

@@ -35,7 +35,7 @@ use Rattle.lay_code.proofs.reader.ExprReads.{ExprReads}
 use Rattle.lay_code.proofs.reader.ExprSteps.{step_begun, postfix_parts, postfix_read}
 use Rattle.lay_code.proofs.reader.Followed.{SpelledBefore, bodiless_tail, node_parts, part_parts, takes, unspelled}
 
--- Behind an operator that is no step, what begins a statement begins a part of it.
+-- After an operator that is no step, what begins a statement begins a part of it.
 starts_on : (first begins step dot : Bool) → step ≡ false → first ≡ begins → first ≡ (begins && not (step && dot))
 starts_on first begins true dot n e = absurd (cc)
 starts_on true true false dot n e = refl
@@ -192,7 +192,7 @@ module _ (within : ExprWithin) (place : Place) (top : ℕ) (Begun : Tokens → E
   dots_op true = op.UptoEq
   dots_op false = op.Upto
 
-  -- It stands behind the start.
+  -- It stands after the start.
   dots_at : (inclusive : Bool) (f : Form) (at mid : Tokens) → Spells (Piece (dots inclusive) f) depth at mid
       → (behind : Tokens) × AtOp 1 (dots_op inclusive) at behind
   unfolding dots_op

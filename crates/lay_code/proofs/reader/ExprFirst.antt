@@ -1,5 +1,5 @@
--- What begins an expression begins no item: behind `unsafe` a `{` stands, behind `async` no function, and behind a first word
--- `union` or `macro_rules` nothing that would make it an item, but for what stands behind the whole expression.
+-- What begins an expression begins no item: after `unsafe` a `{` stands, after `async` no function, and after a first word
+-- `union` or `macro_rules` nothing that would make it an item, but for what follows the whole expression.
 use Rattle.std.proofs.Common.{◌≡◌, ℕ, zero, suc, Bool, true, false, not, ◌&&◌, ◌||◌, nat_le, List, [], ◌∷◌, ◌++◌, map, drop, codes, Option, option_map, Some, None, is_some, ◌⊎◌, inl, inr, refl, sym, ap, subst, ◌∙◌}
 use Rattle.std.specs.Str.{bytes_eq}
 use Rattle.std.proofs.lemmas.Bool.{and_parts, cases_Bool, false_from_ne_true, or_cases}
@@ -120,7 +120,7 @@ args_colons a depth ts rest s g = by a (args_view a) s g
         inl (op_no_item (codes "::") refl ts o.0)
     by _ (IsRound xs y) t h = let e = sym (ap (λ (F : ArgsFacts). F.code.good) (args_round_is xs y)) ∙ h in absurd (cc)
 
--- Behind the first word of what is spelled stands nothing of it, or nothing that would make the word an item. Where the flag
+-- After the first word of what is spelled stands nothing of it, or nothing that would make the word an item. Where the flag
 -- says no, something of it stands there.
 abbrev pub Alone : Bool → Tokens → Tokens → Type 0
 Alone may ts rest = ((may ≡ true) × (tail ts ≡ rest)) ⊎ NoItem (tail ts)
@@ -177,7 +177,7 @@ path_alone p depth ts rest s g h =
 
 -- ---- what is told of an expression
 
--- the words behind `async` that make it a function
+-- the words after `async` that make it a function
 abbrev pub fn_words : List (List ℕ)
 fn_words = codes "fn" ∷ codes "unsafe" ∷ codes "extern" ∷ []
 
@@ -200,7 +200,7 @@ word_not_lead : (word : List ℕ) (m l : ExprLead) → ((us : Tokens) → expr_l
 word_not_lead word m l is differs ts h = false_from_ne_true (first (is_keyword word) ts) (λ e.
     differs (sym (one_lead Ident word ts (tail ts) (keyword_one word ts e) ∙ is (tail ts)) ∙ h))
 
--- Behind the `async` of a closure no function stands.
+-- After the `async` of a closure no function stands.
 closure_no_fn : (ts : Tokens) → begins_closure ts ≡ true → begins_with fn_words ts ≡ false
 closure_no_fn ts h =
     elim (or_cases (first (is_mark (codes "|")) ts) (first (is_keyword (codes "move")) ts && first (is_mark (codes "|")) (tail ts)) h) [
@@ -289,7 +289,7 @@ async_plain moves b may depth ts rest s =
         let c = block_opened b true depth us rest (part_alone ((about_block b).form true) depth us rest t) in
         rw (one_front (Opener Brace) (opening Brace ∷ []) us c.0 c.1).1 refl
 
--- a macro call, of which the `!` stands behind its path
+-- a macro call, of which the `!` stands after its path
 call_alone : (c : MacroCall) (may : Bool) (depth : ℕ) (ts rest : Tokens) → SpelledCall c depth ts rest → named_item ts ≡ true → Alone may ts rest
 unfolding name
 call_alone c may depth ts rest s h = by (simple_path_front c.path depth ts s.mid s.good s.path)
@@ -310,7 +310,7 @@ call_alone c may depth ts rest s h = by (simple_path_front c.path depth ts s.mid
     by (OfWord raw text at o g) = inr (rw (one_left (word_kind raw) text ts at o) (op_no_item (codes "::") refl at g))
     by (OfOne raw text o) = inr (rw (one_left (word_kind raw) text ts s.mid o) bang_no_item)
 
--- a struct literal, of which the `{` stands behind its path
+-- a struct literal, of which the `{` stands after its path
 struct_alone : (p : Path) (fs : List Form) (last may : Bool) (depth : ℕ) (ts mid rest : Tokens) → Spells (about_path p Code).form depth ts mid
     → (about_path p Code).good ≡ true → Spells (braces last fs) depth mid rest → named_item ts ≡ true → Alone may ts rest
 struct_alone p fs last may depth ts mid rest s g b h = elim (path_alone p depth ts mid s g h) [

@@ -63,7 +63,7 @@ one_begins : (k : Kind) (text : List ℕ) (l : ExprLead) → ((us : Tokens) → 
 one_begins k text l is f depth ts mid rest o s =
     (lone_lead k text l is ts mid o, omega (arith, one_shorter k text ts mid o, shorter f depth mid rest s))
 
--- a first token behind which nothing of the piece stands
+-- a first token after which nothing of the piece stands
 bit_begins : (k : Kind) (text : List ℕ) (l : ExprLead) → ((us : Tokens) → expr_lead_by k text us ≡ Some l)
     → (f : Form) (depth : ℕ) (ts rest : Tokens)
     → Spells (Piece (Fixed k text ∷ []) f) depth ts rest → Begun l ts rest

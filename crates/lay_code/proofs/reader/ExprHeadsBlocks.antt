@@ -1,4 +1,4 @@
--- Blocks and loops, behind a label or without one, are read where they are spelled.
+-- Blocks and loops, after a label or without one, are read where they are spelled.
 use Rattle.std.proofs.Common.{◌≡◌, ℕ, suc, ◌≤◌, max, Bool, true, false, ◌&&◌, [], ◌∷◌, codes, Option, Some, None, refl, ◌∙◌, arith}
 use Rattle.std.proofs.lemmas.Bool.{and_parts}
 use Rattle.lay_piece.specs.Forms.{opening}
@@ -43,7 +43,7 @@ use Rattle.lay_code.proofs.reader.PatternEnds.{in_follows}
 module _ (fronts : Fronts) (depth : ℕ) (within : ExprWithin) (reads : ExprReads depth within) where
   -- ---- labels
 
-  -- A block or a loop is read so, behind its label or where it has none.
+  -- A block or a loop is read so, after its label or where it has none.
   abbrev Labelled : Option Lifetime → Expr → Form → Tokens → Type 0
   Labelled label x f rest = (us : Tokens) → Spells f depth us rest → IsRead (suc depth) (labelled_expr within label) x us rest
 
@@ -63,7 +63,7 @@ module _ (fronts : Fronts) (depth : ℕ) (within : ExprWithin) (reads : ExprRead
       let r = read p.0 (part_alone f depth p.0 rest p.2) in
       (r.0, r.1, label_made l x r.0 ts s.0 p.0 rest o.0 (colon_operator s.0 p.0 p.1) r.2)
 
-  -- what stands behind a block word that begins a loop
+  -- what follows a block word that begins a loop
   loop_word : (ts at : Tokens) → IsOne Ident (codes "loop") ts at → block_word_expr within ts ≡ labelled_expr within None ts
   unfolding block_word_expr
   loop_word ts at o = rw (one_front Ident (codes "loop") ts at o).1 refl

@@ -58,7 +58,7 @@ use Rattle.lay_code.proofs.reader.ExprReads.{ExprReads}
 use Rattle.lay_code.proofs.reader.Followed.{SpelledBefore, ended_weak, part_parts, piece_parts, unspelled}
 use Rattle.lay_code.proofs.reader.PatternEnds.{bar_mark_follows, bar_quiet, brace_quiet, comma_quiet}
 
--- What stands behind a parameter: a comma, or the bar that closes them.
+-- What follows a parameter: a comma, or the bar that closes them.
 abbrev Ends : Tokens → Type 0
 Ends ts = (rest : Tokens) × (IsOne Punct (codes ",") ts rest ⊎ IsOne Punct (codes "|") ts rest)
 
@@ -80,7 +80,7 @@ ends_no_colon ts e = elim e.1 [
   | inr o ↦ no_other_op 58 [] 124 ts e.0 refl o
 ]
 
--- the bar behind the last of them, where a comma may stand before it
+-- the bar after the last of them, where a comma may stand before it
 abbrev Last : Tokens → Tokens → Type 0
 Last ts rest = (last : Tokens) × MayBe form.comma ts last × IsOne Punct (codes "|") last rest
 
@@ -183,7 +183,7 @@ module _ (fronts : Fronts) (depth : ℕ) (within : ExprWithin) (reads : ExprRead
   further_ends [] ts end rest s l = rw s (last_ends end rest l)
   further_ends (p ∷ ps) ts end rest s l = (s.0, inl (bit_alone (Fixed Punct (codes ",")) ts s.0 s.1))
 
-  -- further parameters, each behind a comma
+  -- further parameters, each after a comma
   further_read : (ps : List ClosureParam) (n : ℕ) (found : List (ClosureParam × ℕ)) (ts end rest : Tokens) → length ts ≤ n
       → list_all is_closure_param ps ≡ true → Spells (each comma_gap (map node.closure_param ps)) depth ts end → Last end rest
       → (behind : Tokens) × (element_end (is_mark (codes "|")) ts ≡ Some behind) × ReadOn n found ps behind rest
@@ -258,11 +258,11 @@ module _ (fronts : Fronts) (depth : ℕ) (within : ExprWithin) (reads : ExprRead
   BodyRead t is_async moves no_struct ps f x rest = (need : ℕ) (us : Tokens) → need ≤ depth → SpelledBefore t f no_struct depth us rest
       → IsRead (suc depth) (closure_body within no_struct is_async moves ps need) x us rest
 
-  -- What stands behind the parameters takes a token at least.
+  -- What follows the parameters takes a token at least.
   abbrev Takes : Form → Type 0
   Takes f = (us : Tokens) → Spells f depth us us → ⊥
 
-  -- behind its `async`
+  -- after its `async`
   behind_read : (t : Tail) (is_async moves no_struct : Bool) (ps : List ClosureParam) (f : Form) (x : Expr) (ts rest : Tokens) → Takes f
       → SpelledBefore t (behind_async moves ps f) no_struct depth ts rest → list_all is_closure_param ps ≡ true
       → BodyRead t is_async moves no_struct ps f x rest → IsRead (suc depth) (closure_behind within no_struct is_async) x ts rest

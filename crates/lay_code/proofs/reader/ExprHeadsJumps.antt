@@ -35,7 +35,7 @@ use Rattle.lay_code.proofs.reader.ExprQuiet.{fits_tail, tail_fits}
 use Rattle.lay_code.proofs.reader.ExprReads.{ExprReads}
 use Rattle.lay_code.proofs.reader.Followed.{Ended, SpelledBefore, bodiless, bodiless_tail, ended_weak, followed, last_parts, no_braced_end, piece_parts}
 
--- what is left behind an operand, in a plain place
+-- what is left after an operand, in a plain place
 pub plain_follows : (x : ExprFacts) (level : ℕ) (no_struct : Bool) (ts : Tokens) → nat_le (strength ts) level ≡ true
     → tail_follows x.tail no_struct ts ≡ true
     → follows x (plain level no_struct) ts ≡ true
@@ -62,7 +62,7 @@ taken_follows t no_struct ts h =
     or_true true e = refl
     or_true false e = e
 
--- what is left behind an operand in a plain place, where it may end within braces that aren't in the tree
+-- what is left after an operand in a plain place, where it may end within braces that aren't in the tree
 pub plain_followed : (x : ExprFacts) (level : ℕ) (no_struct : Bool) (depth : ℕ) (ts rest : Tokens) → strength rest ≤ level
     → Ended x.tail x.form no_struct depth ts rest → Followed x (plain level no_struct) depth ts rest
 plain_followed x level no_struct depth ts rest weak e = followed x (plain level no_struct) depth ts rest (le-leb (strength rest) level weak) e
@@ -71,7 +71,7 @@ plain_followed x level no_struct depth ts rest weak e = followed x (plain level 
 abbrev pub OperandBefore : Expr → Bool → ℕ → Tokens → Tokens → Type 0
 OperandBefore x no_struct depth ts rest = SpelledBefore (about_expr x).tail (about_expr x).form no_struct depth ts rest
 
--- What stands behind a part that ends in no body, where it may be spelled by nothing.
+-- What follows a part that ends in no body, where it may be spelled by nothing.
 behind_parts : (t : Tail) (i f : Form) → bodiless i ≡ true → (no_struct : Bool) (depth : ℕ) (ts rest : Tokens)
     → SpelledBefore t (Part i f) no_struct depth ts rest → Then (Spells i depth) (SpelledBefore t f no_struct depth) ts rest
 behind_parts t i f n no_struct depth ts rest (s, inl h) = (s.0, s.1, (s.2, inl h))
@@ -202,7 +202,7 @@ module _ (depth : ℕ) (within : ExprWithin) (reads : ExprReads depth within) wh
       let F = about_expr x in
       some_operand 2 no_struct x ts rest (last_parts F.tail no_struct depth F.form ts rest s) g (omega (arith, weak))
 
-  -- the operator of a range and its end, behind a start that needs so much or none
+  -- the operator of a range and its end, after a start that needs so much or none
   pub range_read : (start : Option Expr) (need : ℕ) → need ≤ depth
       → (inclusive : Bool) (end : Option Expr) (no_struct : Bool) (ts rest : Tokens)
       → SpelledBefore (tail_of_end (option_map about_expr end)) (Piece (dots inclusive) (end_form (option_map about_expr end) Done)) no_struct depth ts rest

@@ -40,7 +40,7 @@ use Rattle.lay_code.proofs.reader.ExprLeads.{expr_no_closer}
 use Rattle.lay_code.proofs.reader.ExprQuiet.{ExprEnds, ends_follow, comma_ends_expr, semicolon_ends_expr, closer_ends_expr, element_ends_expr}
 use Rattle.lay_code.proofs.reader.ExprReads.{ExprReads}
 
--- Behind an element a comma stands and the further ones, or what closes the list.
+-- After an element a comma stands and the further ones, or what closes the list.
 behind_first : {A : Type 0} (d : Delim) (P : A → Tokens → Tokens → Type 0) (xs : List A) (ts rest : Tokens) → Behind d P xs ts rest
     → ((xs ≡ []) × Closed d ts rest) ⊎ ((next : Tokens) × IsOne Punct (codes ",") ts next × Elements d P xs next rest)
 behind_first d P [] ts rest b =
@@ -94,7 +94,7 @@ module _ (depth : ℕ) (within : ExprWithin) (reads : ExprReads depth within) wh
   all_free_of : (xs : List Expr) → all_free (map about_expr xs) ≡ true → list_all Free xs ≡ true
   all_free_of xs g = sym (list_all-map (λ (x : ExprFacts). placed x FREE) about_expr xs) ∙ g
 
-  -- the elements of a list, behind what opens it
+  -- the elements of a list, after what opens it
   pub opened_elements : (d : Delim) (xs : List Expr) (ts rest : Tokens)
       → Spells (comma_list true (opener d) (closer d) (expr_forms (map about_expr xs))) depth ts rest
       → (inside : Tokens) × IsOne (Opener d) (opening d ∷ []) ts inside × Elements d Here xs inside rest

@@ -1,4 +1,4 @@
--- Behind a first word `raw` neither `const` nor `mut` stands within an expression that may stand behind a `&`. So the `&` is
+-- After a first word `raw` neither `const` nor `mut` stands within an expression that may stand after a `&`. So the `&` is
 -- read alone.
 use Rattle.std.proofs.Common.{◌≡◌, ℕ, zero, suc, Bool, true, false, not, ◌&&◌, ◌||◌, nat_le, leb-true, le-leb, List, [], ◌∷◌, ◌++◌, map, codes, Option, option_map, Some, None, is_some, ◌⊎◌, inl, inr, refl, sym, ap, subst, ◌∙◌, arith}
 use Rattle.std.specs.Prelude.{if◌then◌else◌}
@@ -76,11 +76,11 @@ word_is_raw false text ts rest o h = let n : begins_raw ts ≡ bytes_eq text (co
 
 -- ---- paths
 
--- Behind the word something else stands, or the word is all that there is.
+-- After the word something else stands, or the word is all that there is.
 abbrev pub RawAlone : Bool → Tokens → Tokens → Type 0
 RawAlone alone ts rest = (begins_pointer (tail ts) ≡ false) ⊎ ((alone ≡ true) × (tail ts ≡ rest))
 
--- what stands behind the word, by what it was told to be
+-- what follows the word, by what it was told to be
 word_alone : (alone raw : Bool) (text : List ℕ) (ts mid rest : Tokens) → IsOne (word_kind raw) text ts mid
     → (begins_pointer mid ≡ false) ⊎ ((alone ≡ true) × (mid ≡ rest)) → RawAlone alone ts rest
 word_alone alone raw text ts mid rest o r = rw (one_left (word_kind raw) text ts mid o) r
@@ -165,7 +165,7 @@ path_raw p depth ts rest s g h =
         let n : begins_raw ts ≡ false = rw (one_front Punct (codes "<") ts v.0 o).1 refl in
         absurd (cc)
 
--- a path of words alone, behind which something else stands
+-- a path of words alone, after which something else stands
 simple_raw : (p : SimplePath) (depth : ℕ) (ts rest : Tokens) → is_simple_path p ≡ true → Spells (simple_path_form p) depth ts rest
     → begins_raw ts ≡ true
     → begins_pointer rest ≡ false → begins_pointer (tail ts) ≡ false
@@ -221,7 +221,7 @@ step_no_pointer (t ∷ ts) h = by t.kind refl
 raw_lead : (ts : Tokens) → begins_raw ts ≡ true → expr_lead_at ts ≡ Some ByPath
 raw_lead ts h = one_lead Ident (codes "raw") ts (tail ts) (keyword_one (codes "raw") ts h)
 
--- the first step stands behind a base
+-- the first step stands after a base
 steps_no_pointer : (several : Bool) (ss : List Step) (depth : ℕ) (ts rest : Tokens) → is_there (map about_step ss) ≡ true
     → Spells (steps_form several false (map about_step ss)) depth ts rest → begins_pointer ts ≡ false
 steps_no_pointer several [] depth ts rest g s = absurd (cc)
@@ -273,7 +273,7 @@ module _ (depth : ℕ) (ih : AllRaw depth) (no_struct first_flag : Bool) (ts res
       opened [] b = let c = behind_blank (opener Brace ∷ closer Brace ∷ []) mid b.0 b.1 in (c.0, c.1)
       opened (f ∷ fs) b = (b.0, bit_alone (opener Brace) mid b.0 (behind_blank (opener Brace ∷ []) mid b.0 b.1))
 
-  -- steps behind a base
+  -- steps after a base
   postfix_raw : (x : Expr) (ss : List Step) → Raw (about_expr (expr.Postfix x ss))
   postfix_raw x ss = told (expr.Postfix x ss) (Expr-F.Postfix (about_expr x) (map about_step ss)) (expr_postfix_is x ss) (λ s w l b.
       let F = about_expr x in
@@ -369,7 +369,7 @@ module _ (depth : ℕ) (ih : AllRaw depth) (no_struct first_flag : Bool) (ts res
   raw_view _ (IsBreak label x) =
       told (expr.Break label x) (Expr-F.Break label (option_map about_expr x)) (expr_break_is label x) (λ s w n b. absurd (cc))
 
--- An operand of a prefix operator that begins with the word `raw` is that path, or something else stands behind the word.
+-- An operand of a prefix operator that begins with the word `raw` is that path, or something else stands after the word.
 pub expr_raw : (depth : ℕ) → AllRaw depth
 expr_raw zero x no_struct first_flag ts rest s w l h = absurd (no_depth x ts rest s)
 expr_raw (suc depth) x no_struct first_flag ts rest s w l h =

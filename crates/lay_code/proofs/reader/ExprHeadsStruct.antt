@@ -1,4 +1,4 @@
--- Struct literals are read where they are spelled: their fields, and the base behind them.
+-- Struct literals are read where they are spelled: their fields, and the base after them.
 use Rattle.std.proofs.Common.{◌≡◌, ℕ, suc, ◌≤◌, ◌<◌, max, Bool, true, false, not, ◌&&◌, ◌||◌, List, [], ◌∷◌, ◌++◌, map, length, codes, Option, option_map, Some, None, is_some, inl, inr, refl, sym, ap, subst, ◌∙◌, append-nil, arith}
 use Rattle.std.proofs.lemmas.Bool.{and_parts}
 use Rattle.std.proofs.lemmas.List.Folds.{list_all-map}
@@ -58,7 +58,7 @@ use Rattle.lay_code.proofs.reader.ExprLeads.{expr_no_closer}
 use Rattle.lay_code.proofs.reader.ExprQuiet.{closer_ends_expr, element_ends_expr}
 use Rattle.lay_code.proofs.reader.ExprReads.{ExprReads}
 
--- Behind an element of a list no `:` stands.
+-- After an element of a list no `:` stands.
 ends_no_colon : (ts : Tokens) → Ends Brace ts → is_op (codes ":") ts ≡ false
 ends_no_colon ts e = elim e.1 [
   | inl o ↦ (types.comma_ends ts e.0 o).colon
@@ -79,7 +79,7 @@ module _ (depth : ℕ) (within : ExprWithin) (reads : ExprReads depth within) wh
   abbrev value_form : Expr → Form
   value_form x = Piece colon (Part (about_expr x).form Done)
 
-  -- a value behind its `:`
+  -- a value after its `:`
   value_read : (x : Expr) (ts rest : Tokens) → Spells (value_form x) depth ts rest → placed (about_expr x) FREE ≡ true → Ends Brace rest
       → (at : Tokens) × IsOperator (codes ":") ts at × IsRead depth (within.exprs FREE) x at rest
   value_read x ts rest s g e =
@@ -218,7 +218,7 @@ module _ (depth : ℕ) (within : ExprWithin) (reads : ExprReads depth within) wh
 
   -- ---- a base
 
-  -- what stands behind the fields up to the `}`, where the flag says that fields have ended
+  -- what follows the fields up to the `}`, where the flag says that fields have ended
   abbrev BaseRead : Option (Option Expr) → Bool → Tokens → Tokens → Type 0
   BaseRead b last ts rest = IsRead depth (base within last) b ts rest
 
@@ -333,7 +333,7 @@ module _ (depth : ℕ) (within : ExprWithin) (reads : ExprReads depth within) wh
             )
       ]
 
-  -- fields and a `..` behind them
+  -- fields and a `..` after them
   with_base : (fs : List FieldExpr) (x : Option Expr) (ts rest : Tokens)
       → Spells (braces false (field_forms fs ++ dotted_form (option_map about_expr x) ∷ [])) depth ts rest
       → all_good (map about_field_expr fs) ≡ true → base_placed (Some (option_map about_expr x)) ≡ true → InBraces fs (Some x) ts rest
@@ -381,7 +381,7 @@ module _ (depth : ℕ) (within : ExprWithin) (reads : ExprReads depth within) wh
 
   -- ---- struct literals
 
-  -- A path before a `{` is read, and what the braces hold behind it, where a struct literal may stand.
+  -- A path before a `{` is read, and what the braces hold after it, where a struct literal may stand.
   struct_there : (p : Path) (fs : List FieldExpr) (b : Option (Option Expr)) (ts mid rest : Tokens)
       → Spells (about_path p Code).form depth ts mid
       → (about_path p Code).good ≡ true → InBraces fs b mid rest

@@ -1,4 +1,4 @@
--- Unary expressions are read where they are spelled: the operators one by one, and the operand behind the last of them.
+-- Unary expressions are read where they are spelled: the operators one by one, and the operand after the last of them.
 use Rattle.std.proofs.Common.{◌≡◌, ℕ, suc, ◌≤◌, ◌<◌, leb-true, Bool, true, false, not, ◌&&◌, ◌||◌, nat_le, List, [], ◌∷◌, length, drop, codes, Some, is_some, inl, inr, refl, arith}
 use Rattle.std.proofs.lemmas.Bool.{and_parts, cases_Bool, not-true}
 use Rattle.lay_piece.specs.declared.kind.Kind.TheVariants.{Ident, Punct}
@@ -38,7 +38,7 @@ use Rattle.lay_code.proofs.reader.Followed.{Ended, SpelledBefore, bodiless_tail,
 
 -- ---- one operator
 
--- Behind it stands what is no more of a `&`.
+-- After it stands what is no more of a `&`.
 abbrev Stops : Prefix → Tokens → Type 0
 Stops p ts = is_amp p ≡ true → amp_by ts ≡ before.Amp
 
@@ -55,7 +55,7 @@ char_prefix p c ts rest is one o =
     let front : (prefix ts ≡ Some p) = rw f.1 (is rest) in
     (front, rw (one, f.1) refl, one_shorter Punct (c ∷ []) ts rest o)
 
--- a `&`, by what stands behind it
+-- a `&`, by what follows it
 amp_prefix : (p : Prefix) (ts at : Tokens) → IsOne Punct (codes "&") ts at → amp_by at ≡ p → prefix ts ≡ Some p
 unfolding prefix
 amp_prefix p ts at o e = rw (one_front Punct (codes "&") ts at o).1 (rw e refl)
@@ -144,7 +144,7 @@ prefix_turn p ts rest r = (rw r.0 refl, rw (r.0, r.1) refl, r.2)
 abbrev PrefixSpelled : Prefix → Tokens → Tokens → Type 0
 PrefixSpelled p ts rest = AreBits (prefix_bits p) ts rest
 
--- They are spelled one behind the other, before the operand.
+-- They are spelled one after the other, before the operand.
 prefixes_before : (ps : List Prefix) (t : Tail) (f : Form) (no_struct : Bool) (depth : ℕ) (ts rest : Tokens)
     → SpelledBefore t (prefixes_form ps f) no_struct depth ts rest → Then (Rows PrefixSpelled ps) (SpelledBefore t f no_struct depth) ts rest
 prefixes_before [] t f no_struct depth ts rest s = (ts, refl, s)
@@ -185,7 +185,7 @@ operand_fits t more no_struct ts h =
     less true h = h
     less false h = refl
 
--- Behind a `&` that ends the operators stands no more of it.
+-- After a `&` that ends the operators stands no more of it.
 operand_stops : (x : Expr) (no_struct : Bool) (depth : ℕ) (ts rest : Tokens) → Spells (about_expr x).form depth ts rest
     → placed (about_expr x) (plain 12 no_struct) ≡ true → ((about_expr x).is_raw ≡ true → begins_pointer rest ≡ false)
     → amp_by ts ≡ before.Amp
@@ -216,7 +216,7 @@ operand_stops x no_struct depth ts rest s g alone = elim (cases_Bool (begins_raw
         rw (no_mut, e, a, b) refl
 
 module _ (depth : ℕ) (within : ExprWithin) (reads : ExprReads depth within) where
-  -- operators and an operand behind them
+  -- operators and an operand after them
   unary_there : (ps : List Prefix) (x : Expr) (no_struct : Bool) (ts mid rest : Tokens) → Rows PrefixTurn ps ts mid
       → OperandBefore x no_struct depth mid rest
       → placed (about_expr x) (plain 12 no_struct) ≡ true → not (is_prefix_lead (about_expr x).lead) ≡ true
@@ -229,7 +229,7 @@ module _ (depth : ℕ) (within : ExprWithin) (reads : ExprReads depth within) wh
       let r = reads.exprs (plain 12 no_struct) x mid rest s.0 g (plain_followed (about_expr x) 12 no_struct depth mid rest weak s.1) in
       (suc r.0, omega (arith, r.1), rw (prefixes, r.2) refl)
 
-  -- Neither `const` nor `mut` stands behind `&raw`.
+  -- Neither `const` nor `mut` stands after `&raw`.
   none_pointer : (ps : List Prefix) (x : Expr) (no_struct : Bool) (mid rest : Tokens) → ends_in_amp ps ≡ true → (about_expr x).is_raw ≡ true
       → Ended (tail_of (Expr-F.Unary ps (about_expr x))) (about_expr x).form no_struct depth mid rest → begins_pointer rest ≡ false
   none_pointer ps x no_struct mid rest a k e =

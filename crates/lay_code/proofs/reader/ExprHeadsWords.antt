@@ -40,7 +40,7 @@ use Rattle.lay_code.proofs.reader.ExprReads.{ExprReads}
 
 -- ---- a label that may be there
 
--- It is read, and what stands behind it is spelled.
+-- It is read, and what follows it is spelled.
 pub label_read : (label : Option Lifetime) (f : Form) (depth : ℕ) (ts rest : Tokens) → Spells (label_form label f) depth ts rest
     → (label ≡ None → first is_lifetime ts ≡ false)
     → (mid : Tokens) × (if_there (first is_lifetime ts) lifetime ts ≡ Some (label, mid)) × Spells f depth mid rest

@@ -1,5 +1,5 @@
 -- What goes on with an expression: operators between operands, `as`, and the first tokens of steps. Each has its strength,
--- and stands at a front that nothing else begins.
+-- and stands where nothing else begins.
 use Rattle.std.proofs.Common.{◌≡◌, ℕ, suc, ◌≤◌, ◌<◌, Bool, true, false, not, ◌||◌, List, [], ◌∷◌, length, drop, codes, Option, Some, None, ◌⊎◌, inl, inr, refl, sym, ap, subst, ◌∙◌, arith}
 use Rattle.std.specs.Prelude.{◌==◌, if◌then◌else◌}
 use Rattle.std.specs.List.{list_all}
@@ -31,7 +31,7 @@ at_of : (text : List ℕ) (found : Option (List ℕ)) → is_op_of text found �
 at_of text None h = absurd (cc)
 at_of text (Some other) h = ap Some (sym (bytes_same text other h))
 
--- What is spelled as an operator is the operator at the front.
+-- What is spelled as an operator is the operator at the beginning.
 pub op_is_at : (text : List ℕ) (ts : Tokens) → is_op text ts ≡ true → op_at ts ≡ Some text
 op_is_at text ts h = at_of text (op_at ts) h
 
@@ -40,16 +40,16 @@ named_op : (o : Op) → named all_ops (op_text o) ≡ Some o
 named_op op.Set = refl
 named_op _ = refl
 
--- A spelled operator is the operator at the front.
+-- A spelled operator is the operator at the beginning.
 pub op_binary : (o : Op) (ts : Tokens) → is_op (op_text o) ts ≡ true → binary ts ≡ Some o
 unfolding binary
 op_binary o ts h = rw (op_is_at (op_text o) ts h) (named_op o)
 
--- The operator between operands at the front is the operator at the front.
+-- The operator between operands at the beginning is the operator at the beginning.
 binary_at : (ts : Tokens) (o : Op) → binary ts ≡ Some o → op_at ts ≡ Some (op_text o)
 binary_at ts o h = op_is_at (op_text o) ts (binary_op ts o h)
 
--- What holds of all operators holds of the one at the front.
+-- What holds of all operators holds of the one at the beginning.
 named_all : (p : Op → Bool) (ops : List Op) (text : List ℕ) (o : Op) → list_all p ops ≡ true → named ops text ≡ Some o → p o ≡ true
 named_all p [] text o g h = absurd (cc)
 named_all p (x ∷ ops) text o g h =
@@ -59,7 +59,7 @@ named_all p (x ∷ ops) text o g h =
       | inr f ↦ named_all p ops text o parts.1 f.1
     ]
 
--- the same of the operator at the front
+-- the same of the operator at the beginning
 pub binary_all : (p : Op → Bool) → list_all p all_ops ≡ true → (ts : Tokens) (o : Op) → binary ts ≡ Some o → p o ≡ true
 unfolding binary
 binary_all p g ts o h = let b = bind_some (op_at ts) (named all_ops) o h in named_all p all_ops b.0 o g b.2
@@ -89,12 +89,12 @@ pub some_text : (o : Op) → is_there (op_text o) ≡ true
 some_text op.Set = refl
 some_text _ = refl
 
--- Behind an operator fewer tokens are left.
+-- After an operator fewer tokens are left.
 pub text_shorter : (text : List ℕ) → is_there text ≡ true → (ts rest : Tokens) → IsOperator text ts rest → length rest < length ts
 text_shorter [] g ts rest s = absurd (cc)
 text_shorter (c ∷ cs) g ts rest s = op_shorter c cs ts rest s
 
--- An operator of this level is spelled, and the rest stands behind it.
+-- An operator of this level is spelled, and the rest stands after it.
 pub record AtOp (level : ℕ) (o : Op) (ts at : Tokens) : Type 0 where
   pub binary : binary ts ≡ Some o
   pub strength : strength ts ≡ suc level

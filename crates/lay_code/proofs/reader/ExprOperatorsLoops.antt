@@ -23,7 +23,7 @@ module _ {A : Type 0} (more : Tokens → Bool) (read : Tokens → Read A) (depth
       let s = turns_needs xs r.0 rest r.2 in
       ((x, turn.0) ∷ s.0, ap (λ l. x ∷ l) s.1, omega (arith, turn.1, s.2), (r.0, turn.2, s.3))
 
-  -- Nodes that are read one behind the other, up to where the loop doesn't go on, are what the loop reads.
+  -- Nodes that are read one after the other, up to where the loop doesn't go on, are what the loop reads.
   pub nodes_repeat : (xs : List A) (ts rest : Tokens) → Rows (NodeTurn more read depth) xs ts rest → more rest ≡ false
       → NodesRead xs ts rest
   nodes_repeat xs ts rest r h =

@@ -1,4 +1,4 @@
--- Operators and the operands behind them, and types behind `as`: what is spelled is read.
+-- Operators and the operands after them, and types after `as`: what is spelled is read.
 use Rattle.std.proofs.Common.{◌≡◌, ℕ, suc, ◌≤◌, Bool, true, false, not, inl, ◌||◌, ◌&&◌, List, [], ◌∷◌, map, codes, Some, refl, sym, ap, subst, arith, le-leb, eqb-true, eq-eqb}
 use Rattle.std.specs.Prelude.{◌==◌}
 use Rattle.std.proofs.lemmas.Bool.{and_parts, and_from, or_left}
@@ -55,13 +55,13 @@ before_plain x level no_struct angle w =
     let b = before_parts x level no_struct false angle p.0 in
     rw (b.high, b.struct_free) p.1
 
--- ---- an operator and the operand behind it
+-- ---- an operator and the operand after it
 
--- The operator is spelled, and the operand behind it.
+-- The operator is spelled, and the operand after it.
 abbrev pub OperandSpelled : ℕ → Op × Expr → Tokens → Tokens → Type 0
 OperandSpelled depth y ts mid = (at : Tokens) × IsOperator (op_text y.0) ts at × Spells (about_expr y.1).form depth at mid
 
--- They are spelled one behind the other, and what is left may follow the last operand, or that ends within braces that aren't in
+-- They are spelled one after the other, and what is left may follow the last operand, or that ends within braces that aren't in
 -- the tree. The flag says that no struct literal may stand there.
 abbrev pub OperandsBefore : ℕ → Bool → Op × Expr → List (Op × Expr) → Tokens → Tokens → Type 0
 OperandsBefore depth no_struct y [] ts rest = (at : Tokens) × IsOperator (op_text y.0) ts at × OperandBefore y.1 no_struct depth at rest
@@ -124,7 +124,7 @@ module _ (no_struct : Bool) (depth : ℕ) where
 abbrev pub at_level : ℕ → Tokens → Bool
 at_level level ts = strength ts == suc level
 
--- An operator of a level and the operand behind it are spelled, well placed, and end well.
+-- An operator of a level and the operand after it are spelled, well placed, and end well.
 pub record OperandFits (depth level : ℕ) (no_struct : Bool) (y : Op × Expr) (ts mid : Tokens) : Type 0 where
   pub spelled : OperandSpelled depth y ts mid
   pub at : (op_level y.0 == level) ≡ true
@@ -186,7 +186,7 @@ module _ (depth level : ℕ) (no_struct : Bool) where
       chain_on (x ∷ xs) h = h
 
 module _ (depth : ℕ) (within : ExprWithin) (reads : ExprReads depth within) (level : ℕ) (no_struct : Bool) where
-  -- an operator and the operand behind it, read
+  -- an operator and the operand after it, read
   operand_read : (y : Op × Expr) (ts at mid : Tokens) (need : ℕ) → AtOp level y.0 ts at
       → within.exprs (plain (suc level) no_struct) at ≡ Some ((y.1, need), mid)
       → operand_ends level no_struct (about_expr y.1) mid ≡ true → operand within level no_struct ts ≡ Some ((y, need), mid)
@@ -228,12 +228,12 @@ module _ (depth : ℕ) (within : ExprWithin) (reads : ExprReads depth within) (l
 
 -- ---- targets and a value, as operands with operators between them
 
--- what stands first behind an operator
+-- what stands first after an operator
 abbrev pub first_of : List (Expr × Op) → Expr → Expr
 first_of [] x = x
 first_of (z ∷ more) x = z.0
 
--- the operators and the operands behind them
+-- the operators and the operands after them
 abbrev pub row_of : List (Expr × Op) → Expr → List (Op × Expr)
 row_of [] x = []
 row_of (z ∷ more) x = (z.1, first_of more x) ∷ row_of more x
@@ -245,7 +245,7 @@ row_targets [] x = (refl, refl)
 row_targets (z ∷ more) x = let r = row_targets more x in (ap (λ zs. z ∷ zs) r.0, r.1)
 
 module _ (no_struct : Bool) (depth : ℕ) where
-  -- a target, its operator and what stands behind it
+  -- a target, its operator and what follows it
   target_before : (t : Tail) (y : Expr × Op) (more : List (Expr × Op)) (f : Form) (ts rest : Tokens)
       → SpelledBefore t (targets_form (map target_of (y ∷ more)) f) no_struct depth ts rest
       → (mid at : Tokens) × Spells (about_expr y.0).form depth ts mid × IsOperator (op_text y.1) mid at
@@ -285,7 +285,7 @@ pub record TargetParts (no_struct first : Bool) (y : Expr × Op) (ys : List (Exp
   pub target : placed (about_expr y.0) (before_op 1 no_struct first false) ≡ true
   pub more : targets_placed (map target_of ys) no_struct false ≡ true
 
--- of a target, and of those behind it
+-- of a target, and of those after it
 pub target_parts : (no_struct first : Bool) (y : Expr × Op) (ys : List (Expr × Op))
     → targets_placed (map target_of (y ∷ ys)) no_struct first ≡ true
     → TargetParts no_struct first y ys
@@ -317,11 +317,11 @@ row_chains y (z ∷ more) x = refl
 
 -- ---- types
 
--- `as` is spelled, and the type behind it.
+-- `as` is spelled, and the type after it.
 abbrev pub TypeSpelled : ℕ → Ty → Tokens → Tokens → Type 0
 TypeSpelled depth x ts mid = (at : Tokens) × IsOne Ident (codes "as") ts at × Spells (about_type x).told.form depth at mid
 
--- Types are spelled one behind the other.
+-- Types are spelled one after the other.
 pub types_spelled : (depth : ℕ) (xs : List Ty) (ts rest : Tokens) → Spells (types_form (map about_type xs)) depth ts rest
     → Rows (TypeSpelled depth) xs ts rest
 types_spelled depth [] ts rest s = s
@@ -336,7 +336,7 @@ abbrev pub is_as : Tokens → Bool
 is_as = first (is_keyword (codes "as"))
 
 module _ (depth : ℕ) (within : ExprWithin) (reads : ExprReads depth within) where
-  -- a type behind `as`, read
+  -- a type after `as`, read
   type_read : (x : Ty) (need : ℕ) (ts at mid : Tokens) → IsOne Ident (codes "as") ts at
       → within.kinds.types NoBounds at ≡ Some ((x, need), mid)
       → one_type within ts ≡ Some ((x, need), mid)
@@ -377,7 +377,7 @@ module _ (depth : ℕ) (within : ExprWithin) (reads : ExprReads depth within) wh
       let quiet = as_quiet r.0 spelled.0 spelled.1 in
       (r.0, type_turn x ts r.0 r.1 goods.0 (quiet_fits NoBounds (about_type x) r.0 quiet), type_turns y more r.0 rest next goods.1 f)
 
-  -- Types behind `as` that are spelled are read, as long as they are.
+  -- Types after `as` that are spelled are read, as long as they are.
   pub types_read : (x : Ty) (xs : List Ty) (ts rest : Tokens) → Rows (TypeSpelled depth) (x ∷ xs) ts rest
       → types_good (map about_type (x ∷ xs)) ≡ true
       → strength rest ≤ 11 → may_follow (type_refuses (map about_type (x ∷ xs))) rest ≡ true

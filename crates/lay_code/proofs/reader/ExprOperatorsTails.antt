@@ -96,7 +96,7 @@ module _ (depth : ℕ) (ih : AllEnd depth) (no_struct first : Bool) (ts rest : T
       → (Spells (inside F) depth ts rest → within_of F no_struct first ≡ true → EndsAsPath (expr_facts F)) → EndsBy (about_expr x)
   told x F e f = subst EndsBy (sym e) (λ s w. f (subst (λ us. Spells (inside F) depth ts us) s.2 s.1) w)
 
-  -- the operand behind operators before it
+  -- the operand after operators before it
   prefixes_end : (ps : List Prefix) (x : Expr) (us : Tokens) → Spells (prefixes_form ps (Part (about_expr x).form Done)) depth us rest
       → (at : Tokens) × Spells (about_expr x).form depth at rest
   prefixes_end [] x us s = (us, part_alone (about_expr x).form depth us rest s)

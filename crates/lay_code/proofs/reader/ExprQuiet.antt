@@ -195,7 +195,7 @@ nothing_ends_expr no_struct = record {
   quiet = end_quiet;
 }
 
--- So does what stands behind an element of a list.
+-- So does what follows an element of a list.
 pub element_ends_expr : (no_struct : Bool) (d : Delim) (ts : Tokens) → loops.Ends d ts → ExprEnds no_struct ts
 element_ends_expr no_struct d ts e = elim e.1 [
   | inl o ↦ comma_ends_expr no_struct ts e.0 o

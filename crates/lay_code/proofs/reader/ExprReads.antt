@@ -37,12 +37,12 @@ pub record ExprReads (depth : ℕ) (within : ExprWithin) : Type 0 where
   pub kinds : types.Reads depth within.kinds
   pub pats : (place : PatPlace) (x : Pat) (ts rest : Tokens) → Spells (pat_form place (about_pat x)) depth ts rest
       → pat_good place (about_pat x) ≡ true → Fits place (about_pat x) rest → IsRead depth (within.pats place) x ts rest
-  -- blocks behind an `else`
+  -- blocks after an `else`
   pub blocks : (b : Block) (ts rest : Tokens) → Spells (Deeper ((about_block b).form true) Done) depth ts rest → (about_block b).good ≡ true
       → IsRead depth within.blocks b ts rest
   pub items : (at : Site) → Complete (about_item at) depth (within.items at)
 
--- What begins an expression, at the front of the tokens.
+-- What begins an expression, at the beginning of the tokens.
 abbrev pub head_at : ExprWithin → Bool → Tokens → Read Expr
 head_at within no_struct ts = head_by within no_struct (expr_lead_at ts) ts
 

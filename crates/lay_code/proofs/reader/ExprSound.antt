@@ -79,7 +79,7 @@ module _ (budget : ℕ) (within : ExprWithin) (sound : SoundExprWithin budget wi
         ]
       ]
 
-  -- ---- operators behind an expression
+  -- ---- operators after an expression
 
   climb_sound : (level : ℕ) (lhs : Expr × ℕ) (begun ts : Tokens) → Left lhs begun ts → InText ts → (x : Expr × ℕ) (rest : Tokens)
       → climb within place level lhs ts ≡ Some (x, rest) → Out Left begun (x, rest)

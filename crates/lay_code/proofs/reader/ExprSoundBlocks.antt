@@ -43,7 +43,7 @@ two_tails [] = refl
 two_tails (t ∷ []) = refl
 two_tails (t ∷ u ∷ ts) = refl
 
--- a word, behind which something stands
+-- a word, after which something stands
 word_leads : (word : List ℕ) (f : Form) (depth : ℕ) (ts at rest : Tokens) → IsOne kind.Ident word ts at → Spells f depth at rest
     → Spells (Piece (keyword word ∷ []) f) depth ts rest
 word_leads word f depth ts at rest o s = (at, (at, o, refl), s)
@@ -275,7 +275,7 @@ module _ (budget : ℕ) (within : ExprWithin) (sound : SoundExprWithin budget wi
   further_good (x ∷ xs) ts rest r =
       and_from (about_branch x.0).good (branches_good (map about_branch (nodes xs))) r.1.1.2 (further_good xs r.0 rest r.2)
 
-  -- the block behind the last `else`, if there is one
+  -- the block after the last `else`, if there is one
   record OtherwiseHeld (x : Option Block × ℕ) (ts rest : Tokens) : Type 0 where
     form : Spells (else_branch_form (option_map about_block x.0)) x.1 ts rest
     good : may_be_good (option_map about_block x.0) ≡ true

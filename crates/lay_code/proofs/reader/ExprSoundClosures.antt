@@ -46,7 +46,7 @@ use Rattle.lay_code.proofs.reader.ClosureBodies.{body_form, body_stands}
 use Rattle.lay_code.proofs.reader.ExprSoundLevel.{LeftHeld, SoundExprWithin, all_taken, made_before}
 use Rattle.lay_code.proofs.reader.Followed.{SpelledBefore, before_deeper, ended_as, part_made, piece_made}
 
--- What stands there is spelled before whatever stands behind it, and ends as that does.
+-- What stands there is spelled before whatever follows it, and ends as that does.
 abbrev LeadsBefore : Bool → (Form → Form) → Tokens → Tokens → Type 0
 LeadsBefore no_struct lead ts rest = (t : Tail) (f : Form) (depth : ℕ) (end : Tokens) → SpelledBefore t f no_struct depth rest end
     → SpelledBefore t (lead f) no_struct depth ts end
@@ -121,7 +121,7 @@ module _ (budget : ℕ) (within : ExprWithin) (sound : SoundExprWithin budget wi
         (leads : (u : Tail) (f : Form) (depth : ℕ) (end : Tokens) → need ≤ depth → SpelledBefore u f no_struct depth at end
         → SpelledBefore u (closure_head is_async moves params f) no_struct depth ts end)
         (good : list_all is_closure_param params ≡ true) (t : InText at) where
-      -- what stands behind the parameters
+      -- what follows the parameters
       body_sound : (x : Expr × ℕ) (rest : Tokens) → closure_body within no_struct is_async moves params need at ≡ Some (x, rest)
           → Out Left ts (x, rest)
       body_sound x rest h = elim (chosen (is_op (codes "->") at) _ _ _ h) [
@@ -179,7 +179,7 @@ module _ (budget : ℕ) (within : ExprWithin) (sound : SoundExprWithin budget wi
             )
       ]
 
-    -- a closure behind its `async`, if it has one
+    -- a closure after its `async`, if it has one
     behind_sound : (is_async : Bool) (all ts : Tokens) → LeadsBefore no_struct (when is_async (word_bits (codes "async"))) all ts → InText ts
         → (x : Expr × ℕ) (rest : Tokens) → closure_behind within no_struct is_async ts ≡ Some (x, rest) → Out Left all (x, rest)
     behind_sound is_async all ts before t x rest h =

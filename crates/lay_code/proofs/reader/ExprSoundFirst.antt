@@ -90,7 +90,7 @@ unfolding expr_lead_at
 first_is lead [] h = absurd (cc h)
 first_is lead (t ∷ ts) h = subst (Leads t.kind t.text (t ∷ ts)) h (lead_text t.kind t.text (t ∷ ts))
 
--- What each of these leads begins has its token at the front.
+-- What each of these leads begins has its token at the beginning.
 pub paren_first : (ts : Tokens) → InText ts → expr_lead_at ts ≡ Some ByParen → IsBit (opener Paren) ts (tail ts)
 paren_first [] i h = absurd (first_is ByParen [] h)
 paren_first (t ∷ ts) i h = only_first (kind.Opener Paren) (opening Paren ∷ []) refl t ts i (first_is ByParen (t ∷ ts) h)
@@ -154,7 +154,7 @@ prefix_named text us h =
     by false false false true h = refl
     by false false false false h = absurd (cc h)
 
--- What a prefix operator begins has one at its front.
+-- What a prefix operator begins has one at its beginning.
 pub prefix_first : (ts : Tokens) → expr_lead_at ts ≡ Some ByPrefix → is_some (prefix ts) ≡ true
 unfolding prefix
 prefix_first [] h = absurd (first_is ByPrefix [] h)

@@ -127,7 +127,7 @@ module _ (no_struct starts : Bool) where
   -- ---- in delimiters
 
   module _ (budget : ℕ) (within : ExprWithin) (sound : SoundExprWithin budget within) where
-    -- a tuple, by the elements behind the first
+    -- a tuple, by the elements after the first
     tuple_held : (y : Expr × ℕ) (ys : List (Expr × ℕ)) (ts inside mid at rest : Tokens) → IsBit (opener Paren) ts inside
         → ExprHeld FREE budget y inside mid → IsOne kind.Punct (codes ",") mid at
         → FreeRow budget within sound Paren ys at rest
@@ -270,7 +270,7 @@ module _ (no_struct starts : Bool) where
 
     -- ---- jumps
 
-    -- Behind an operand that is read at level 0 no operator follows.
+    -- After an operand that is read at level 0 no operator follows.
     none_follows : (x : Expr × ℕ) (ts rest : Tokens) → ExprHeld (plain 0 no_struct) budget x ts rest → strength rest ≡ 0
     none_follows x ts rest s =
         let root = root_held (plain 0 no_struct) budget (about_expr x.0) x.1 ts rest s in
@@ -283,7 +283,7 @@ module _ (no_struct starts : Bool) where
         ended_as told.tail (tail_of_jump (Some told)) told.form no_struct x.1 ts rest
         (all_taken told.tail no_struct rest (none_follows x ts rest s)) (tail_held (plain 0 no_struct) budget told x.1 ts rest s)
 
-    -- The operand of a jump is spelled behind a blank.
+    -- The operand of a jump is spelled after a blank.
     operand_spelled : (x : Expr × ℕ) (ts rest : Tokens) → ExprHeld (plain 0 no_struct) budget x ts rest
         → SpelledBefore (tail_of_jump (Some (about_expr x.0))) (operand_form (Some (about_expr x.0))) no_struct x.1 ts rest
     operand_spelled x ts rest s =

@@ -110,7 +110,7 @@ other_first true b c d e f g true p h = h
 other_first false b c d e f g true p h = absurd (cc h)
 other_first a b c d e f g false p h = absurd (cc p)
 
--- Behind an operand that takes all operators none follows.
+-- After an operand that takes all operators none follows.
 pub all_taken : (t : Tail) (no_struct : Bool) (ts : Tokens) → strength ts ≡ 0 → tail_follows t no_struct ts ≡ true
     → tail_follows (record t { takes_all = true }) no_struct ts ≡ true
 all_taken t no_struct ts z h = other_first _ _ _ _ _ _ _ (not true || strength ts == 0) (eq-eqb (strength ts) 0 z) h
@@ -130,7 +130,7 @@ other_fifth true false l f true p h = absurd (cc h)
 other_fifth false e l f true p h = absurd (cc h)
 other_fifth m e l f false p h = absurd (cc p)
 
--- Behind an operand where a `&` may stand before the path `raw` no `const` and no `mut` follows.
+-- After an operand where a `&` may stand before the path `raw` no `const` and no `mut` follows.
 pub amp_follows : (t : Tail) (amp no_struct : Bool) (ts : Tokens) → (amp ≡ true → begins_pointer ts ≡ false)
     → tail_follows t no_struct ts ≡ true → tail_follows (record t { raw = t.raw || amp }) no_struct ts ≡ true
 amp_follows t amp no_struct ts f h =

@@ -1,4 +1,4 @@
--- Operators and their operands behind an expression: what is read stands there, where what is one level deeper is read so.
+-- Operators and their operands after an expression: what is read stands there, where what is one level deeper is read so.
 use Rattle.std.proofs.Common.{◌≡◌, ℕ, suc, ◌≤◌, max, Bool, true, false, not, ◌&&◌, List, [], ◌∷◌, inl, inr, length, map, drop, Some, refl, sym, ap, subst, ◌∙◌, arith}
 use Rattle.std.specs.Prelude.{◌==◌}
 use Rattle.std.proofs.lemmas.Bool.{and_parts, and_from, eq-eqb, eqb-true}
@@ -43,7 +43,7 @@ left_placed x level no_struct false angle h w = and_from (stands x (before_op le
 module _ (budget : ℕ) (within : ExprWithin) (sound : SoundExprWithin budget within) (level : ℕ) (no_struct : Bool) where
   -- ---- operands
 
-  -- An operator of the level stands there, and its operand behind it, which ends where an operator of the level may follow.
+  -- An operator of the level stands there, and its operand after it, which ends where an operator of the level may follow.
   pub record OperandRow (x : (Op × Expr) × ℕ) (ts rest : Tokens) : Type 0 where
     pub strong : strength ts ≡ suc level
     pub named : binary ts ≡ Some x.0.0
@@ -77,7 +77,7 @@ module _ (budget : ℕ) (within : ExprWithin) (sound : SoundExprWithin budget wi
       let r = repeat_sound more (operand within level no_struct) OperandRow row_sound ts xs rest t h in
       (r.0, r.1, rows_there more OperandRow xs ts rest r.0 (eq-eqb (strength ts) (suc level) s) r.2)
 
-  -- an operator and its operand, and what stands behind it
+  -- an operator and its operand, and what follows it
   operand_spelled : (t : Tail) (most : ℕ) (x : (Op × Expr) × ℕ) (f : Form) (ts mid rest : Tokens) → OperandRow x ts mid
       → SpelledBefore t (Part (about_expr x.0.1).form f) no_struct most (drop (length (op_text x.0.0)) ts) rest
       → SpelledBefore t (B (Piece (Operator (op_text x.0.0) ∷ []) (Piece (Blank ∷ []) (Part (about_expr x.0.1).form f)))) no_struct most ts rest
@@ -162,7 +162,7 @@ module _ (budget : ℕ) (within : ExprWithin) (sound : SoundExprWithin budget wi
 
   -- ---- chains
 
-  -- Operators of one level and their operands that stand behind a first are a chain with it.
+  -- Operators of one level and their operands that stand after a first are a chain with it.
   pub chain_stands : (level : ℕ) → is_chain_level level ≡ true → (lhs : Expr × ℕ) (begun ts : Tokens) → Left lhs begun ts
       → stands (about_expr lhs.0) (before_op (suc level) no_struct starts (is_angle ts)) ≡ true → (xs : List ((Op × Expr) × ℕ))
       (end : Tokens) → Rows (OperandRow budget within sound level no_struct) xs ts end → is_there xs ≡ true
@@ -192,7 +192,7 @@ module _ (budget : ℕ) (within : ExprWithin) (sound : SoundExprWithin budget wi
       made_before no_struct starts (about_expr (expr.Chain lhs.0 (nodes xs))) (Expr-F.Chain told all) most begun end
       (expr_chain_is lhs.0 (nodes xs)) (group_made ends no_struct most false 4 inner begun end spelled) told_good
 
-  -- operators of one level and their operands behind a first
+  -- operators of one level and their operands after a first
   pub chain_stage : (level : ℕ) → is_chain_level level ≡ true → (lhs : Expr × ℕ) (begun ts : Tokens) → Left lhs begun ts
       → stands (about_expr lhs.0) (before_op (suc level) no_struct starts (is_angle ts)) ≡ true → strength ts ≡ suc level → InText ts
       → (x : Expr × ℕ) (rest : Tokens) → chain_expr within level no_struct lhs ts ≡ Some (x, rest) → Out Left begun (x, rest)
@@ -213,7 +213,7 @@ module _ (budget : ℕ) (within : ExprWithin) (sound : SoundExprWithin budget wi
   abbrev told_targets : Expr → List ((Op × Expr) × ℕ) → List (ExprFacts × Op)
   told_targets x ys = map laws.before_op (targets_of x (nodes ys))
 
-  -- what stands behind the targets before this one
+  -- what follows the targets before this one
   abbrev behind_targets : Expr → List ((Op × Expr) × ℕ) → Form
   behind_targets x ys = targets_form (told_targets x ys) (Part (about_expr (value_of x (nodes ys))).form Done)
 
@@ -221,7 +221,7 @@ module _ (budget : ℕ) (within : ExprWithin) (sound : SoundExprWithin budget wi
   abbrev value_told : Expr → List ((Op × Expr) × ℕ) → ExprFacts
   value_told x ys = about_expr (value_of x (nodes ys))
 
-  -- a target and its operator, before what stands behind them
+  -- a target and its operator, before what follows them
   target_spelled : (t : Tail) (most : ℕ) (x : Expr) (n : ℕ) (y : (Op × Expr) × ℕ) (f : Form) (ts mid end rest : Tokens) → n ≤ most
       → Spells (about_expr x).form n ts mid → Row y mid end
       → SpelledBefore t f no_struct most (drop (length (op_text y.0.0)) mid) rest
@@ -291,7 +291,7 @@ module _ (budget : ℕ) (within : ExprWithin) (sound : SoundExprWithin budget wi
       let g = goes_op ts level h (λ e. omega (arith, le, e)) (λ e. omega (arith, le, e)) in
       ap angle_by g.1 ∙ low_no_angle g.0 (omega (arith, le, g.2))
 
-  -- targets and a value behind a first target
+  -- targets and a value after a first target
   pub assign_stage : (lhs : Expr × ℕ) (begun ts : Tokens) → Left lhs begun ts
       → stands (about_expr lhs.0) (before_op 1 no_struct starts (is_angle ts)) ≡ true → strength ts ≡ 1 → InText ts
       → (x : Expr × ℕ) (rest : Tokens) → assign_expr within no_struct lhs ts ≡ Some (x, rest) → Out Left begun (x, rest)

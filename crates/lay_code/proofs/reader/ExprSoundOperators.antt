@@ -41,7 +41,7 @@ named_text (p ∷ ops) text o h = elim (chosen (bytes_eq (op_text p) text) _ _ _
   | inr g ↦ named_text ops text o g.1
 ]
 
--- The operator between operands is the one at the front.
+-- The operator between operands is the one at the beginning.
 pub binary_op : (ts : Tokens) (o : Op) → binary ts ≡ Some o → is_op (op_text o) ts ≡ true
 unfolding binary
 binary_op ts o h = by (op_at ts) h

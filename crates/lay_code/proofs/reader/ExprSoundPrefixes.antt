@@ -48,7 +48,7 @@ use Rattle.lay_code.proofs.reader.Followed.{SpelledBefore, before_deeper, ended_
 
 -- ---- one operator
 
--- A prefix operator is spelled there, and where it is a `&` before the word `raw`, then behind that stands no `const` and
+-- A prefix operator is spelled there, and where it is a `&` before the word `raw`, then after that stands no `const` and
 -- no `mut`.
 abbrev PrefixHeld : Prefix → Tokens → Tokens → Type 0
 PrefixHeld p ts rest =
@@ -69,7 +69,7 @@ tails_drop (t ∷ []) = refl
 tails_drop (t ∷ u ∷ ts) = refl
 
 module _ (t : Token) (ts : Tokens) (k : t.kind ≡ kind.Punct) where
-  -- what stands behind `&` and `raw`
+  -- what follows `&` and `raw`
   raw_named : t.text ≡ codes "&" → first (is_keyword (codes "raw")) ts ≡ true → Named (t ∷ ts) (raw_by (tail ts))
   raw_named e r =
       by (first (is_keyword (codes "const")) (tail ts)) (first (is_keyword (codes "mut")) (tail ts)) refl refl
@@ -88,7 +88,7 @@ module _ (t : Token) (ts : Tokens) (k : t.kind ≡ kind.Punct) where
       by false true f g = (raw_bits (codes "mut") g, λ a. absurd (cc a))
       by false false f g = ((ts, (k, e, refl), refl), λ a b. rw (f, g) refl)
 
-  -- what stands behind `&`
+  -- what follows `&`
   amp_named : t.text ≡ codes "&" → Named (t ∷ ts) (amp_by ts)
   amp_named e = by (first (is_keyword (codes "mut")) ts) (first (is_keyword (codes "raw")) ts) refl refl
     where
@@ -158,13 +158,13 @@ prefixes_spelled t no_struct n f [] ts mid rest r s = subst (λ us. SpelledBefor
 prefixes_spelled t no_struct n f (p ∷ ps) ts mid rest r s =
     piece_made t no_struct n (prefix_bits p) (prefixes_form ps f) ts r.0 rest r.1.0 (prefixes_spelled t no_struct n f ps r.0 mid rest r.2 s)
 
--- Where a test holds before parts and not behind them, some stand there.
+-- Where a test holds before parts and not after them, some stand there.
 pub rows_there : {A : Type 0} (more : Tokens → Bool) (P : A → Tokens → Tokens → Type 0) (xs : List A) (ts rest : Tokens)
     → Rows P xs ts rest → more ts ≡ true → more rest ≡ false → is_there xs ≡ true
 rows_there more P [] ts rest r h n = absurd (cc (sym h ∙ ap more r ∙ n))
 rows_there more P (x ∷ xs) ts rest r h n = refl
 
--- Where the last is a `&` before the word `raw`, then behind that stands no `const` and no `mut`.
+-- Where the last is a `&` before the word `raw`, then after that stands no `const` and no `mut`.
 last_amp : (ps : List Prefix) (ts mid : Tokens) → Rows PrefixHeld ps ts mid → ends_in_amp ps ≡ true
     → first (is_keyword (codes "raw")) mid ≡ true → begins_pointer (tail mid) ≡ false
 last_amp [] ts mid r h f = absurd (cc h)

@@ -1,4 +1,4 @@
--- Casts, ranges with a first end, and postfix steps behind an expression: what is read stands there, where what is one level
+-- Casts, ranges with a first end, and postfix steps after an expression: what is read stands there, where what is one level
 -- deeper is read so.
 use Rattle.std.proofs.Common.{◌≡◌, ℕ, suc, ◌≤◌, max, Bool, true, false, not, ◌&&◌, ◌||◌, List, [], ◌∷◌, inl, inr, map, codes, Some, refl, sym, subst, ◌∙◌, arith}
 use Rattle.std.specs.Prelude.{nat_le}
@@ -98,7 +98,7 @@ module _ (budget : ℕ) (within : ExprWithin) (sound : SoundExprWithin budget wi
   abbrev Left : Expr × ℕ → Tokens → Tokens → Type 0
   Left = LeftHeld no_struct starts
 
-  -- postfix steps behind a base
+  -- postfix steps after a base
   pub postfix_stage : (lhs : Expr × ℕ) (begun ts : Tokens) → Left lhs begun ts
       → stands (about_expr lhs.0) (before_op 14 no_struct (starts && not (is_dot_or_try ts)) (is_angle ts)) ≡ true
       → strength ts ≡ 14 → InText ts → (x : Expr × ℕ) (rest : Tokens) → postfix_expr within lhs ts ≡ Some (x, rest)
@@ -216,7 +216,7 @@ module _ (budget : ℕ) (within : ExprWithin) (sound : SoundExprWithin budget wi
       either false = refl
   range_op _ ts l h = absurd (cc l)
 
-  -- a range behind its first end
+  -- a range after its first end
   pub range_stage : (led : LedWithin within) (lhs : Expr × ℕ) (begun ts : Tokens) → Left lhs begun ts
       → stands (about_expr lhs.0) (before_op 2 no_struct starts (is_angle ts)) ≡ true → strength ts ≡ 2 → InText ts
       → (x : Expr × ℕ) (rest : Tokens) → range_expr within no_struct (Some lhs.0) lhs.1 ts ≡ Some (x, rest)

@@ -66,10 +66,10 @@ dot_first : (ts : Tokens) → is_op (codes ".") ts ≡ true → true ≡ is_dot_
 dot_first ts h = rw h refl
 
 module _ (budget : ℕ) (within : ExprWithin) (sound : SoundExprWithin budget within) where
-  -- ---- behind a `.`
+  -- ---- after a `.`
 
   module _ (begun ts : Tokens) (dot : IsOperator (codes ".") begun ts) where
-    -- Generic arguments behind a name and `::`, or nothing.
+    -- Generic arguments after a name and `::`, or nothing.
     abbrev GenericsHeld : Option (List Arg) → ℕ → Tokens → Tokens → Type 0
     GenericsHeld None need us rest = us ≡ rest
     GenericsHeld (Some args) need us rest =
@@ -327,7 +327,7 @@ no_call true true paren f g = absurd (cc (sym (f refl) ∙ g refl))
 no_call true false paren f g = refl
 no_call false call paren f g = refl
 
--- They are well formed, and no call stands directly behind a field.
+-- They are well formed, and no call stands directly after a field.
 pub steps_good : (xs : List (Step × ℕ)) (ts rest : Tokens) → Rows StepHeld xs ts rest → are_steps (told_steps xs) ≡ true
 steps_good [] ts rest r = refl
 steps_good (x ∷ []) ts rest r = r.1.good

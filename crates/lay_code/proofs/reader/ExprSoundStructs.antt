@@ -70,7 +70,7 @@ module _ (budget : ℕ) (within : ExprWithin) (sound : SoundExprWithin budget wi
 
   module _ (ts : Tokens) (attrs : List Attr) (at : Tokens)
       (rows : (depth : ℕ) → Rows (GoodAt (about_attr false) depth) attrs ts at) (t : InText at) where
-    -- What is spelled behind attributes is spelled with them.
+    -- What is spelled after attributes is spelled with them.
     led : (f : Form) (depth : ℕ) (rest : Tokens) → Spells f depth at rest
         → Spells (behind_attrs (map attr_form attrs) f) depth ts rest
     led f depth rest s =
@@ -152,7 +152,7 @@ module _ (budget : ℕ) (within : ExprWithin) (sound : SoundExprWithin budget wi
 
   -- ---- the base
 
-  -- A base stands there behind fields that have ended, or nothing.
+  -- A base stands there after fields that have ended, or nothing.
   abbrev BaseHeld : Bool → Option (Option Expr) → ℕ → Tokens → Tokens → Type 0
   BaseHeld last None need ts rest = ts ≡ rest
   BaseHeld last (Some None) need ts rest = (last ≡ true) × IsOperator (codes "..") ts rest

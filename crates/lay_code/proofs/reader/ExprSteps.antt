@@ -1,4 +1,4 @@
--- Steps behind a base: each is read where it is spelled, and told by its first token.
+-- Steps after a base: each is read where it is spelled, and told by its first token.
 use Rattle.std.proofs.Common.{◌≡◌, ℕ, suc, ◌≤◌, ◌<◌, max, Bool, true, false, not, ◌&&◌, ◌||◌, List, [], ◌∷◌, map, length, drop, codes, Option, Some, None, inl, inr, refl, sym, ap, subst, ◌∙◌, arith, nat_le}
 use Rattle.std.specs.Str.{chars}
 use Rattle.std.proofs.lemmas.Bool.{and_parts, or_parts, not-true, false_from_ne_true}
@@ -55,17 +55,17 @@ use Rattle.lay_code.proofs.reader.ExprReads.{ExprReads}
 
 -- ---- how a step begins
 
--- A step of which this is told stands in front of what is left.
+-- A step of which this is told stands before what is left.
 pub record StepBegun (x : StepFacts) (ts rest : Tokens) : Type 0 where
   pub begins : begins_step ts ≡ true
-  -- what stands behind a `.`
+  -- what follows a `.`
   pub dotted : is_dot_or_try ts ≡ is_dotted x.kind
   pub paren : is_call x.kind ≡ false → first (opens Paren) ts ≡ false
   pub colons : is_op (codes "::") ts ≡ false
   pub index : is_tuple_index x.kind ≡ false → begins_tuple_index ts ≡ false
   pub less : length rest < length ts
 
--- behind a `.`
+-- after a `.`
 dot_begun : (x : StepFacts) (ts at rest : Tokens) → is_dotted x.kind ≡ true → IsOperator (codes ".") ts at
     → (is_tuple_index x.kind ≡ false → first is_index_token at ≡ false) → length rest ≤ length at → StepBegun x ts rest
 dot_begun x ts at rest d o index le = record {
@@ -77,7 +77,7 @@ dot_begun x ts at rest d o index le = record {
   less = omega (arith, op_shorter 46 [] ts at o, le);
 }
 
--- behind a delimiter
+-- after a delimiter
 opener_begun : (x : StepFacts) (d : Delim) (ts at rest : Tokens) → is_dotted x.kind ≡ false → begins_step ts ≡ true
     → (is_call x.kind ≡ false → first (opens Paren) ts ≡ false)
     → IsOne (Opener d) (opening d ∷ []) ts at → length rest ≤ length at → StepBegun x ts rest
@@ -182,14 +182,14 @@ step_begun s depth ts rest t = at s (step_view s) t
         dot_begun (step_facts Step-F.Await) ts bits.0 rest refl bits.1 (λ e. rw (one_front Ident (codes "await") bits.0 u.0 one).1 refl)
         (omega (arith, one_shorter Ident (codes "await") bits.0 u.0 one, ap length u.2)))
 
--- What stands behind a field is no call, and no `::`.
+-- What follows a field is no call, and no `::`.
 abbrev pub Behind : StepKind → Tokens → Type 0
 Behind OfField ts = (first (opens Paren) ts ≡ false) × (is_op (codes "::") ts ≡ false)
 Behind _ ts = Unit {0}
 
 -- ---- what is read
 
--- Generic arguments that are read in code are angled ones behind a `::`.
+-- Generic arguments that are read in code are angled ones after a `::`.
 late_parts : (within : Within) (xs : List Arg) (need : ℕ) (ts rest : Tokens) → args_by within Code ts ≡ Some ((args.Angle xs, need), rest)
     → (opens_args_late ts ≡ true) × (ys : List (Arg × ℕ)) × (angled (one_arg within) (drop 2 ts) ≡ Some (ys, rest)) × (nodes ys ≡ xs)
     × (deepest ys ≡ need)
@@ -219,7 +219,7 @@ module _ (depth : ℕ) (within : ExprWithin) (reads : ExprReads depth within) wh
   unfolding one_step
   dotted ts at o = rw (o.0, o.1) refl
 
-  -- what stands behind a `.` and a name
+  -- what follows a `.` and a name
   named : (n : Name) (ts at : Tokens) → GoodName n ts at → dot_step within ts ≡ member_by within n at
   unfolding dot_step
   named n ts at g = rw (name_no_await n ts at g, name_no_index n.raw n.text ts at g.0, name_complete n ts at g) refl
@@ -302,7 +302,7 @@ module _ (depth : ℕ) (within : ExprWithin) (reads : ExprReads depth within) wh
       let no_paren : first (opens Paren) ts ≡ false = rw (one_front (Opener Bracket) (opening Bracket ∷ []) ts inside o).1 refl in
       rw (no (codes "."), no (codes "?"), no_paren, opener_passed Bracket ts inside o, r, closer_passed Bracket end rest c) refl
 
-  -- A step that is spelled, and behind which nothing stands that would make another of it, is read.
+  -- A step that is spelled, and after which nothing stands that would make another of it, is read.
   pub step_read : (s : Step) (ts rest : Tokens) → Spells (about_step s).form depth ts rest → (about_step s).good ≡ true
       → Behind (about_step s).kind rest
       → IsRead depth (one_step within) s ts rest
@@ -378,7 +378,7 @@ module _ (depth : ℕ) (within : ExprWithin) (reads : ExprReads depth within) wh
 
   -- ---- all steps of a base
 
-  -- a step behind which another stands
+  -- a step after which another stands
   behind_step : (x : StepFacts) (y : StepFacts) (ts rest : Tokens) → not (is_field x.kind && is_call y.kind) ≡ true
       → StepBegun y ts rest → Behind x.kind ts
   behind_step x y ts rest h b = by x.kind h
@@ -407,7 +407,7 @@ module _ (depth : ℕ) (within : ExprWithin) (reads : ExprReads depth within) wh
   behind_last OfTry ts n f = tt
   behind_last OfAwait ts n f = tt
 
-  -- steps, spelled one behind the other
+  -- steps, spelled one after the other
   abbrev StepRows : List Step → Tokens → Tokens → Type 0
   StepRows ss ts rest = Rows (λ s. SpelledAt depth (about_step s).form) ss ts rest
 
@@ -459,7 +459,7 @@ module _ (depth : ℕ) (within : ExprWithin) (reads : ExprReads depth within) wh
   ungrouped true f ts rest s = subst (λ us. Spells f depth ts us) s.2 s.1
   ungrouped false f ts rest s = s
 
-  -- A base and its steps are spelled one behind the other, in a group or not.
+  -- A base and its steps are spelled one after the other, in a group or not.
   pub postfix_parts : (x : Expr) (ss : List Step) (ts rest : Tokens)
       → Spells (postfix_form (about_expr x) (map about_step ss)) depth ts rest
       → (mid : Tokens) × Spells (about_expr x).form depth ts mid × StepRows ss mid rest
@@ -468,13 +468,13 @@ module _ (depth : ℕ) (within : ExprWithin) (reads : ExprReads depth within) wh
       let u = ungrouped several (Part (about_expr x).form (steps_form several false (map about_step ss))) ts rest s in
       (u.0, u.1, steps_spelled several false ss u.0 rest u.2)
 
-  -- A tuple index doesn't stand directly behind a number without suffix.
+  -- A tuple index doesn't stand directly after a number without suffix.
   number_apart : (a i b : Bool) → not (a && i) ≡ true → (i ≡ false → b ≡ false) → (a && b) ≡ false
   number_apart true true b n h = absurd (cc)
   number_apart true false b n h = h refl
   number_apart false i b n h = refl
 
-  -- Behind a base, steps that are spelled are read, as long as they are.
+  -- After a base, steps that are spelled are read, as long as they are.
   pub postfix_read : (x : Expr) (s : Step) (ss : List Step) (ts rest : Tokens) → StepRows (s ∷ ss) ts rest
       → are_steps (map about_step (s ∷ ss)) ≡ true
       → not ((about_expr x).is_number && is_tuple_index (about_step s).kind) ≡ true → begins_step rest ≡ false

@@ -152,7 +152,7 @@ module _ (depth : ℕ) where
 
   -- ---- what is spelled
 
-  -- Where no inner attribute begins behind those that stand there, they are read, and then the items.
+  -- Where no inner attribute begins after those that stand there, they are read, and then the items.
   front_past : (attrs : List Attr) (items : List Item) (ts mid rest : Tokens) → Rows AttrAt attrs ts mid → Rows ItemAt items mid rest
       → begins_attr true mid ≡ false
       → (m : ℕ) × (front depth ts ≡ (let read = longest_from (file_item depth) m items rest in ((attrs, read.0), read.1)))
@@ -170,7 +170,7 @@ module _ (depth : ℕ) where
       let p = front_past file.attrs file.items ts r.0 [] r.1 r.2 (items_begin Module file.items depth r.0 [] r.2 refl) in
       p.1 ∙ rw (longest_end (file_item depth) p.0 file.items [] none_left) refl
 
-  -- what is left behind what is read is no longer than what was there
+  -- what is left after what is read is no longer than what was there
   attrs_left : (n : ℕ) (found : List Attr) (ts : Tokens) → InText ts
       → (length (longest_from (attribute true) n found ts).1 ≤ length ts) × InText (longest_from (attribute true) n found ts).1
   attrs_left n found ts t =

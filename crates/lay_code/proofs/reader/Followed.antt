@@ -65,7 +65,7 @@ bits_taken (b ∷ bs) h ts rest s = elim (or_cases (takes_bit b) (takes_bits bs)
   | inr g ↦ omega (arith, bits_left (b ∷ []) ts s.0 (s.0, s.1, refl), bits_taken bs g s.0 rest s.2)
 ]
 
--- Fewer tokens are left behind it.
+-- Fewer tokens are left after it.
 taken : (f : Form) → takes f ≡ true → (depth : ℕ) (ts rest : Tokens) → Spells f depth ts rest → length rest < length ts
 taken Done h depth ts rest s = absurd (cc h)
 taken (Piece bits f) h depth ts rest s = elim (or_cases (takes_bits bits) (takes f) h) [
@@ -169,7 +169,7 @@ no_braced_end (Body braces behind i f) h depth ts rest w = absurd (cc h)
 
 -- ---- what is spelled, before what may follow it
 
--- What stands behind it may follow what it ends in, or it ends within braces that aren't in the tree and no operator follows.
+-- What follows it may follow what it ends in, or it ends within braces that aren't in the tree and no operator follows.
 -- The flag says that no struct literal may stand there.
 abbrev pub Ended : Tail → Form → Bool → ℕ → Tokens → Tokens → Type 0
 Ended t f no_struct depth ts rest = IsTrue (tail_follows t no_struct rest) ⊎ (EndsBraced f depth ts rest × IsTrue (strength rest == 0))
@@ -195,7 +195,7 @@ module _ (t : Tail) (no_struct : Bool) (depth : ℕ) where
   part_made i f ts mid rest b (s, inl h) = ((mid, b, s), inl h)
   part_made i f ts mid rest b (s, inr h) = ((mid, b, s), inr (inl (mid, b, h.0), h.1))
 
-  -- where what stands behind the part isn't spelled by nothing
+  -- where what follows the part isn't spelled by nothing
   pub part_parts : (i f : Form) → ((us : Tokens) → Spells f depth us us → ⊥) → (ts rest : Tokens) → Before (Part i f) ts rest
       → Then (Spells i depth) (Before f) ts rest
   part_parts i f never ts rest (s, inl h) = (s.0, s.1, (s.2, inl h))

@@ -123,7 +123,7 @@ abbrev is_rules : ItemLead → Bool
 is_rules OfRules = true
 is_rules _ = false
 
--- What isn't chosen for what it is, is chosen for what stands behind it.
+-- What isn't chosen for what it is, is chosen for what follows it.
 passes : (b : Bool) (x y : ItemLead) → is_rules x ≡ false → (if b then x else y) ≡ OfRules → y ≡ OfRules
 passes true x y n h = absurd (cc n)
 passes false x y n h = h

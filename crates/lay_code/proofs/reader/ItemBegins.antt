@@ -142,7 +142,7 @@ rules_item ts mid o m n =
 word_no_brace : (word : List ℕ) (ts mid : Tokens) → IsOne Ident word ts mid → first (opens Brace) ts ≡ false
 word_no_brace word ts mid o = rw (one_front Ident word ts mid o).1 refl
 
--- a name at the front
+-- a name at the beginning
 name_there : (raw : Bool) (text : List ℕ) (f : Form) (depth : ℕ) (ts rest : Tokens) → is_name raw text ≡ true
     → Spells (leaf_of raw text f) depth ts rest → is_some (name ts) ≡ true
 name_there raw text f depth ts rest g s =
@@ -152,7 +152,7 @@ name_there raw text f depth ts rest g s =
 
 -- ---- functions
 
--- a word of a function behind `async`
+-- a word of a function after `async`
 record FnWord (ts : Tokens) : Type 0 where
   word : List ℕ
   mid : Tokens
@@ -333,7 +333,7 @@ no_let ts h = false_from_ne_true (first (is_keyword (codes "let")) ts) (λ e.
     let n : begins_item ts ≡ false = rw f.1 refl in
     absurd (cc))
 
--- what stands behind its outer attributes: an item begins there, and no `let`
+-- what follows its outer attributes: an item begins there, and no `let`
 pub record ItemBegun (one : Item) (depth : ℕ) (ts : Tokens) : Type 0 where
   pub seen : Tokens
   pub attrs : Rows (GoodAt (about_attr false) depth) one.attrs ts seen

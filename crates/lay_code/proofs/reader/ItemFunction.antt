@@ -38,7 +38,7 @@ use Rattle.lay_code.proofs.reader.BlocksSoundWhole.{block_sound}
 use Rattle.lay_code.proofs.reader.ExprSoundLevel.{SoundExprWithin}
 use Rattle.lay_code.proofs.reader.ItemSound.{HeadsSound, KindHeld, kind_told, some_told}
 
--- A body stands behind a where clause that is spelled from other tokens on, or the `;` does.
+-- A body stands after a where clause that is spelled from other tokens on, or the `;` does.
 record BodyHeld (budget : ℕ) (clause : Wheres) (n : ℕ) (at : Tokens) (x : Option Block × ℕ) (ts rest : Tokens) : Type 0 where
   need : x.1 ≤ budget
   form : Spells (function_tail clause (option_map about_block x.0)) (max n x.1) at rest

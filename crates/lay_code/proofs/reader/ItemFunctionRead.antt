@@ -1,4 +1,4 @@
--- What stands behind the head of a function: its where clause, and a body or a `;`, are read where they are spelled.
+-- What follows the head of a function: its where clause, and a body or a `;`, are read where they are spelled.
 use Rattle.std.proofs.Common.{◌≡◌, ℕ, max, Bool, true, false, [], ◌∷◌, map, codes, Option, option_map, Some, None, inl, inr, refl, sym, subst, arith}
 use Rattle.std.specs.Prelude.{is_some}
 use Rattle.lay_piece.specs.Forms.{opening}
@@ -40,7 +40,7 @@ use Rattle.lay_code.proofs.reader.BlocksComplete.{block_at, block_read}
 use Rattle.lay_code.proofs.reader.ExprReads.{ExprReads}
 use Rattle.lay_code.proofs.reader.PatternEnds.{brace_quiet, where_quiet}
 
--- What stands behind a head before its where clause and a `;` may follow a return type, and the type of a value.
+-- What follows a head before its where clause and a `;` may follow a return type, and the type of a value.
 pub quiet_type : (x : Ty) (ts : Tokens) → Quiet ts → first (is_keyword (codes "as")) ts ≡ false → type_follows Bounds (about_type x) ts ≡ true
 quiet_type x ts q r = rw (q.plus, and_none (about_type x).bounded, quiet_follows (about_type x).told.refuses ts (free_quiet ts q.free r)) refl
 
@@ -76,7 +76,7 @@ module _ (fronts : Fronts) (at : Site) (depth : ℕ) (within : ItemWithin) (inne
   bodiless_made ts rest o =
       let none : first (opens Brace) ts ≡ false = rw (one_front Punct (codes ";") ts rest o).1 refl in rw (none, mark_passed (codes ";") ts rest o) refl
 
-  -- what stands behind the head of a function: a where clause, and a body or a `;`
+  -- what follows the head of a function: a where clause, and a body or a `;`
   pub record Tailed (h : FnHead) (w : Wheres) (b : Option Block) (ts rest : Tokens) : Type 0 where
     pub mid : Tokens
     pub fits : output_follows h.output ts ≡ true

@@ -47,7 +47,7 @@ attrs_begin : (attrs : List Attr) (depth : ℕ) (ts rest : Tokens) → Rows (Goo
 attrs_begin [] depth ts rest r h = (rw r h.0, rw r h.1)
 attrs_begin (a ∷ attrs) depth ts rest r h = outer_begins_item a depth ts r.0 r.1
 
--- a visibility and what is behind it
+-- a visibility and what follows it
 pub record Parts (at : Site) (one : Item) (depth : ℕ) (ts rest : Tokens) : Type 0 where
   pub seen : Tokens
   pub mid : Tokens
@@ -94,7 +94,7 @@ item_parts at one depth ts rest g =
 pub item_none : (at : Site) (one : Item) (ts rest : Tokens) → Spells (about_item at one).form zero ts rest → ⊥
 item_none at one ts rest s = subst (λ (F : ItemFacts). Spells F.form zero ts rest) (item_is one) s
 
--- A visibility that is there begins an item, and so does what stands behind one that is nothing.
+-- A visibility that is there begins an item, and so does what follows one that is nothing.
 pub vis_begins : (v : Vis) (depth : ℕ) (ts mid rest : Tokens) → Spells (vis_form v) depth ts mid → KindFront mid rest
     → BeginsItem ts × (begins_attr false ts ≡ false) × (length mid ≤ length ts)
 vis_begins v depth ts mid rest s k = elim (vis_front v depth ts mid s) [
@@ -111,7 +111,7 @@ item_begins at (suc depth) one ts rest g =
     let v = vis_begins one.vis depth p.seen p.mid rest p.vis k in
     (attrs_begin one.attrs depth ts p.seen p.attrs v.0, omega (arith, attrs_shorter one.attrs depth ts p.seen p.attrs, v.2, k.less))
 
--- Items begin no inner attribute, where what stands behind them doesn't.
+-- Items begin no inner attribute, where what follows them doesn't.
 pub items_begin : (at : Site) (items : List Item) (depth : ℕ) (ts rest : Tokens) → Rows (GoodAt (about_item at) depth) items ts rest → begins_attr true rest ≡ false
     → begins_attr true ts ≡ false
 items_begin at [] depth ts rest r h = rw r h

@@ -48,7 +48,7 @@ use Rattle.lay_code.proofs.reader.ItemSound.{KindAt, alone}
 
 -- ---- the first token
 
--- At the front of what an item is: an item begins, but no attribute, no visibility, and no parentheses; fewer tokens are
+-- At the beginning of what an item is: an item begins, but no attribute, no visibility, and no parentheses; fewer tokens are
 -- left.
 pub record KindFront (ts rest : Tokens) : Type 0 where
   pub begins : BeginsItem ts
@@ -57,7 +57,7 @@ pub record KindFront (ts rest : Tokens) : Type 0 where
   pub paren : first (opens Paren) ts ≡ false
   pub less : length rest < length ts
 
--- A word that isn't `pub` leads, and no more tokens are left than behind it.
+-- A word that isn't `pub` leads, and no more tokens are left than after it.
 pub record Led (ts rest : Tokens) : Type 0 where
   pub word : List ℕ
   pub mid : Tokens
@@ -150,7 +150,7 @@ abi_led None f depth ts rest s = piece_led (codes "fn") (Blank ∷ []) f depth t
 abi_led (Some a) f depth ts rest s =
     piece_led (codes "extern") (Blank ∷ []) (abi_name a.name (Piece (keyword (codes "fn") ∷ Blank ∷ []) f)) depth ts rest refl s
 
--- `fn` and what stands behind it, and what may stand before it
+-- `fn` and what follows it, and what may stand before it
 abbrev behind_abi : FnHead → Form
 behind_abi h = Piece (keyword (codes "fn") ∷ Blank ∷ []) (signature_form h)
 

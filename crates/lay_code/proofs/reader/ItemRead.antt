@@ -291,7 +291,7 @@ module _ (fronts : Fronts) (heads : HeadsComplete) (at : Site) (depth : ℕ) (wi
   unfolding value_by
   value_made x value need more ts mid end rest v w e m = rw (v, w, mark_passed (codes ";") end rest e, m) refl
 
-  -- A value is read behind the type, which it may follow as what ends the item may.
+  -- A value is read after the type, which it may follow as what ends the item may.
   value_there : (x : ValueHead) (value : Option Expr) (ts end rest : Tokens)
       → Spells (value_form (option_map about_expr value)) depth ts end → value_placed (option_map about_expr value) ≡ true → IsOne Punct (codes ";") end rest
       → (value_follows x ts ≡ true) × IsRead depth (λ us. if_read (is_op (codes "=") us) (λ vs. within.code.exprs FREE (drop 1 vs)) us) value ts end
@@ -331,7 +331,7 @@ module _ (fronts : Fronts) (heads : HeadsComplete) (at : Site) (depth : ℕ) (wi
       valued None h = h
       valued (Some y) h = h
 
-  -- a where clause and a body behind a head
+  -- a where clause and a body after a head
   record Behind (w : Wheres) (attrs : List Attr) (s : Site) (members : List Item) (ts rest : Tokens) : Type 0 where
     mid : Tokens
     ends : ends_head ts ≡ true

@@ -67,7 +67,7 @@ pub record HeadsComplete : Type 0 where
   pub function_begins : (at : Site) (h : FnHead) (depth : ℕ) (ts rest : Tokens) → Spells (fn_head_form h) depth ts rest → is_fn_head at h ≡ true
       → begins_function ts ≡ true
   pub impls : CompleteHead about_impl_head (λ w ts. impl_head w.kinds ts)
-  -- in front of a where clause or a body
+  -- before a where clause or a body
   pub traits : (depth : ℕ) (inner : PatWithin) → PatReads depth inner → (x : TraitHead) (ts rest : Tokens) → Spells (trait_head_form x) depth ts rest
       → is_trait_head x ≡ true → ends_head rest ≡ true → (flags : Bool × Bool) × IsRead depth (trait_head inner.kinds) (x, flags) ts rest
 
@@ -136,7 +136,7 @@ name_none (t ∷ ts) h = by t.kind h
     by (Opener d) h = refl
     by _ h = absurd (cc)
 
--- A macro call begins no declaration of a macro: a group stands behind its `!`.
+-- A macro call begins no declaration of a macro: a group stands after its `!`.
 no_rules : (c : MacroCall) (depth : ℕ) (ts rest : Tokens) → SpelledCall c depth ts rest → begins_rules ts ≡ false
 no_rules c depth ts rest s = by (simple_path_front c.path depth ts s.mid s.good s.path)
   where
@@ -181,7 +181,7 @@ no_union c depth ts rest s = by (simple_path_front c.path depth ts s.mid s.good 
 op_no_fn : (op : List ℕ) (ts : Tokens) → is_op op ts ≡ true → first (is_keyword (codes "fn")) (behind_abi ts) ≡ false
 op_no_fn op ts h = rw (op_front op ts h).2 refl
 
--- No function begins where neither its words stand nor `safe`, and none behind a `safe` that an operator follows.
+-- No function begins where neither its words stand nor `safe`, and none after a `safe` that an operator follows.
 abbrev Clear : Tokens → Type 0
 Clear ts = (word : List ℕ) → is_path_class (class_of word) ≡ false → first (is_keyword word) ts ≡ false
 
@@ -240,7 +240,7 @@ rules_lead n ts at mid rest o m g = rw ((one_front Ident (codes "macro_rules") t
 
 -- ---- what begins with `const`, `unsafe` or `extern`
 
--- Behind a constant's name a `:` stands, so `const` begins no function there.
+-- After a constant's name a `:` stands, so `const` begins no function there.
 pub const_lead : (g : GivenName) (x : Ty) (depth : ℕ) (ts rest : Tokens) → Spells (about_value_head (value.Const g x)).form depth ts rest → is_given g ≡ true
     → item_lead ts ≡ OfValue
 unfolding item_lead
@@ -257,7 +257,7 @@ const_lead g x depth ts rest s good =
     behind (given.Name n) us vs i colon = rw (one_left (word_kind n.raw) n.text us vs i.0) (op_no_fn (codes ":") vs colon)
     behind given.Underscore us vs i colon = rw (one_left kind.Underscore (codes "_") us vs i) (op_no_fn (codes ":") vs colon)
 
--- A foreign block begins so: behind `extern` a string or its `{` stands.
+-- A foreign block begins so: after `extern` a string or its `{` stands.
 pub record ForeignFront (ts : Tokens) : Type 0 where
   pub fn : first (is_keyword (codes "fn")) (behind_string ts) ≡ false
   pub crate : first (is_keyword (codes "crate")) ts ≡ false

@@ -201,7 +201,7 @@ module _ (heads : HeadsSound) (at : Site) (budget : ℕ) (within : ItemWithin) (
 
   -- ---- what ends in a body
 
-  -- behind a head a where clause and a body
+  -- after a head a where clause and a body
   abbrev Bodied : Form → Wheres → List Attr → List Item → Form
   Bodied head clause attrs members =
       I0 head (Part (wheres_before_body clause) (node.item_body (leads clause) attrs (map told_of_item members)))

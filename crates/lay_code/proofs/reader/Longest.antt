@@ -11,7 +11,7 @@ use Rattle.lay_code.specs.reader.File.{behind_one, longest_from, longest}
 -- ---- what is read stands there
 
 module _ {A : Type 0} (one : Tokens → Got A) (P : A → Tokens → Tokens → Type 0) (sound : SoundStep one P) where
-  -- behind what was found, the nodes of a run stand up to what it leaves
+  -- after what was found, the nodes of a run stand up to what it leaves
   abbrev Stand : List A → Tokens → List A × Tokens → Type 0
   Stand found ts run = (ys : List A) × (run.0 ≡ found ++ ys) × Rows P ys ts run.1 × InText run.1
 
@@ -49,7 +49,7 @@ module _ {A : Type 0} (one : Tokens → Got A) where
   longest_end zero found ts e = refl
   longest_end (suc n) found ts e = rw e refl
 
-  -- The nodes that stand there are found, and turns enough are left behind them.
+  -- The nodes that stand there are found, and turns enough are left after them.
   past : (ys : List A) (n : ℕ) (found : List A) (ts mid : Tokens) → length ts ≤ n → Rows (Reads one) ys ts mid
       → (m : ℕ) × (longest_from one n found ts ≡ longest_from one m (found ++ ys) mid)
   unfolding longest_from

@@ -205,7 +205,7 @@ attrs_no_bar : (attrs : List Attr) (depth : ℕ) (ts mid : Tokens) → Rows (Goo
 attrs_no_bar [] depth ts mid r n = subst NoBar (sym r) n
 attrs_no_bar (a ∷ more) depth ts mid r n = attr_no_bar ts (attr_begins false a depth ts r.0 r.1)
 
--- A parameter of a closure isn't the `|` behind the last one.
+-- A parameter of a closure isn't the `|` after the last one.
 pub param_no_bar : (p : ClosureParam) (depth : ℕ) (ts rest : Tokens) → Spells (closure_param p) depth ts rest → is_closure_param p ≡ true → NoBar ts
 param_no_bar p depth ts rest s g =
     let P = about_pat p.pat in

@@ -52,9 +52,9 @@ use Rattle.lay_code.proofs.reader.ExprReads.{ExprReads}
 use Rattle.lay_code.proofs.reader.ExprSoundLevel.{layer_of}
 use Rattle.lay_code.proofs.reader.PatternEnds.{equals_follows, semicolon_follows, semicolon_quiet}
 
--- ---- what stands behind a statement
+-- ---- what follows a statement
 
--- Behind a statement without a `;` another one begins, where it ends by itself, or a `}` stands.
+-- After a statement without a `;` another one begins, where it ends by itself, or a `}` stands.
 pub record Behind (s : Stmt) (ts : Tokens) : Type 0 where
   pub begun : Begun ts
   pub ended : ((about_stmt s).ends ≡ true) ⊎ ((rest : Tokens) × Closed Brace ts rest)
@@ -113,7 +113,7 @@ module _ (fronts : Fronts) (depth : ℕ) (within : ExprWithin) (reads : ExprRead
   abbrev Ended : Tokens → Type 0
   Ended ts = (is_op (codes "=") ts ≡ true) ⊎ ((rest : Tokens) × IsOne Punct (codes ";") ts rest)
 
-  -- a type behind a `:`, or none
+  -- a type after a `:`, or none
   type_read : (ty : Option Ty) (f : Form) (ts rest : Tokens) → Spells (let_type ty f) depth ts rest → may_be_type ty ≡ true
       → ((us : Tokens) → Spells f depth us rest → types.Quiet us × (is_op (codes ":") us ≡ false))
       → (mid : Tokens) × Spells f depth mid rest × IsRead depth (λ us. if_read (is_op (codes ":") us) (λ vs. within.kinds.types Bounds (drop 1 vs)) us) ty ts mid
@@ -124,7 +124,7 @@ module _ (fronts : Fronts) (depth : ℕ) (within : ExprWithin) (reads : ExprRead
       let r = quiet_read depth within.kinds reads.kinds Bounds x s.0 p.0 p.1 g (e p.0 p.2).0 in
       (p.0, p.2, (r.0, r.1, rw (o.0, o.1, r.2) refl))
 
-  -- a value behind a `=`, or none
+  -- a value after a `=`, or none
   value_read : (x : Option Expr) (ts rest : Tokens) → Spells (value_form (option_map about_expr x)) depth ts rest → value_placed (option_map about_expr x) ≡ true
       → (x ≡ None → is_op (codes "=") rest ≡ false)
       → ((y : Expr) (us : Tokens) → x ≡ Some y → Spells (about_expr y).form depth us rest → follows (about_expr y) FREE rest ≡ true)
@@ -136,7 +136,7 @@ module _ (fronts : Fronts) (depth : ℕ) (within : ExprWithin) (reads : ExprRead
       let r = reads.exprs FREE x s.0 rest here g (inl (fits x s.0 refl here)) in
       (r.0, r.1, rw (o.0, o.1, r.2) refl)
 
-  -- a block behind an `else`, or none
+  -- a block after an `else`, or none
   else_read : (b : Option Block) (ts rest : Tokens) → Spells (else_form (option_map about_block b)) depth ts rest
       → ((c : Block) → b ≡ Some c → (about_block c).good ≡ true) → (b ≡ None → first (is_keyword (codes "else")) rest ≡ false)
       → IsRead depth (λ us. if_read (first (is_keyword (codes "else")) us) (λ vs. within.blocks (tail vs)) us) b ts rest

@@ -110,7 +110,7 @@ laid_labelled = rw (exprs.expr_block_is (Some tick_a) (alone_of (name b)), alone
 laid_pair : laid_expr (expr.Block None (block_of (ended_then (name a) (name b)))) ≡ codes "{\n    a;\n    b\n}"
 laid_pair = rw (exprs.expr_block_is None (block_of (ended_then (name a) (name b))), pair_is) refl
 
--- A block of one expression stands on one line behind `unsafe`,
+-- A block of one expression stands on one line after `unsafe`,
 laid_unsafe : laid_expr (expr.Unsafe (alone_of (name a))) ≡ codes "unsafe { a }"
 laid_unsafe = rw (exprs.expr_unsafe_is (alone_of (name a)), alone_is a) refl
 
@@ -172,7 +172,7 @@ laid_match =
     )
     refl
 
--- A body of several statements keeps its braces, and no comma stands behind them.
+-- A body of several statements keeps its braces, and no comma stands after them.
 abbrev pair : Expr
 pair = expr.Block None (block_of (ended_then (name a) (name b)))
 

@@ -96,7 +96,7 @@ stmt_b : (ts : Tokens) → stmt_in_block (at_level 1) (word b ∷ closes Brace �
 unfolding stmt_by expr_stmt attributes repeat repeat_from
 stmt_b ts = rw (last_b ts, blocks.stmt_expr_is [] (name b) false, name_is b) refl
 
--- A `;` behind the one that ends a statement is dropped.
+-- A `;` after the one that ends a statement is dropped.
 stmt_ended : (ts : Tokens) → stmt_in_block (at_level 1) (word a ∷ semicolon ∷ semicolon ∷ word b ∷ ts) ≡ Some ((stmt.Expr [] (name a) true, 1), word b ∷ ts)
 unfolding stmt_by expr_stmt attributes repeat repeat_from
 stmt_ended ts = rw (ended_a (semicolon ∷ word b ∷ ts), blocks.stmt_expr_is [] (name a) true) refl
@@ -160,7 +160,7 @@ read_pair =
 
 -- ---- control flow
 
--- `a{b}`, behind an `if`
+-- `a{b}`, after an `if`
 branch_a : (ts : Tokens) → branch_by (at_level 1) (word a ∷ in_braces (word b) ts) ≡ Some ((branch_of (name_link a ∷ []) b, 1), ts)
 unfolding branch_by
 branch_a ts = rw (one_name (word b ∷ closes Brace ∷ ts), block_b ts) refl
@@ -324,7 +324,7 @@ else_a : (ts : Tokens) → (at_level 2).blocks (in_braces (word a) ts) ≡ Some 
 unfolding code_in
 else_a ts = rw (block_a ts) refl
 
--- `a=b else{a};`, behind `let`
+-- `a=b else{a};`, after `let`
 read_let_else : let_stmt (at_level 2) [] (word a ∷ mark (codes "=") ∷ word b ∷ word (codes "else") ∷ in_braces (word a) (semicolon ∷ []))
     ≡ Some ((stmt.Let [] (name_pat a) None (Some (name b)) (Some (alone_of (name a))), 2), [])
 unfolding let_stmt op_at

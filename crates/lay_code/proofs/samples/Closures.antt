@@ -248,7 +248,7 @@ in_pair : (R : List Token → List Token → Type 0) (ts rest : List Token) → 
 in_pair R ts rest r =
     (_, (_, (_, (refl, refl, refl), (_, (0, refl), refl)), refl), (_, r, (_, (_, (refl, refl, refl), refl), refl)))
 
--- two pairs, where a `;` stands behind the first brace
+-- two pairs, where a `;` stands after the first brace
 in_pairs : (R : List Token → List Token → Type 0) (ts rest : List Token) → R ts (closes Brace ∷ closes Brace ∷ rest)
     → Braced 2 R (opens Brace ∷ semicolon ∷ opens Brace ∷ ts) rest
 in_pairs R ts rest r = (

@@ -115,7 +115,7 @@ pub refuses : (n : ℕ) (place : Place) (ts : Tokens) (h : Expr × ℕ) (us : To
     → expr_at place (suc n) ts ≡ None
 refuses n place ts h us began climbed = expr_there n place ts ∙ refused_so n place ts h us began climbed
 
--- an operator of this level behind what was read
+-- an operator of this level after what was read
 pub climbs : (n : ℕ) (place : Place) (level : ℕ) (lhs x : Expr × ℕ) (ts us : Tokens) (F : ExprFacts)
     → (nat_le place.level level && strength ts == suc level) ≡ true → about_expr lhs.0 ≡ F
     → stands F (left_place place level ts) ≡ true → stage (at_level n) level place.no_struct lhs ts ≡ Some (x, us)
@@ -123,7 +123,7 @@ pub climbs : (n : ℕ) (place : Place) (level : ℕ) (lhs x : Expr × ℕ) (ts u
 unfolding climb
 climbs n place level lhs x ts us F there e stood staged = rw (there, e, stood, staged) refl
 
--- one behind which nothing is read that it takes
+-- one after which nothing is read that it takes
 pub falls : (n : ℕ) (place : Place) (level : ℕ) (lhs : Expr × ℕ) (ts : Tokens) (F : ExprFacts)
     → (nat_le place.level level && strength ts == suc level) ≡ true → about_expr lhs.0 ≡ F
     → stands F (left_place place level ts) ≡ true → stage (at_level n) level place.no_struct lhs ts ≡ None
@@ -680,7 +680,7 @@ not_cast_before_less_fallen : stage (at_level 3) 11 false (name a, 1) (word (cod
 unfolding cast_expr one_type repeat repeat_from within lead_at path_type simple_path path chain segment args_by word_reading op_at angle elements elements_from one_arg
 not_cast_before_less_fallen = refl
 
--- Behind a type that is open at its end a `<` opens generic arguments,
+-- After a type that is open at its end a `<` opens generic arguments,
 not_cast_before_less : expr_at FREE 4 (word a ∷ word (codes "as") ∷ word (codes "u8") ∷ mark (codes "<") ∷ word b ∷ []) ≡ None
 unfolding binary strength climb op_at
 not_cast_before_less = refuses 3 FREE (word a ∷ word (codes "as") ∷ word (codes "u8") ∷ mark (codes "<") ∷ word b ∷ []) (name a, 1)
@@ -1054,7 +1054,7 @@ not_without_end_fallen : stage (at_level 3) 1 false (name a, 1) (joint (codes ".
 unfolding range_expr expr_lead_at op_at
 not_without_end_fallen = refl
 
--- Behind `..=` an end stands.
+-- After `..=` an end stands.
 not_without_end : expr_at FREE 4 (word a ∷ joint (codes ".") ∷ joint (codes ".") ∷ mark (codes "=") ∷ []) ≡ None
 unfolding binary strength climb op_at
 not_without_end = refuses 3 FREE (word a ∷ joint (codes ".") ∷ joint (codes ".") ∷ mark (codes "=") ∷ []) (name a, 1) (joint (codes
@@ -1078,7 +1078,7 @@ read_method_staged : stage (at_level 1) 13 false (name a, 1) (mark (codes ".") �
 unfolding postfix_expr one_step dot_step name_reading literal elements elements_from repeat repeat_from op_at
 read_method_staged = rw (name_is a, read_method_staged_inside) refl
 
--- A name behind a point is a method where a `(` follows,
+-- A name after a point is a method where a `(` follows,
 read_method : expr_at FREE 2 (word a ∷ mark (codes ".") ∷ word b ∷ opens Paren ∷ word c ∷ closes Paren ∷ [])
     ≡ Some ((expr.Postfix (name a) (method b (name c ∷ []) ∷ []), 2), [])
 unfolding binary strength climb op_at
@@ -1495,7 +1495,7 @@ read_reference_to_raw_begun : head_by (at_level 1) false (expr_lead_at (mark (co
 unfolding expr_lead_at op_at unary_expr prefix repeat repeat_from
 read_reference_to_raw_begun = rw (read_reference_to_raw_begun_inside) refl
 
--- `raw` is a name where neither `const` nor `mut` stands behind it.
+-- `raw` is a name where neither `const` nor `mut` stands after it.
 read_reference_to_raw : expr_at FREE 2 (mark (codes "&") ∷ word (codes "raw") ∷ mark (codes ";") ∷ [])
     ≡ Some ((expr.Unary (before.Amp ∷ []) (name (codes "raw")), 2), mark (codes ";") ∷ [])
 unfolding binary strength climb op_at

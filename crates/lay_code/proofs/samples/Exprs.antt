@@ -238,7 +238,7 @@ laid_struct_of_89 =
     )
     refl
 
--- No comma stands behind the base,
+-- No comma stands after the base,
 laid_struct_of_90 : laid_expr (expr.Struct S (fields_of (replicate 73 98)) (Some (Some (name c))))
     ≡ codes "S {\n    a: 1,\n    " ++ (replicate 73 98 ++ codes ",\n    ..c\n}")
 laid_struct_of_90 =
@@ -252,7 +252,7 @@ laid_struct_of_90 =
     )
     refl
 
--- but one behind the last field.
+-- but one after the last field.
 laid_fields_of_90 : laid_expr (expr.Struct S (fields_of (replicate 78 98)) None)
     ≡ codes "S {\n    a: 1,\n    " ++ (replicate 78 98 ++ codes ",\n}")
 laid_fields_of_90 =
@@ -369,7 +369,7 @@ laid_range_to = rw (exprs.expr_range_is None true (Some (name b)), name_is b) re
 laid_full_range : laid_expr (expr.Range None false None) ≡ codes ".."
 laid_full_range = rw (exprs.expr_range_is None false None) refl
 
--- A `..` that stands directly behind the point of a number has a blank before it.
+-- A `..` that stands directly after the point of a number has a blank before it.
 laid_range_behind_point : laid_expr (expr.Range (Some (float (codes "1."))) false (Some (float (codes "2."))))
     ≡ codes "1. ..2."
 laid_range_behind_point =
@@ -390,7 +390,7 @@ laid_assignments =
     )
     refl
 
--- Nothing is broken behind `=`.
+-- Nothing is broken after `=`.
 laid_assignment_of_90 : laid_expr (expr.Assign ((name (replicate 40 97), op.Set) ∷ []) (name (replicate 47 98)))
     ≡ replicate 40 97 ++ (codes " = " ++ replicate 47 98)
 laid_assignment_of_90 =
@@ -434,7 +434,7 @@ laid_steps =
     )
     refl
 
--- A `.` that stands directly behind the point of a number has a blank before it.
+-- A `.` that stands directly after the point of a number has a blank before it.
 laid_method_behind_point : laid_expr (expr.Chain x_0_1 ((op.Add, one_max_two) ∷ [])) ≡ codes "x.0.1 + 1. .max(2.)"
 laid_method_behind_point =
     rw (

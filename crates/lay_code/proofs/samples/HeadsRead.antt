@@ -97,7 +97,7 @@ read_crate_path : tuple_field (within 2) (word (codes "pub") ∷ in_parens (word
 unfolding tuple_field visibility attributes paren_type within lead_at simple_path path_type path chain repeat repeat_from segment args_by word_reading op_at
 read_crate_path = rw types.args_none_is refl
 
--- A type that would restrict it doesn't stand behind `pub`.
+-- A type that would restrict it doesn't stand after `pub`.
 not_restricting : may_lead vis.Public (ty.Paren (ty_of (codes "crate"))) ≡ false
 not_restricting = rw (views.outs-Paren (ty_of (codes "crate")), views.outs-Path (local (codes "crate")), lone (codes "crate")) refl
 
@@ -251,18 +251,18 @@ B_of_A = record { start = start.Qualified (ty_of (codes "A")) None; segments = (
 abbrev for_C : ImplHead
 for_C = record { is_unsafe = false; generics = of_T; of = Some (record { negative = false; path = B_of_A }); ty = C }
 
--- It is read behind `impl<T>`,
+-- It is read after `impl<T>`,
 read_qualified : impl_head (within 2) (word (codes "impl") ∷ mark (codes "<") ∷ word (codes "T") ∷ token kind.Punct (codes ">") true ∷ qualified_for_C)
     ≡ Some ((for_C, 1), opens Brace ∷ [])
 unfolding impl_head generics one_param type_param attributes name_reading trait_ref elements elements_from qualified within lead_at simple_path path_type path chain repeat repeat_from segment args_by word_reading op_at
 read_qualified = refl
 
--- and not behind `impl<>`, which is laid out as nothing,
+-- and not after `impl<>`, which is laid out as nothing,
 not_qualified : impl_head (within 2) (word (codes "impl") ∷ mark (codes "<") ∷ mark (codes ">") ∷ qualified_for_C) ≡ None
 unfolding impl_head generics trait_ref elements elements_from qualified within lead_at simple_path path_type path chain repeat repeat_from segment args_by word_reading op_at
 not_qualified = refl
 
--- nor behind `impl` alone, where its `<` opens generic parameters: it is `impl<A> ::B for C {`.
+-- nor after `impl` alone, where its `<` opens generic parameters: it is `impl<A> ::B for C {`.
 abbrev global_B : Path
 global_B = record { start = start.Global; segments = (plain (codes "B"), args.None) ∷ [] }
 
@@ -286,7 +286,7 @@ read_variadic : read_params_of (word (codes "self") ∷ comma ∷ dots []) ≡ S
 unfolding fn_params fn_param param_kind own_self attributes open_elements open_elements_from repeat repeat_from op_at
 read_variadic = refl
 
--- No parameter stands behind `...`, and no comma.
+-- No parameter stands after `...`, and no comma.
 not_last : read_params_of (dots (comma ∷ word (codes "self") ∷ [])) ≡ None
 unfolding fn_params fn_param param_kind own_self attributes open_elements open_elements_from repeat repeat_from op_at
 not_last = refl

@@ -125,7 +125,7 @@ laid_file = rw (struct_is [] A) refl
 
 -- ---- spellings
 
--- what an item is, by its head, if it has one, and what stands behind it
+-- what an item is, by its head, if it has one, and what follows it
 abbrev form_of : KindFacts → Form
 form_of F = kind_form vis.Inherited F.head F.tail
 

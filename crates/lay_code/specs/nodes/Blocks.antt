@@ -22,7 +22,7 @@ use Rattle.lay_code.specs.declared.blocks.Stmt.TheOpen.{Stmt-F}
 
 -- ---- statements
 
--- A value with an `else` behind it is no chain of `||` or `&&`, ends in no closure, and its last token is no `}`.
+-- A value with an `else` after it is no chain of `||` or `&&`, ends in no closure, and its last token is no `}`.
 abbrev pub may_precede_else : ExprFacts → Bool
 may_precede_else x = not (x.level == 2) && not (x.level == 3) && not x.tail.closure && not (ends_in_brace x.form)
 
@@ -30,7 +30,7 @@ abbrev pub precedes_else : Option ExprFacts → Bool
 precedes_else None = false
 precedes_else (Some x) = may_precede_else x
 
--- the block behind an `else`, which stands one level deeper
+-- the block after an `else`, which stands one level deeper
 abbrev pub else_form : Option BlockFacts → Form
 else_form None = Done
 else_form (Some b) = Piece (Blank ∷ keyword (codes "else") ∷ []) (Deeper (b.form true) Done)
@@ -87,14 +87,14 @@ stmt_facts (Stmt-F.Stmt::Expr attrs x ended) = record {
 
 -- ---- blocks
 
--- what may stand behind a statement of a block without being laid out
+-- what may follow a statement of a block without being laid out
 abbrev pub dropped : List Bit
 dropped = Semicolons ∷ []
 
 abbrev pub stmt_form : StmtFacts → Form
 stmt_form s = if s.unended then Part s.form Done else Part s.form (piece dropped)
 
--- inner attributes, the last with what may stand behind it
+-- inner attributes, the last with what may follow it
 abbrev pub attrs_before : List Form → List Form
 attrs_before [] = []
 attrs_before (a ∷ []) = Part a (piece dropped) ∷ []
@@ -148,7 +148,7 @@ branch_facts b = record {
   good = b.condition.good && b.body.good;
 }
 
--- Behind such a body the comma of an arm may be left out.
+-- After such a body the comma of an arm may be left out.
 abbrev pub is_free : ExprFacts → Bool
 is_free x = x.block_like && not (is_macro x.kind)
 

@@ -18,9 +18,9 @@ pub record BlockFacts : Type 0 where
 pub record StmtFacts : Type 0 where
   pub form : Form
   pub good : Bool
-  -- an expression without a `;`, behind which none may stand
+  -- an expression without a `;`, after which none may stand
   pub unended : Bool
-  -- Another statement may stand behind it.
+  -- Another statement may stand after it.
   pub ends : Bool
   -- an expression without attributes and without a `;`
   pub bare : Bool
@@ -63,7 +63,7 @@ pub record ItemFacts : Type 0 where
 pub record KindFacts : Type 0 where
   -- the head, which the layout keeps in a group of its own, with a visibility before it; a macro has none
   pub head : Option Form
-  -- what stands behind it
+  -- what follows it
   pub tail : Form
   pub good : Site → Bool
   -- a macro call

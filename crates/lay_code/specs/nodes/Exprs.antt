@@ -48,7 +48,7 @@ pub record Tail : Type 0 where
   pub takes_all : Bool
   -- A last operand that may stand there is left out.
   pub bare : Bool
-  -- a path, behind which a `{` begins a struct literal
+  -- a path, after which a `{` begins a struct literal
   pub path : Bool
   -- `continue` without a label
   pub unlabelled : Bool
@@ -276,7 +276,7 @@ step_facts (Step-F.Index x) = record {
 step_facts Step-F.Try = record { kind = OfTry; form = piece (Operator (codes "?") ∷ []); good = true }
 step_facts Step-F.Await = record { kind = OfAwait; form = piece (Operator (codes ".") ∷ keyword (codes "await") ∷ []); good = true }
 
--- A call doesn't stand directly behind a field: that is a method.
+-- A call doesn't stand directly after a field: that is a method.
 abbrev pub are_steps : List StepFacts → Bool
 are_steps [] = true
 are_steps (s ∷ []) = s.good
@@ -300,7 +300,7 @@ abbrev pub break_if : Bool → Form → Form
 break_if true f = Z f
 break_if false f = f
 
--- Steps, where a break stands before each method behind the first; the flags say that there are several methods, and that
+-- Steps, where a break stands before each method after the first; the flags say that there are several methods, and that
 -- one stands before these.
 abbrev pub steps_form : Bool → Bool → List StepFacts → Form
 steps_form several behind [] = Done
@@ -339,7 +339,7 @@ abbrev pub tuple_form : List ExprFacts → Form
 tuple_form (x ∷ []) = Piece (opener Paren ∷ []) (Part x.form (piece (punct char.comma ∷ closer Paren ∷ [])))
 tuple_form xs = args_form xs
 
--- what stands behind the fields of a struct literal: nothing, `..`, or `..` and the base
+-- what follows the fields of a struct literal: nothing, `..`, or `..` and the base
 abbrev pub base_form : Option (Option ExprFacts) → List Form
 base_form None = []
 base_form (Some None) = piece (Operator (codes "..") ∷ []) ∷ []
@@ -413,7 +413,7 @@ arm_forms [] = []
 arm_forms (a ∷ []) = a.form true ∷ []
 arm_forms (a ∷ b ∷ more) = a.form false ∷ arm_forms (b ∷ more)
 
--- a value behind its `=`, if there is one
+-- a value after its `=`, if there is one
 abbrev pub value_form : Option ExprFacts → Form
 value_form None = Done
 value_form (Some x) = Piece equals (N (Part x.form Done))
@@ -431,7 +431,7 @@ is_closure_param p = are_attrs false p.attrs && pat_good Single (about_pat p.pat
 abbrev pub bar : Bit
 bar = Fixed kind.Punct (codes "|")
 
--- what stands before the body of a closure, behind its `async`
+-- what stands before the body of a closure, after its `async`
 abbrev pub behind_async : Bool → List ClosureParam → Form → Form
 behind_async moves params f =
     when moves (keyword (codes "move") ∷ Blank ∷ []) (Part (comma_list true bar bar (map closure_param params)) f)
@@ -444,7 +444,7 @@ closure_head is_async moves params f = when is_async (keyword (codes "async") �
 abbrev pub body_braces : ExprFacts → Braces
 body_braces x = if x.starts && x.tight then braces_of x.kind else Bare
 
--- The body of a closure. One that gets braces where it is broken stands behind a break that is never a newline.
+-- The body of a closure. One that gets braces where it is broken stands after a break that is never a newline.
 abbrev pub closure_body : Braces → Form → Form
 closure_body Marked x = N (Body Marked Nothing x Done)
 closure_body braces x = Body braces Nothing x Done
@@ -724,7 +724,7 @@ abbrev pub next_is_angle : List (Op × ExprFacts) → Bool
 next_is_angle [] = false
 next_is_angle (x ∷ more) = is_angle_op x.0
 
--- an operand behind an operator of this level, before those that follow
+-- an operand after an operator of this level, before those that follow
 abbrev pub operand_place : ℕ → Bool → List (Op × ExprFacts) → Place
 operand_place level no_struct [] = plain (suc level) no_struct
 operand_place level no_struct (x ∷ more) = before_op (suc level) no_struct false (is_angle_op x.0)
@@ -770,7 +770,7 @@ abbrev pub operand_placed : Option ExprFacts → Bool → Bool
 operand_placed None no_struct = true
 operand_placed (Some x) no_struct = placed x (plain 0 no_struct) && begins_free no_struct x
 
--- Behind a `break` without a label a lifetime would be one.
+-- After a `break` without a label a lifetime would be one.
 abbrev pub break_placed : Option Lifetime → Option ExprFacts → Bool
 break_placed None (Some x) = not (is_label_lead x.lead)
 break_placed _ _ = true
@@ -779,7 +779,7 @@ abbrev pub base_placed : Option (Option ExprFacts) → Bool
 base_placed (Some (Some x)) = placed x FREE
 base_placed _ = true
 
--- A base begins a statement's part where its first step isn't `.` or `?`. A tuple index isn't directly behind a number
+-- A base begins a statement's part where its first step isn't `.` or `?`. A tuple index isn't directly after a number
 -- without suffix.
 abbrev pub postfix_placed : ExprFacts → List StepFacts → Bool → Bool → Bool
 postfix_placed x steps no_struct first =
@@ -855,13 +855,13 @@ expr_facts x = record {
   within = within_of x;
 }
 
--- ---- fronts
+-- ---- beginnings
 
 -- What is spelled by these tokens may stand before the rest. Where it ends within braces that aren't in the tree, it ends as a
 -- block does: no operator follows it, and nothing else is asked.
 abbrev pub Followed : ExprFacts → Place → ℕ → Tokens → Tokens → Type 0
 Followed x place depth ts rest = IsTrue (follows x place rest) ⊎ (EndsBraced x.form depth ts rest × IsTrue (strength rest == 0))
 
--- An expression of which this is told stands at the front of the tokens, at the place.
+-- An expression of which this is told stands at the beginning of the tokens, at the place.
 abbrev pub ExprFront : Place → ExprFacts → Tokens → ℕ → ℕ → Type 0
 ExprFront place x ts n depth = (n ≤ length ts) × Spells x.form depth ts (drop n ts) × IsTrue (placed x place) × Followed x place depth ts (drop n ts)

@@ -80,7 +80,7 @@ items_good site items = list_all (λ (x : ItemFacts). x.good site) items
 abbrev pub item_body : Bool → List Attr → List ItemFacts → Form
 item_body lead attrs items = body (blank_if lead) [] (map attr_form attrs ++ item_forms items)
 
--- ---- heads and what is behind them
+-- ---- heads and what follows them
 
 abbrev pub about_import : UseTree → HeadFacts
 about_import tree = record {
@@ -102,7 +102,7 @@ about_module name attrs items = record {
   good = is_name name.raw name.text && are_attrs true attrs && items_good site.Module items;
 }
 
--- what stands behind the head of a function
+-- what follows the head of a function
 abbrev pub function_tail : Wheres → Option BlockFacts → Form
 function_tail wheres None = Part (wheres_before_semicolon wheres) (piece semicolon)
 function_tail wheres (Some b) = Part (wheres_before_body wheres) (Part (b.form (leads wheres)) Done)

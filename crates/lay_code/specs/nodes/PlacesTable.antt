@@ -37,7 +37,7 @@ abbrev pub AssignRow : Place → List (ExprFacts × Op) → ExprFacts → Type 0
 AssignRow p targets x =
     IsTrue (may (expr_facts (Expr-F.Assign targets x)) p) × IsTrue (is_there targets) × IsTrue (targets_placed targets p.no_struct (begins p.start)) × IsTrue (placed x (as_node p 1))
 
--- Chain: the operands behind the first, each at the level above that of the operators, the last with the rest as the node's
+-- Chain: the operands after the first, each at the level above that of the operators, the last with the rest as the node's
 abbrev pub OtherOperands : Place → ℕ → List (Op × ExprFacts) → Type 0
 OtherOperands p level [] = Unit {0}
 OtherOperands p level (x ∷ []) = IsTrue (op_level x.0 == level) × IsTrue (placed x.1 (as_node p (suc level)))

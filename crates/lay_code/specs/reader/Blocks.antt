@@ -31,7 +31,7 @@ use Rattle.lay_code.specs.declared.exprs.Expr.{Expr}
 
 -- ---- statements
 
--- what is left behind any number of `;`
+-- what is left after any number of `;`
 abbrev pub behind_semicolons : Tokens → Tokens
 behind_semicolons [] = []
 behind_semicolons (t ∷ ts) = if is_mark (codes ";") t then behind_semicolons ts else t ∷ ts
@@ -63,7 +63,7 @@ else_stands x false = true
 else_stands None true = false
 else_stands (Some x) true = precedes_else (Some (about_expr x))
 
--- what stands behind `let`
+-- what follows `let`
 unfoldable pub let_stmt : ExprWithin → List Attr → Tokens → Read Stmt
 let_stmt within attrs ts = do
   p ← within.pats Single ts
@@ -89,7 +89,7 @@ stmt_behind within attrs begun ts =
 unfoldable pub stmt_by : ExprWithin → Tokens → Read Stmt
 stmt_by within ts = do attrs ← attributes false ts; stmt_behind within attrs.0 ts attrs.1
 
--- a statement of a block, and the `;` behind it; one that doesn't end by itself is the last
+-- a statement of a block, and the `;` after it; one that doesn't end by itself is the last
 abbrev pub stmt_in_block : ExprWithin → Tokens → Read Stmt
 stmt_in_block within ts = do
   s ← stmt_by within ts
@@ -107,7 +107,7 @@ block_by within ts = do
 
 -- ---- branches
 
--- what stands behind an `if`
+-- what follows an `if`
 unfoldable pub branch_by : ExprWithin → Tokens → Read Branch
 branch_by within ts = do
   c ← condition_by within ts
@@ -138,11 +138,11 @@ abbrev pub body_need : Bool → ℕ → ℕ
 body_need true need = need
 body_need false need = suc need
 
--- what is left behind the comma of an arm, which may lack it before the end, and where the flag says so
+-- what is left after the comma of an arm, which may lack it before the end, and where the flag says so
 abbrev pub arm_end : Bool → Tokens → Option Tokens
 arm_end free ts = if first (is_mark (codes ",")) ts then Some (tail ts) else (if free || first (closes Brace) ts then Some ts else None)
 
--- what stands behind an `=>`
+-- what follows an `=>`
 abbrev pub arm_body : ExprWithin → Tokens → Read Expr
 arm_body within ts = do
   x ← within.exprs statement ts

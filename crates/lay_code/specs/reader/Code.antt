@@ -21,7 +21,7 @@ use Rattle.lay_code.specs.declared.item.Item.{Item}
 abbrev pub deeper_block : ExprWithin → Tokens → Read Block
 deeper_block within ts = do b ← block_by within ts; Some ((b.0.0, suc b.0.1), b.1)
 
--- The operators behind the first operands of a condition, whose level is that of an `&&`.
+-- The operators after the first operands of a condition, whose level is that of an `&&`.
 abbrev pub climbed_on : ExprWithin → ℕ → Expr × ℕ → Tokens → Read Expr
 climbed_on within budget lhs ts = do x ← climb within (plain 0 true) 3 lhs ts; accepted budget (plain 0 true) x.0 x.1
 

@@ -1,7 +1,7 @@
 -- Reading conditions, over what reads one level deeper.
 --
 -- A condition doesn't show at its start whether it has links. So links are read one by one, at the depth at which they stand. If
--- none of them is a `let`, they are the first operands of an expression, whose further operators are read behind them. So
+-- none of them is a `let`, they are the first operands of an expression, whose further operators are read after them. So
 -- nothing is read twice.
 use Rattle.std.specs.Prelude.{ℕ, suc, max, ◌==◌, Bool, true, if◌then◌else◌, List, [], ◌∷◌, drop, map, codes, Option, Some, None, is_some}
 use Rattle.std.specs.List.{list_any}
@@ -25,7 +25,7 @@ use Rattle.lay_code.specs.declared.operators.Op.TheVariants as op
 
 -- ---- links
 
--- a link as it is read: an expression, which stands behind a `let` and a pattern if there is one
+-- a link as it is read: an expression, which stands after a `let` and a pattern if there is one
 abbrev pub ReadLink : Type 0
 ReadLink = Option Pat × Expr
 
@@ -36,7 +36,7 @@ abbrev pub linked : ReadLink → Link
 linked (None, x) = link.Expr x
 linked (Some pat, x) = link.Let pat x
 
--- what stands behind `let`
+-- what follows `let`
 unfoldable pub let_link : ExprWithin → Tokens → Read ReadLink
 let_link within ts = do
   p ← within.pats Alternatives ts
@@ -62,7 +62,7 @@ one_link within ts = do
   l ← link_by within ts
   if link_ends l.0.0 l.1 then Some l else None
 
--- what follows, each behind an `&&`
+-- what follows, each after an `&&`
 unfoldable pub further_links : ExprWithin → Tokens → Got (List (ReadLink × ℕ))
 further_links within ts = repeat begins_link (λ us. one_link within (drop 2 us)) ts
 

@@ -1,4 +1,4 @@
--- Reading expressions. What begins one is read first, and then each operator behind it, from the strongest on.
+-- Reading expressions. What begins one is read first, and then each operator after it, from the strongest on.
 use Rattle.std.specs.Prelude.{ℕ, zero, suc, max, ◌==◌, nat_le, ◌&&◌, not, Bool, true, false, if◌then◌else◌, List, [], ◌∷◌, length, drop, codes, Option, Some, None, is_some}
 use Rattle.std.specs.Str.{chars}
 use Rattle.lay_piece.specs.Number.{is_index}
@@ -64,7 +64,7 @@ field_by within attrs (Some i) ts = do x ← within.exprs FREE i.1; Some ((field
 unfoldable pub one_field : ExprWithin → Tokens → Read FieldExpr
 one_field within ts = do attrs ← attributes false ts; field_by within attrs.0 (index attrs.1) attrs.1
 
--- what stands behind the `..` of a base
+-- what follows the `..` of a base
 abbrev pub base_by : ExprWithin → Tokens → Read (Option (Option Expr))
 base_by within ts =
     if first (closes Brace) ts then Some ((Some None, 0), ts)
@@ -74,7 +74,7 @@ base_by within ts =
 unfoldable pub base : ExprWithin → Bool → Tokens → Read (Option (Option Expr))
 base within ended ts = if ended && is_op (codes "..") ts then base_by within (drop 2 ts) else Some ((None, 0), ts)
 
--- what stands behind a path and a `{`
+-- what follows a path and a `{`
 unfoldable pub struct_expr : ExprWithin → Path × ℕ → Tokens → Read Expr
 struct_expr within p ts = do
   fs ← open_elements begins_field (one_field within) ts
@@ -82,7 +82,7 @@ struct_expr within p ts = do
   rest ← passed (closes Brace) b.1
   Some ((expr.Struct p.0 (nodes fs.0.0) b.0.0, suc (max p.1 (max (deepest fs.0.0) b.0.1))), rest)
 
--- what stands behind a path
+-- what follows a path
 abbrev pub path_by : ExprWithin → Bool → Path × ℕ → Tokens → Read Expr
 path_by within no_struct p ts =
     if not no_struct && first (opens Brace) ts then struct_expr within p (tail ts)
@@ -96,7 +96,7 @@ call_expr ts = do c ← call ts; Some ((expr.Call c.0, 1), c.1)
 
 -- ---- in delimiters
 
--- what stands behind a `(` and an expression
+-- what follows a `(` and an expression
 abbrev pub paren_by : ExprWithin → Expr × ℕ → Tokens → Read Expr
 paren_by within x ts =
     if first (closes Paren) ts then Some ((expr.Paren x.0, suc x.1), tail ts)
@@ -105,7 +105,7 @@ paren_by within x ts =
       more ← free_elements within (closes Paren) behind
       Some ((expr.Tuple (x.0 ∷ more.0.0), suc (max x.1 more.0.1)), more.1))
 
--- what stands behind a `(`
+-- what follows a `(`
 unfoldable pub paren_expr : ExprWithin → Tokens → Read Expr
 paren_expr within ts =
     if first (closes Paren) ts then Some ((expr.Tuple [], 1), tail ts)
@@ -117,7 +117,7 @@ repeat_by x ts = do
   rest ← passed (closes Bracket) us.1
   if is_empty us.0 then None else Some ((expr.Repeat x.0 us.0, suc x.1), rest)
 
--- what stands behind a `[` and an expression
+-- what follows a `[` and an expression
 abbrev pub bracket_by : ExprWithin → Expr × ℕ → Tokens → Read Expr
 bracket_by within x ts =
     if first (is_mark (codes ";")) ts then repeat_by x (tail ts)
@@ -127,27 +127,27 @@ bracket_by within x ts =
       more ← free_elements within (closes Bracket) behind
       Some ((expr.Array (x.0 ∷ more.0.0), suc (max x.1 more.0.1)), more.1)))
 
--- what stands behind a `[`
+-- what follows a `[`
 unfoldable pub bracket_expr : ExprWithin → Tokens → Read Expr
 bracket_expr within ts =
     if first (closes Bracket) ts then Some ((expr.Array [], 1), tail ts)
     else (do x ← within.exprs FREE ts; bracket_by within x.0 x.1)
 
--- ---- behind a word or an operator
+-- ---- after a word or an operator
 
 -- an operand at a level, where one begins
 abbrev pub operand_if : ExprWithin → ℕ → Bool → Tokens → Read (Option Expr)
 operand_if within level no_struct ts = if_read (begins_operand no_struct ts) (within.exprs (plain level no_struct)) ts
 
--- what stands behind `continue`
+-- what follows `continue`
 unfoldable pub continue_expr : Tokens → Read Expr
 continue_expr ts = do l ← if_there (first is_lifetime ts) lifetime ts; Some ((expr.Continue l.0, 1), l.1)
 
--- what stands behind `return`
+-- what follows `return`
 unfoldable pub return_expr : ExprWithin → Bool → Tokens → Read Expr
 return_expr within no_struct ts = do x ← operand_if within 0 no_struct ts; Some ((expr.Return x.0.0, suc x.0.1), x.1)
 
--- what stands behind `break`
+-- what follows `break`
 unfoldable pub break_expr : ExprWithin → Bool → Tokens → Read Expr
 break_expr within no_struct ts = do
   l ← if_there (first is_lifetime ts) lifetime ts
@@ -163,7 +163,7 @@ unary_expr within no_struct ts = do
   x ← within.exprs (plain 12 no_struct) ps.1
   Some ((expr.Unary ps.0 x.0.0, suc x.0.1), x.1)
 
--- what stands behind the operator of a range, whose first end needs so much
+-- what follows the operator of a range, whose first end needs so much
 abbrev pub range_by : ExprWithin → Bool → Option Expr → ℕ → Bool → Tokens → Read Expr
 range_by within no_struct start need inclusive ts = do
   x ← operand_if within 2 no_struct ts
@@ -179,7 +179,7 @@ range_expr within no_struct start need ts =
 abbrev pub block_expr : ExprWithin → (Block → Expr) → Tokens → Read Expr
 block_expr within make ts = do b ← block_by within ts; Some ((make b.0.0, suc b.0.1), b.1)
 
--- what stands behind `async`
+-- what follows `async`
 abbrev pub async_expr : ExprWithin → Tokens → Read Expr
 async_expr within ts =
     if first (is_keyword (codes "move")) ts then block_expr within (λ b. expr.Async true b) (tail ts)
@@ -188,7 +188,7 @@ async_expr within ts =
 abbrev pub begins_else_if : Tokens → Bool
 begins_else_if ts = first (is_keyword (codes "else")) ts && first (is_keyword (codes "if")) (tail ts)
 
--- what stands behind an `if`
+-- what follows an `if`
 unfoldable pub if_expr : ExprWithin → Tokens → Read Expr
 if_expr within ts = do
   b ← branch_by within ts
@@ -196,7 +196,7 @@ if_expr within ts = do
   o ← if_read (first (is_keyword (codes "else")) more.1) (λ us. block_by within (tail us)) more.1
   Some ((expr.If (b.0.0 ∷ nodes more.0) o.0.0, suc (max b.0.1 (max (deepest more.0) o.0.1))), o.1)
 
--- what stands behind `match`
+-- what follows `match`
 unfoldable pub match_expr : ExprWithin → Tokens → Read Expr
 match_expr within ts = do
   x ← within.exprs (plain 0 true) ts
@@ -206,14 +206,14 @@ match_expr within ts = do
   rest ← passed (closes Brace) arms.1
   Some ((expr.Match x.0.0 attrs.0 (nodes arms.0), suc (max x.0.1 (deepest arms.0))), rest)
 
--- what stands behind `while`
+-- what follows `while`
 unfoldable pub while_expr : ExprWithin → Option Lifetime → Tokens → Read Expr
 while_expr within label ts = do
   c ← condition_by within ts
   b ← block_by within c.1
   Some ((expr.While label c.0.0 b.0.0, suc (max c.0.1 b.0.1)), b.1)
 
--- what stands behind `for`
+-- what follows `for`
 unfoldable pub for_expr : ExprWithin → Option Lifetime → Tokens → Read Expr
 for_expr within label ts = do
   p ← within.pats Alternatives ts
@@ -222,7 +222,7 @@ for_expr within label ts = do
   b ← block_by within x.1
   Some ((expr.For label p.0.0 x.0.0 b.0.0, suc (max p.0.1 (max x.0.1 b.0.1))), b.1)
 
--- a block or a loop, behind its label if it has one
+-- a block or a loop, after its label if it has one
 abbrev pub labelled_expr : ExprWithin → Option Lifetime → Tokens → Read Expr
 labelled_expr within label ts =
     if first (opens Brace) ts then block_expr within (expr.Block label) ts
@@ -258,7 +258,7 @@ unfoldable pub shed : Bool → ℕ → Expr → Expr
 shed no_struct zero x = x
 shed no_struct (suc turns) x = if sheds (about_expr x).kind no_struct then block_held (shed no_struct turns) x (out-Expr x) else x
 
--- what stands behind the parameters of a closure; behind its body no operator stands
+-- what follows the parameters of a closure; after its body no operator stands
 abbrev pub closure_body : ExprWithin → Bool → Bool → Bool → List ClosureParam → ℕ → Tokens → Read Expr
 closure_body within no_struct is_async moves params need ts =
     if is_op (codes "->") ts
@@ -271,7 +271,7 @@ closure_body within no_struct is_async moves params need ts =
       let deep = body_need (sheds (about_expr x.0.0).kind no_struct) x.0.1
       Some ((expr.Closure is_async moves params (shed no_struct (length ts) x.0.0), suc (max need deep)), x.1))
 
--- a closure, behind its `async` if it has one
+-- a closure, after its `async` if it has one
 abbrev pub closure_behind : ExprWithin → Bool → Bool → Tokens → Read Expr
 closure_behind within no_struct is_async ts = do
   let moves = first (is_keyword (codes "move")) ts
@@ -319,7 +319,7 @@ generics_by within n ts = do
   args ← angled (one_arg within.kinds) ts
   method_by within n (Some (nodes args.0)) (deepest args.0) args.1
 
--- what stands behind a `.` and a name
+-- what follows a `.` and a name
 abbrev pub member_by : ExprWithin → Name → Tokens → Read Step
 member_by within n ts =
     if first (opens Paren) ts then method_by within n None 0 ts
@@ -329,18 +329,18 @@ member_by within n ts =
 abbrev pub is_index_token : Token → Bool
 is_index_token t = is_int t.kind && is_index (chars t.text)
 
--- what stands behind a `.`
+-- what follows a `.`
 unfoldable pub dot_step : ExprWithin → Tokens → Read Step
 dot_step within ts =
     if first (is_keyword (codes "await")) ts then Some ((step.Await, 0), tail ts)
     else (if first is_index_token ts then (do i ← literal is_index_token ts; Some ((step.TupleIndex (i.0).text, 0), i.1))
     else (do n ← name ts; member_by within n.0 n.1))
 
--- what stands behind a `(`
+-- what follows a `(`
 abbrev pub call_step : ExprWithin → Tokens → Read Step
 call_step within ts = do xs ← free_elements within (closes Paren) ts; Some ((step.Apply xs.0.0, xs.0.1), xs.1)
 
--- what stands behind a `[`
+-- what follows a `[`
 abbrev pub index_step : ExprWithin → Tokens → Read Step
 index_step within ts = do
   x ← within.exprs FREE ts
@@ -354,7 +354,7 @@ one_step within ts =
     else (if first (opens Paren) ts then call_step within (tail ts)
     else (do behind ← passed (opens Bracket) ts; index_step within behind)))
 
--- A tuple index doesn't stand directly behind a number without suffix.
+-- A tuple index doesn't stand directly after a number without suffix.
 abbrev pub begins_tuple_index : Tokens → Bool
 begins_tuple_index ts = is_op (codes ".") ts && first is_index_token (drop 1 ts)
 
@@ -365,14 +365,14 @@ postfix_expr within lhs ts =
       steps ← repeat begins_step (one_step within) ts
       Some ((expr.Postfix lhs.0 (nodes steps.0), suc (max lhs.1 (deepest steps.0))), steps.1))
 
--- ---- operators behind an operand
+-- ---- operators after an operand
 
 -- Where an operator of the same level follows an operand, the operand may stand before it, and the level isn't 4.
 abbrev pub operand_ends : ℕ → Bool → ExprFacts → Tokens → Bool
 operand_ends level no_struct x ts =
     if strength ts == suc level then not (level == 4) && stands x (before_op (suc level) no_struct false (is_angle ts)) else true
 
--- an operator of this level and the operand behind it
+-- an operator of this level and the operand after it
 unfoldable pub operand : ExprWithin → ℕ → Bool → Tokens → Read (Op × Expr)
 operand within level no_struct ts = do
   o ← binary ts

@@ -8,12 +8,12 @@ use Rattle.lay_node.specs.declared.heads.Site.TheVariants.{Module}
 use Rattle.lay_code.specs.reader.Code.{item_at}
 use Rattle.lay_code.specs.declared.item.Item.{Item}
 
--- what is found, and what is left: behind a node that is read there may be more, and without one nothing is
+-- what is found, and what is left: after a node that is read there may be more, and without one nothing is
 abbrev pub behind_one : {A : Type 0} → (List A → Tokens → List A × Tokens) → List A → Tokens → Got A → List A × Tokens
 behind_one more found ts None = (found, ts)
 behind_one more found ts (Some x) = more (found ++ x.0 ∷ []) x.1
 
--- Nodes behind those that are found, one by one, as long as one is read, in so many turns at the most.
+-- Nodes after those that are found, one by one, as long as one is read, in so many turns at the most.
 unfoldable pub longest_from : {A : Type 0} → (Tokens → Got A) → ℕ → List A → Tokens → List A × Tokens
 longest_from one zero found ts = (found, ts)
 longest_from one (suc n) found ts = behind_one (longest_from one n) found ts (one ts)

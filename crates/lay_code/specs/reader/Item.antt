@@ -115,7 +115,7 @@ rules_item ts = do
 unfoldable pub call_item : Tokens → Read ItemKind
 call_item ts = do c ← call ts; rest ← behind_end c.0.tokens.delim c.1; Some ((item.Call c.0, 0), rest)
 
--- Where an item with this lead may stand. Of a function, an alias and a value what is behind the lead decides.
+-- Where an item with this lead may stand. Of a function, an alias and a value what follows the lead decides.
 abbrev pub may_stand : Site → ItemLead → Bool
 may_stand at OfFunction = true
 may_stand at OfAlias = true

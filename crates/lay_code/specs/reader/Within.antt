@@ -11,7 +11,7 @@ use Rattle.lay_code.specs.declared.exprs.Expr.{Expr}
 use Rattle.lay_code.specs.declared.exprs.Place.{Place}
 use Rattle.lay_code.specs.declared.item.Item.{Item}
 
--- Expressions at a place, the types and the arguments of paths, patterns at a place, the blocks behind an `else`, the
+-- Expressions at a place, the types and the arguments of paths, patterns at a place, the blocks after an `else`, the
 -- items of a site, and what goes on with the first operands of a condition, which need so much.
 pub record ExprWithin : Type 0 where
   pub exprs : Place → Tokens → Read Expr

@@ -32,7 +32,7 @@ use Rattle.lay_node.proofs.reader.TypesComplete.{Reads}
 use Rattle.lay_node.proofs.reader.TypesCompleteParts.{colon_operator}
 use Rattle.lay_node.proofs.reader.TypesFronts.{op_first}
 
--- ---- no `<` begins what stands behind a name and its generic parameters
+-- ---- no `<` begins what follows a name and its generic parameters
 
 default_no_less : (d : Option Ty) (depth : ℕ) (ts rest : Tokens) → Spells (default_form d) depth ts rest → first (is_mark (codes "<")) rest ≡ false
     → first (is_mark (codes "<")) ts ≡ false

@@ -105,7 +105,7 @@ text_listed t = by t.kind
     by (Doc inner block) = refl
     by _ = refl
 
--- what stands behind a `=`, which is no point
+-- what follows a `=`, which is no point
 pub behind_equals : (ts : Tokens) → InText ts → is_op (codes "=") ts ≡ true → (j : InText (drop 1 ts)) × (pairs.is_mark (codes ".") j.last ≡ false)
 unfolding op_at
 behind_equals [] i h = absurd (cc)
@@ -115,7 +115,7 @@ behind_equals (t ∷ ts) i h = (behind t ts i, and_no _ _ (ap (λ z. bytes_eq z 
     and_no true b h = h
     and_no false b h = refl
 
--- The tokens behind an input stand in a text.
+-- The tokens after an input stand in a text.
 input_texts : (given : MetaInput) (ts mid : Tokens) → InputIs given ts mid → InText ts → InText mid
 input_texts input.Bare ts mid i t = subst InText i t
 input_texts (input.Group g) ts mid i t =
@@ -123,7 +123,7 @@ input_texts (input.Group g) ts mid i t =
 input_texts (input.Value us) ts mid i t =
     behind_all i.2.read mid (subst InText i.2.there.whole (behind_equals ts t i.0).0)
 
--- what an input and the closing bracket behind it are spelled by
+-- what an input and the closing bracket after it are spelled by
 abbrev InputStands : MetaInput → ℕ → Tokens → Tokens → Type 0
 InputStands given depth ts rest = Spells (input_form given (piece (closer Bracket ∷ []))) depth ts rest × (is_input given ≡ true)
 

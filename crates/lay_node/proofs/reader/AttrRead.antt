@@ -290,7 +290,7 @@ attribute_complete inner (attr.Meta flag path given) depth ts rest s =
     let here : Spells (attr_form (attr.Meta inner path given)) depth ts rest = subst (λ b. Spells (attr_form (attr.Meta b path given)) depth ts rest) e s.0 in
     rw e (opening_complete inner (attr.Meta inner path given) ts here.0 rest here.1 (meta_complete inner path given depth ts rest here goods.1 goods.2 goods.3))
 
--- ---- the front of an attribute
+-- ---- the beginning of an attribute
 
 -- documentation in a comment, or `#[` or `#![`; tokens are left that are fewer
 abbrev FrontOf : Bool → Tokens → Tokens → Type 0
@@ -326,7 +326,7 @@ attr_begins inner a depth ts rest s = elim (attr_front inner a depth ts rest s) 
   | inr o ↦ opening_begins inner ts o.0 o.1
 ]
 
--- At the front of an item items go on, and no inner attribute begins; so at the front of an outer attribute.
+-- At the beginning of an item items go on, and no inner attribute begins; so at the beginning of an outer attribute.
 abbrev pub BeginsItem : Tokens → Type 0
 BeginsItem ts = (ends_items ts ≡ false) × (begins_attr true ts ≡ false)
 

@@ -1,4 +1,4 @@
--- From what stands in front of what is left to a count of tokens; and that at most one node and one count fit.
+-- From what stands before what is left to a count of tokens; and that at most one node and one count fit.
 use Rattle.std.proofs.Common.{◌≡◌, ℕ, ◌≤◌, ◌∙◌, true, length, drop, Some, refl, sym, ap, subst, arith, length-append, length-drop}
 use Rattle.std.proofs.lemmas.List.{drop_at}
 use Rattle.lay_form.specs.Spelled.{Spells}
@@ -10,7 +10,7 @@ use Rattle.lay_node.specs.reader.Exact.{InText, Exact, needless}
 use Rattle.lay_node.specs.reader.Loops.{Got, Read}
 use Rattle.lay_node.proofs.Steps.{or_else, bind_some, read_same}
 
--- A node of which this is told stands in front of the rest.
+-- A node of which this is told stands before the rest.
 abbrev pub Stands : Facts → ℕ → Tokens → Tokens → Type 0
 Stands x depth ts rest = Spells x.form depth ts rest × (x.good ≡ true) × (may_follow x.refuses rest ≡ true)
 
@@ -61,7 +61,7 @@ pub needless_complete : {A : Type 0} (about : A → Facts) (one : Tokens → Got
     → (depth budget : ℕ) → depth ≤ budget → Complete about depth (needless one budget)
 needless_complete about one complete depth budget h x ts rest s = (0, omega arith, rw (complete x depth ts rest s) refl)
 
--- One reading gives one node and one count of tokens, where a front is no longer than the tokens.
+-- One reading gives one node and one count of tokens, where a prefix is no longer than the tokens.
 pub one_by_reading : {A : Type 0} (Fits : A → Tokens → ℕ → ℕ → Type 0) (read : ℕ → Tokens → Read A)
     → ((x : A) (ts : Tokens) (n depth : ℕ) → Fits x ts n depth → n ≤ length ts) → Exact read Fits
     → (node other : A) (ts : Tokens) (n m depth : ℕ) → Fits node ts n depth → Fits other ts m depth → (node ≡ other) × (n ≡ m)

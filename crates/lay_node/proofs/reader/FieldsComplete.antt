@@ -48,7 +48,7 @@ use Rattle.lay_node.proofs.reader.Words.{name_complete}
 
 -- ---- what stands before a field or a variant
 
--- attributes and a visibility, and what stands behind them
+-- attributes and a visibility, and what follows them
 pub record LeadsParts (attrs : List Attr) (v : Vis) (f : Form) (depth : ℕ) (ts rest : Tokens) : Type 0 where
   pub at : Tokens
   pub mid : Tokens
@@ -74,7 +74,7 @@ lead_behind ts l h = record { attr = lead_no_attr ts l h; closer = λ d. lead_no
 pub name_behind : (n : Name) (ts rest : Tokens) → IsOne (word_kind n.raw) n.text ts rest → is_name n.raw n.text ≡ true → BehindLeads ts
 name_behind n ts rest o g = lead_behind ts OfPath (word_lead n.raw n.text ts rest o (name_is_word n.raw n.text g))
 
--- A name may stand behind any visibility.
+-- A name may stand after any visibility.
 pub name_follows : (v : Vis) (n : Name) (ts rest : Tokens) → IsOne (word_kind n.raw) n.text ts rest → is_name n.raw n.text ≡ true
     → vis_follows v ts ≡ true
 name_follows v n ts rest o g =
@@ -97,7 +97,7 @@ module _ (attrs : List Attr) (v : Vis) (f : Form) (depth : ℕ) (ts rest : Token
       let before = attrs_front attrs depth ts p.at p.rows in
       (before.closer d (vis_behind.closer d), omega (arith, before.shorter, shorter (vis_form v) depth p.at p.mid p.vis))
 
--- A type behind a visibility.
+-- A type after a visibility.
 type_follows : (v : Vis) (x : Ty) (depth : ℕ) (ts rest : Tokens) → Spells (about_type x).told.form depth ts rest → good_at Bounds (about_type x) ≡ true
     → Quiet rest → may_lead v x ≡ true → vis_follows v ts ≡ true
 type_follows vis.Inherited x depth ts rest s g q m =

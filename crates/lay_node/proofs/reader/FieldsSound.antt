@@ -44,7 +44,7 @@ use Rattle.lay_node.proofs.reader.Words.{name_sound}
 
 -- ---- what stands before a field or a variant
 
--- What is spelled behind attributes and a visibility is spelled with them.
+-- What is spelled after attributes and a visibility is spelled with them.
 abbrev pub Led : List Attr → Vis → Tokens → Tokens → Type 0
 Led attrs v ts mid = (f : Form) (depth : ℕ) (rest : Tokens) → Spells f depth mid rest
     → Spells (behind_attrs (map attr_form attrs) (Part (vis_form v) f)) depth ts rest
@@ -73,7 +73,7 @@ leads_sound ts attrs at v mid t a h =
       texts = s.1;
     }
 
--- Where `pub` was read alone, the type behind it would not restrict it.
+-- Where `pub` was read alone, the type after it would not restrict it.
 leads_type : (v : Vis) (x : Ty) (depth : ℕ) (ts rest : Tokens) → vis_follows v ts ≡ true → Spells (about_type x).told.form depth ts rest
     → may_lead v x ≡ true
 leads_type vis.Public x depth ts rest f s =

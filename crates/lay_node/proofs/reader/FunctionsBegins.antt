@@ -35,7 +35,7 @@ use Rattle.lay_node.proofs.reader.TypesCompleteParts.{abi_complete, blank_left, 
 abbrev pub fn_words : List (List ℕ)
 fn_words = codes "const" ∷ codes "async" ∷ codes "unsafe" ∷ codes "safe" ∷ codes "extern" ∷ codes "fn" ∷ []
 
--- One of these words stands at the front.
+-- One of these words comes next.
 abbrev pub WordFront : List (List ℕ) → Tokens → Type 0
 WordFront words ts = (word : List ℕ) × (mid : Tokens) × (list_any (bytes_eq word) words ≡ true) × IsOne Ident word ts mid
 
@@ -65,7 +65,7 @@ string_kind _ text h = absurd (cc)
 
 -- ---- the words before the name
 
--- what the head is behind its safety
+-- what the head is after its safety
 abbrev behind_safety_form : FnHead → Form
 behind_safety_form h = abi_form h.abi (Piece (keyword (codes "fn") ∷ Blank ∷ []) (signature_form h))
 
@@ -121,7 +121,7 @@ module _ (h : FnHead) (depth : ℕ) (rest : Tokens) where
       let no = keyword_other (codes "safe") (codes "unsafe") refl ts s.0 o in
       (s.0, rw (no, keyword_there (codes "safe") ts s.0 o, one_left Ident (codes "safe") ts s.0 o) refl, s.2)
 
-  -- the words before `fn`, and what stands behind it
+  -- the words before `fn`, and what follows it
   pub record FnParts (ts : Tokens) : Type 0 where
     pub behind_const : Tokens
     pub behind_async : Tokens
@@ -136,7 +136,7 @@ module _ (h : FnHead) (depth : ℕ) (rest : Tokens) where
     pub signature : Spells (signature_form h) depth behind rest
     pub skipped : first (is_keyword (codes "fn")) (behind_qualifiers ts) ≡ true
 
-  -- behind `extern` and what it is for stands `fn`
+  -- after `extern` and what it is for stands `fn`
   abi_skipped : (a : Option Abi) (ts : Tokens) → Spells (abi_form a (Piece (keyword (codes "fn") ∷ Blank ∷ []) (signature_form h))) depth ts rest
       → is_abi a ≡ true
       → first (is_keyword (codes "fn")) (behind_abi ts) ≡ true
@@ -211,7 +211,7 @@ good_fn_head site h g =
     let one = and_parts say (is_abi h.abi) two.0 in
     record { say = one.0; abi = one.1; named = two.1; generics = three.1; params = four.1; output = five.1 }
 
--- Behind the words of a head that stand before it stands `fn`.
+-- After the words of a head that stand before it stands `fn`.
 pub fn_head_begins : (site : Site) (h : FnHead) (depth : ℕ) (ts rest : Tokens) → Spells (fn_head_form h) depth ts rest → is_fn_head site h ≡ true
     → first (is_keyword (codes "fn")) (behind_qualifiers ts) ≡ true
 fn_head_begins site h depth ts rest s g = (fn_parts h depth rest ts s (good_fn_head site h g).abi).skipped

@@ -45,7 +45,7 @@ use Rattle.lay_node.proofs.reader.TypesCompleteParts.{attrs_front, blank_left, c
 use Rattle.lay_node.proofs.reader.TypesFronts.{Ends, closer_ends, comma_ends, lead_no_dots, op_first}
 use Rattle.lay_node.proofs.reader.TypesLists.{Ending, last_of_all, open_none, open_read}
 
--- ---- what stands behind a parameter
+-- ---- what follows a parameter
 
 pub record ParamEnds (ts : Tokens) : Type 0 where
   pub ends : Ends ts
@@ -59,7 +59,7 @@ closer_param ts rest o = record { ends = closer_ends Paren ts rest o; param = rw
 
 -- ---- receivers
 
--- a lifetime behind a `&`, or none
+-- a lifetime after a `&`, or none
 lifetime_parts : (l : Option Lifetime) (f : Form) (depth : ℕ) (ts rest : Tokens) → Spells (ref_lifetime l f) depth ts rest
     → ((us : Tokens) → Spells f depth us rest → first is_lifetime us ≡ false)
     → (mid : Tokens) × (if_there (first is_lifetime ts) lifetime ts ≡ Some (l, mid)) × (behind_lifetime ts ≡ mid) × Spells f depth mid rest
@@ -124,7 +124,7 @@ module _ (depth : ℕ) (inner : PatWithin) (reads : PatReads depth inner) where
   abbrev Has : {A : Type 0} → (Tokens → Read A) → A → Tokens → Tokens → Type 0
   Has one x ts rest = IsRead depth one x ts rest
 
-  -- how a parameter begins behind its attributes, and that it is read
+  -- how a parameter begins after its attributes, and that it is read
   record KindThere (k : ParamKind) (ts rest : Tokens) : Type 0 where
     pub attr : begins_attr false ts ≡ false
     pub paren : first (closes Paren) ts ≡ false
@@ -249,7 +249,7 @@ module _ (depth : ℕ) (inner : PatWithin) (reads : PatReads depth inner) where
 
   -- ---- parameters
 
-  -- the attributes of a parameter, and what stands behind them
+  -- the attributes of a parameter, and what follows them
   record ParamParts (p : Param) (ts rest : Tokens) : Type 0 where
     pub mid : Tokens
     pub rows : Rows (GoodAt (about_attr false) depth) p.attrs ts mid
@@ -302,7 +302,7 @@ module _ (depth : ℕ) (inner : PatWithin) (reads : PatReads depth inner) where
   close_no_param : (ts rest : Tokens) → Close ts rest → begins_fn_param ts ≡ false
   close_no_param ts rest o = ap not (closer_first Paren ts rest o).0
 
-  -- what stands behind the opening parenthesis
+  -- what follows the opening parenthesis
   params_made : (ps : List Param) (last : Bool) (ts inside end rest : Tokens) → IsOne (Opener Paren) (opening Paren ∷ []) ts inside
       → OpenParams ps last inside end → Close end rest → are_in_order ps last ≡ true → Has (fn_params inner) ps ts rest
   unfolding fn_params

@@ -56,7 +56,7 @@ safety_leads false true ts e d =
     ((λ f depth end s. (tail ts, bits, s)), λ t. bit_texts (keyword (codes "safe")) ts (tail ts) (keyword_one (codes "safe") ts d) t)
 safety_leads false false ts e d = ((λ f depth end s. s), λ t. t)
 
--- ---- what stands behind the parameters
+-- ---- what follows the parameters
 
 module _ (budget : ℕ) (inner : Within) (sound : SoundWithin budget inner) where
   abbrev OutputHeld : Option Ty × ℕ → Tokens → Tokens → Type 0

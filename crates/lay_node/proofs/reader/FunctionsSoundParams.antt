@@ -49,7 +49,7 @@ ParamHeld budget x ts rest = (x.1 ≤ budget) × Spells (fn_param_form x.0) x.1 
 
 -- ---- receivers
 
--- a lifetime behind a `&`
+-- a lifetime after a `&`
 abbrev LifetimeLeads : Option Lifetime → Tokens → Tokens → Type 0
 LifetimeLeads l ts rest = Leads (ref_lifetime l) ts rest × (behind_lifetime ts ≡ rest)
 
@@ -63,7 +63,7 @@ lifetime_if_sound ts x rest t h =
     (((λ f depth end r. (mid, (mid, s.0, refl), (mid, (mid, refl, refl), r))), left), s.1))
     (λ b. ((λ f depth end r. r), rw (b, behind_lifetime) refl)) t x rest h
 
--- a word with a blank behind it
+-- a word with a blank after it
 pub word_bits : (word : List ℕ) (ts : Tokens) → first (is_keyword word) ts ≡ true → AreBits (keyword word ∷ Blank ∷ []) ts (tail ts)
 word_bits word ts e = (tail ts, keyword_one word ts e, (tail ts, refl, refl))
 

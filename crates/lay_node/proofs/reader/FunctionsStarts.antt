@@ -44,7 +44,7 @@ use Rattle.lay_node.proofs.reader.TypesComplete.{name_is_word}
 use Rattle.lay_node.proofs.reader.TypesCompleteParts.{one_alone}
 use Rattle.lay_node.proofs.reader.TypesFronts.{lead_no_attr, lead_no_dots, lead_no_keyword, lead_no_lifetime, no_other_op, op_first, word_lead}
 
--- ---- what stands behind a `self` that is no receiver
+-- ---- what follows a `self` that is no receiver
 
 pub record GoesOn (ts : Tokens) : Type 0 where
   pub ends : ends_param ts ≡ false
@@ -220,7 +220,7 @@ args_go_on a depth ts rest s g = by a (args_view a) s g
 abbrev pub the_self : Word
 the_self = record { raw = false; text = codes "self" }
 
--- Behind a `self` that is all of a path stands what goes on with it.
+-- After a `self` that is all of a path stands what goes on with it.
 path_self : (p : Path) (depth : ℕ) (ts rest : Tokens) → Spells (about_path p Code).form depth ts rest → (about_path p Code).good ≡ true
     → (lone_word p ≡ Some the_self → GoesOn rest) → is_self_by_itself ts ≡ false
 path_self p depth ts rest s g go =
@@ -284,7 +284,7 @@ path_self p depth ts rest s g go =
         let n : first (is_keyword (codes "self")) ts ≡ false = rw (one_front Punct (codes "<") ts v.0 o).1 refl in
         absurd (cc)
 
--- a path with more behind it, or that is no `self` alone
+-- a path with more after it, or that is no `self` alone
 pub path_starts : (p : Path) (depth : ℕ) (ts rest : Tokens) → Spells (about_path p Code).form depth ts rest → (about_path p Code).good ≡ true
     → (lone_word p ≡ Some the_self → GoesOn rest) → PatStart ts
 path_starts p depth ts rest s g go = path_start ts (path_begins Code p depth ts rest s g).lead (path_self p depth ts rest s g go)

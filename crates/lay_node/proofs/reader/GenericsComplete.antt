@@ -40,7 +40,7 @@ use Rattle.lay_node.proofs.reader.TypesFronts.{lead_no_lifetime, lead_no_keyword
 use Rattle.lay_node.proofs.reader.TypesLists.{greater_closes, list_read}
 use Rattle.lay_node.proofs.reader.Words.{name_complete}
 
--- What may stand behind bounds: what ends a parameter, or a default.
+-- What may follow bounds: what ends a parameter, or a default.
 pub record BehindBounds (ts : Tokens) : Type 0 where
   pub quiet : Quiet ts
   pub colon : is_op (codes ":") ts ≡ false
@@ -78,7 +78,7 @@ const_default_complete (Some (const_default.Name n)) depth ts rest s g e =
     let l = word_lead n.raw n.text s.0 rest word (name_is_word n.raw n.text g) in
     rw (o.0, o.1, lead_no_const s.0 OfPath l, name_complete n s.0 rest (word, g)) refl
 
--- what stands behind the attributes of a parameter
+-- what follows the attributes of a parameter
 record Front (ts : Tokens) : Type 0 where
   pub attr : begins_attr false ts ≡ false
   pub greater : first (is_mark (codes ">")) ts ≡ false
@@ -98,7 +98,7 @@ module _ (depth : ℕ) (inner : Within) (reads : Reads depth inner) where
   abbrev Has : {A : Type 0} → (Tokens → Read A) → A → Tokens → Tokens → Type 0
   Has one x ts rest = IsRead depth one x ts rest
 
-  -- bounds behind a `:`, or none
+  -- bounds after a `:`, or none
   pub met_read : (bs : List Bound) (ts rest : Tokens) → Spells (bounded_form bs) depth ts rest → are_bounds bs ≡ true → BehindBounds rest
       → Has (met_if inner) bs ts rest
   met_read [] ts rest s g b = elim s.1 [

@@ -42,7 +42,7 @@ use Rattle.lay_node.proofs.reader.TypesSoundParts.{Out, bit_texts, operator_is, 
 use Rattle.lay_node.proofs.reader.TypesSoundLevel.{SoundWithin}
 use Rattle.lay_node.proofs.reader.Words.{name_sound}
 
--- ---- bounds behind a `:`
+-- ---- bounds after a `:`
 
 abbrev pub met_form : List Bound → Form
 met_form [] = Done

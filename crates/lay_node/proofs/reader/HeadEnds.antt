@@ -1,4 +1,4 @@
--- What stands behind the heads of items, and the words that they begin with.
+-- What follows the heads of items, and the words that they begin with.
 use Rattle.std.specs.Str.{bytes_eq}
 use Rattle.std.proofs.Common.{if◌then◌else◌, Bool, List, None, [], codes, false, inl, inr, map, refl, subst, sym, true, ℕ, ◌∷◌, ◌≡◌, ap}
 use Rattle.std.proofs.lemmas.Bool.{or_cases}
@@ -23,7 +23,7 @@ use Rattle.lay_node.proofs.reader.TypesCompleteKinds.{keyword_other}
 use Rattle.lay_node.proofs.reader.TypesCompleteParts.{flag_complete}
 use Rattle.lay_node.proofs.reader.TypesFronts.{Quiet, Ends, EndsPattern, kind_quiet, mark_ends, Free}
 
--- ---- what stands behind a head before its where clause
+-- ---- what follows a head before its where clause
 
 -- A where clause and a `;` begin so.
 abbrev pub BeforeWheres : Tokens → Type 0
@@ -66,7 +66,7 @@ tail_ends w depth ts mid rest s o =
       | inr word ↦ where_ends ts word.0 word.1
     ]
 
--- ---- what stands behind a head before its body
+-- ---- what follows a head before its body
 
 -- A where clause, or the braces of a body, begin so.
 pub record BeforeBody (ts : Tokens) : Type 0 where

@@ -1,5 +1,5 @@
 -- Generic parameters and where clauses within the heads of items. There the spelling doesn't tell whether a last part
--- that may be left out is there, and what stands behind begins no such part.
+-- that may be left out is there, and what follows begins no such part.
 use Rattle.std.proofs.Common.{◌≡◌, ℕ, ◌≤◌, Bool, true, false, not, ◌||◌, List, [], ◌∷◌, ◌⊎◌, inl, inr, map, codes, refl, sym, subst, ◌∙◌}
 use Rattle.std.proofs.lemmas.Bool.{and_parts}
 use Rattle.lay_piece.specs.Forms.{opening}
@@ -118,7 +118,7 @@ pub semicolon_wheres : (fs : List Form) (depth : ℕ) (ts rest : Tokens) → Spe
 semicolon_wheres [] depth ts rest s = s
 semicolon_wheres (f ∷ fs) depth ts rest s = s
 
--- ---- what a where clause begins with, and what stands behind it
+-- ---- what a where clause begins with, and what follows it
 
 -- It is nothing, or begins with its word.
 pub wheres_front : (fs : List Form) (depth : ℕ) (ts rest : Tokens) → Spells (where_body fs) depth ts rest
@@ -214,7 +214,7 @@ module _ (budget : ℕ) (within : Within) (sound : SoundWithin budget within) wh
       let k = s.0 in
       ((k.0, wheres_unflagged x.0.1 (map predicate_form x.0.0.predicates) x.1 ts rest k.1, k.2.0), s.1)
 
-  -- A keyword, a name and generic parameters are spelled before whatever stands behind them.
+  -- A keyword, a name and generic parameters are spelled before whatever follows them.
   abbrev pub CalledHeld : List ℕ → (Name × Generics) × ℕ → Tokens → Tokens → Type 0
   CalledHeld word x ts rest =
       (x.1 ≤ budget)
@@ -264,7 +264,7 @@ module _ (depth : ℕ) (inner : Within) (reads : Reads depth inner) where
       let l = wheres_way (map predicate_form w.predicates) depth ts rest s in
       (l.0, wheres_read depth inner reads l.0 w.predicates ts rest l.1 good (ends_follow l.0 w.predicates rest e))
 
-  -- A keyword, a name and generic parameters, behind which no `<` stands.
+  -- A keyword, a name and generic parameters, after which no `<` stands.
   pub called_there : (word : List ℕ) (n : Name) (g : Generics) (f : Form) (ts rest : Tokens)
       → Spells (heads.called word n.raw n.text g f) depth ts rest → is_name n.raw n.text ≡ true → is_generics g ≡ true
       → ((us : Tokens) → Spells f depth us rest → first (is_mark (codes "<")) us ≡ false)
@@ -278,7 +278,7 @@ module _ (depth : ℕ) (inner : Within) (reads : Reads depth inner) where
       let read = name_complete n s.0 l.0 (l.1, named) in
       (part.0, (i.0, i.1, rw (keyword_there word ts s.0 o, one_left Ident word ts s.0 o, read, i.2) refl), part.2)
 
-  -- The same with nothing behind them.
+  -- The same with nothing after them.
   pub called_alone : (word : List ℕ) (n : Name) (g : Generics) (f : Form) (ts rest : Tokens)
       → Spells (heads.called word n.raw n.text g f) depth ts rest → is_name n.raw n.text ≡ true → is_generics g ≡ true
       → ((us : Tokens) → Spells f depth us rest → us ≡ rest) → first (is_mark (codes "<")) rest ≡ false

@@ -1,4 +1,4 @@
--- What the heads of implementations depend on of the front of types and paths: whether a `<` stands there, and whether a
+-- What the heads of implementations depend on of the beginning of types and paths: whether a `<` stands there, and whether a
 use Rattle.std.proofs.Common.{Bool, List, None, Option, Some, [], ap, codes, false, inl, inr, map, not, refl, subst, sym, true, ℕ, ◌&&◌, ◌∙◌, ◌∷◌, ◌≡◌}
 use Rattle.std.proofs.lemmas.Bool.{and_from, and_parts}
 use Rattle.lay_piece.specs.declared.kind.Delim.TheVariants.{Paren}
@@ -140,7 +140,7 @@ words_are_path p depth ts rest s g h =
         let local : Spells (about_start start.Local).form depth ts ts = subst (λ (F : Facts). Spells F.form depth ts ts) (sym start_local_is) refl in
         (ts, local, bare_spelled p.words depth ts rest t g)
 
--- ---- a `<` at the front
+-- ---- a `<` at the beginning
 
 mark_there : (ts rest : Tokens) → IsOne Punct (codes "<") ts rest → first (is_mark (codes "<")) ts ≡ true
 mark_there ts rest o = rw (one_front Punct (codes "<") ts rest o).1 refl
@@ -210,7 +210,7 @@ type_less x depth ts rest s g = by x (type_view x) s g (type_begins x Bounds dep
     by _ (IsBounds true bs) t h l = other (ty.Bounds true bs) OfDyn (λ e. cc) l (ap type_opens_less (views.outs-Bounds true bs))
     by _ (IsBounds false bs) t h l = other (ty.Bounds false bs) OfImpl (λ e. cc) l (ap type_opens_less (views.outs-Bounds false bs))
 
--- What stands behind the generic parameters of an implementation begins so just where it is told.
+-- What follows the generic parameters of an implementation begins so just where it is told.
 pub ref_less : (of : Option TraitRef) (x : Ty) (depth : ℕ) (ts rest : Tokens) → Spells (trait_ref_form of (Part (about_type x).told.form Done)) depth ts rest
     → is_trait_ref of ≡ true → good_at Bounds (about_type x) ≡ true → first (is_mark (codes "<")) ts ≡ opens_less of x
 ref_less None x depth ts rest s r g = type_less x depth ts rest (part_alone (about_type x).told.form depth ts rest s) g

@@ -48,7 +48,7 @@ use Rattle.lay_node.proofs.reader.TypesCompleteParts.{blank_left, flag_complete,
 use Rattle.lay_node.proofs.reader.TypesCompletePaths.{path_read}
 use Rattle.lay_node.proofs.reader.TypesFronts.{free_clear, kind_quiet}
 
--- ---- a `!` at the front
+-- ---- a `!` at the beginning
 
 bang_lead : (ts rest : Tokens) → IsOne Punct (codes "!") ts rest → lead_at ts ≡ Some OfNever
 unfolding lead_at
@@ -60,7 +60,7 @@ lead_no_bang ts l differ h =
 
 -- ---- no trait is found where a type stands before a where clause or a body
 
--- What is read there is no path with `for` behind it.
+-- What is read there is no path with `for` after it.
 abbrev NoFor : Got (Path × ℕ) → Type 0
 NoFor o = (p : (Path × ℕ) × Tokens) → o ≡ Some p → first (is_keyword (codes "for")) p.1 ≡ false
 
@@ -81,7 +81,7 @@ module _ (depth : ℕ) (inner : Within) (reads : Reads depth inner) where
   lead_no_for : (ts : Tokens) (l : Option Lead) → (l ≡ Some OfPath → ⊥) → lead_at ts ≡ l → NoFor (path inner InKind ts)
   lead_no_for ts l differ h p e = absurd (differ (sym h ∙ path_lead inner InKind ts p e))
 
-  -- Before a where clause or a body a type is read, and no path with `for` behind it.
+  -- Before a where clause or a body a type is read, and no path with `for` after it.
   type_stays : (x : Ty) (ts rest : Tokens) → Spells (about_type x).told.form depth ts rest → good_at Bounds (about_type x) ≡ true → BeforeBody rest
       → NoFor (path inner InKind (flag (is_mark (codes "!")) ts).1)
   type_stays x ts rest s g b = by x (type_view x) s g (type_begins x Bounds depth ts rest s g).lead
@@ -187,7 +187,7 @@ module _ (depth : ℕ) (inner : Within) (reads : Reads depth inner) where
   unfolding impl_head
   all_read x ts a b c d rest l m n is_spelled e f g h i j k = rw (e, f, g, h, i, j, k) refl
 
-  -- Generic parameters that are spelled as nothing are none, so no `<` stands behind them.
+  -- Generic parameters that are spelled as nothing are none, so no `<` stands after them.
   generics_behind : (is_spelled : Bool) (g : Generics) (ts : Tokens) → (is_spelled || not (is_there g.params)) ≡ true
       → (is_there g.params || not (first (is_mark (codes "<")) ts)) ≡ true → generics_follow is_spelled ts ≡ true
   generics_behind true g ts h k = refl

@@ -29,7 +29,7 @@ use Rattle.lay_node.proofs.reader.TypesSoundLevel.{SoundWithin}
 use Rattle.lay_node.proofs.reader.TypesSoundParts.{Out, bit_texts, flag_leads, flag_texts, keyword_passed_is}
 use Rattle.lay_node.proofs.reader.TypesSoundPaths.{path_sound}
 
--- The trait that is implemented is spelled before whatever stands behind its `for`.
+-- The trait that is implemented is spelled before whatever follows its `for`.
 record RefHeld (budget : ℕ) (x : Option TraitRef × ℕ) (ts rest : Tokens) : Type 0 where
   pub within : x.1 ≤ budget
   pub leads : (f : Form) (depth : ℕ) (end : Tokens) → x.1 ≤ depth → Spells f depth rest end → Spells (trait_ref_form x.0 f) depth ts end

@@ -157,7 +157,7 @@ module _ {A : Type 0} (one : Tokens → Got A) where
   closed_complete d zero found ts rest le o = absurd (omega (arith, le, closed_shorter d ts rest o))
   closed_complete d (suc n) found ts rest le o = let c = closer_first d ts rest o in rw (c.0, c.1, append-nil found) refl
 
-  -- what stands behind an element, and what is read of it
+  -- what follows an element, and what is read of it
   abbrev ReadBehind : Delim → ℕ → List A → List A → Tokens → Tokens → Type 0
   ReadBehind d n found xs ts rest =
       (next : Tokens) × (element_end (closes d) ts ≡ Some next) × (elements_from (closes d) one n found next ≡ Some (found ++ xs, rest))
@@ -196,7 +196,7 @@ module _ {A : Type 0} (one : Tokens → Got A) where
       let more = behind_complete d xs (length ts) (x ∷ []) r.0 rest less r.2 in
       rw (element.0, element.1, more.1, more.2) refl
 
--- ---- what stands behind an element
+-- ---- what follows an element
 
 -- A comma stands there, or what closes the list.
 abbrev pub Ends : Delim → Tokens → Type 0

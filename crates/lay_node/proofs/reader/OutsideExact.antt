@@ -71,7 +71,7 @@ extern_crate_sound ts x rest t h =
 
 -- ---- what is spelled is read
 
--- Both words of an extern crate, and what stands behind them.
+-- Both words of an extern crate, and what follows them.
 pub crate_words : (f : Form) (depth : ℕ) (ts rest : Tokens)
     → Spells (Piece (keyword (codes "extern") ∷ Blank ∷ keyword (codes "crate") ∷ Blank ∷ []) f) depth ts rest
     → (at mid : Tokens) × IsOne Ident (codes "extern") ts at × IsOne Ident (codes "crate") at mid × Spells f depth mid rest

@@ -66,7 +66,7 @@ module _ (depth : ℕ) (ts rest : Tokens) where
   told_begins : (x : Pat) (F : PatFacts) → about_pat x ≡ F → Begins F → Begins (about_pat x)
   told_begins x F e f = subst Begins (sym e) f
 
-  -- behind a fixed token
+  -- after a fixed token
   fixed_begins : (F : PatFacts) (mid : Tokens) → Front ts → length mid < length ts → length rest ≤ length mid → Begun F ts rest
   fixed_begins F mid f less le = front_begun F ts rest f (omega (arith, less, le))
 
@@ -288,7 +288,7 @@ all_begin x depth ts rest s g = at x (pat_view x) s g
     at _ (IsParen y) = one (pat.Paren y) (ap (λ (F : PatFacts). F.several) (pat_paren_is y))
     at _ (IsSlice xs) = one (pat.Slice xs) (ap (λ (F : PatFacts). F.several) (pat_slice_is xs))
 
--- a bar that may stand before alternatives, and the alternatives behind it
+-- a bar that may stand before alternatives, and the alternatives after it
 pub bar_parts : (x : Pat) (depth : ℕ) (ts rest : Tokens) → Spells (pat_form Alternatives (about_pat x)) depth ts rest → (about_pat x).told.good ≡ true
     → (mid : Tokens) × (behind_bar ts ≡ mid) × Spells (about_pat x).told.form depth mid rest
 bar_parts x depth ts rest s g =

@@ -80,7 +80,7 @@ short_bind x h = at x (pat_view x) h
     at _ (IsParen y) k = no (pat.Paren y) (ap (λ (F : PatFacts). F.short) (pat_paren_is y)) k
     at _ (IsSlice xs) k = no (pat.Slice xs) (ap (λ (F : PatFacts). F.short) (pat_slice_is xs)) k
 
--- ---- what a field begins with, behind its attributes
+-- ---- what a field begins with, after its attributes
 
 pub record FieldFront (ts : Tokens) : Type 0 where
   pub attr : begins_attr false ts ≡ false
@@ -102,7 +102,7 @@ pub word_no_index : (raw : Bool) (text : List ℕ) (ts rest : Tokens) → IsOne 
 word_no_index true text ts rest o = rw (one_front RawIdent text ts rest o).1 refl
 word_no_index false text ts rest o = rw (one_front Ident text ts rest o).1 refl
 
--- A short field is no index, and no name with a `:` behind it.
+-- A short field is no index, and no name with a `:` after it.
 record ShortFront (ts rest : Tokens) : Type 0 where
   pub front : FieldFront ts
   pub index : index ts ≡ None
@@ -287,7 +287,7 @@ module _ (depth : ℕ) (inner : PatWithin) (reads : PatReads depth inner) where
   no_fields : (ts : Tokens) → begins_field ts ≡ false → FieldsRead [] true ts ts
   no_fields ts h = ([], refl, omega arith, open_none begins_field (one_field inner) ts h)
 
-  -- fields, and whether a `..` stands behind them
+  -- fields, and whether a `..` stands after them
   fields_made : (fs : List FieldPat) (last dotted : Bool) (ts end rest : Tokens) → FieldsRead fs last ts end → (last && is_op (codes "..") end) ≡ dotted
       → passed (closes Brace) (if dotted then drop 2 end else end) ≡ Some rest → IsRead depth (fields inner) (fs, dotted) ts rest
   unfolding fields
@@ -310,7 +310,7 @@ module _ (depth : ℕ) (inner : PatWithin) (reads : PatReads depth inner) where
       or_true true = refl
       or_true false = refl
 
-  -- where a `..` stands behind them, and where none does
+  -- where a `..` stands after them, and where none does
   closed_fields : (fs : List FieldPat) (last : Bool) (ts end rest : Tokens) → FieldsRead fs last ts end → Close end rest
       → IsRead depth (fields inner) (fs, false) ts rest
   closed_fields fs last ts end rest r o =

@@ -81,7 +81,7 @@ name_path_lone n =
     let none : are_none (views.out-Args args.None) ≡ true = ap are_none views.outs-None in
     rw (local, none) refl
 
--- ---- what stands behind a path
+-- ---- what follows a path
 
 pub record BehindPath (ts : Tokens) : Type 0 where
   pub colons : is_op (codes "::") ts ≡ false
@@ -148,7 +148,7 @@ module _ (depth : ℕ) (inner : PatWithin) (reads : PatReads depth inner) where
 
   -- ---- paths
 
-  -- A path is read, and what stands behind it tells what it begins.
+  -- A path is read, and what follows it tells what it begins.
   pub path_there : (p : Path) (ts mid : Tokens) → Spells (about_path p Code).form depth ts mid → (about_path p Code).good ≡ true → BehindPath mid
       → (n : ℕ) × (n ≤ depth) × (pat_by inner ts ≡ path_by inner (p, n) mid)
   unfolding pat_by path_pat

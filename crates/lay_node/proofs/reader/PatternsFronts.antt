@@ -1,4 +1,4 @@
--- What stands behind patterns, and what their first tokens tell.
+-- What follows patterns, and what their first tokens tell.
 use Rattle.std.proofs.Common.{◌≡◌, ℕ, ◌<◌, Bool, true, false, not, ◌&&◌, ◌||◌, List, [], ◌∷◌, map, length, codes, Some, inl, inr, refl, sym, ap, subst, ◌∙◌}
 use Rattle.std.specs.Prelude.{◌==◌}
 use Rattle.std.specs.Str.{bytes_eq}
@@ -130,7 +130,7 @@ pub bar_follows : (x : PatFacts) (ts : Tokens) → is_op (codes "|") ts ≡ true
 unfolding lead_at
 bar_follows = op_follows 124 [] refl refl refl refl refl refl refl refl refl (λ t more us n. rw n refl)
 
--- So may a `:`, behind which a type stands.
+-- So may a `:`, after which a type stands.
 pub colon_follows : (x : PatFacts) (ts : Tokens) → is_op (codes ":") ts ≡ true → Follows x ts
 unfolding lead_at
 colon_follows = op_follows 58 [] refl refl refl refl refl refl refl refl refl (λ t more us n. rw n refl)

@@ -63,7 +63,7 @@ last_held : (budget : ℕ) (x : Pat × ℕ) (xs : List (Pat × ℕ)) (ts at rest
 last_held budget x [] ts at rest k r = subst (λ us. single_follows (about_pat x.0) us ≡ true) r k.3
 last_held budget x (y ∷ ys) ts at rest k r = let row = r.1 in last_held budget y ys row.0 r.0 rest row.2 r.2
 
--- at the place of alternatives, behind the bar
+-- at the place of alternatives, after the bar
 abbrev BehindBar : ℕ → Pat × ℕ → Tokens → Tokens → Type 0
 BehindBar budget x ts rest =
     (x.1 ≤ budget) × Spells (about_pat x.0).told.form x.1 ts rest × ((about_pat x.0).told.good ≡ true)
@@ -144,7 +144,7 @@ single_at_sound (suc budget) ts x rest t h =
     } in
     single_by_sound budget inner sound ts x rest t h
 
--- A pattern that is read stands there, at the depth that it needs, and the tokens behind it may follow it at its place.
+-- A pattern that is read stands there, at the depth that it needs, and the tokens after it may follow it at its place.
 pub pat_at_sound : (place : PatPlace) (budget : ℕ) → SoundStep (pat_at place budget) (PatHeld place budget)
 pat_at_sound place budget = pat_in_sound budget (single_at budget) (single_at_sound budget) place
 

@@ -98,7 +98,7 @@ word_there p w n ts rest e s =
 
 -- ---- names that are bound
 
--- the words before a name, the name, and what stands behind it
+-- the words before a name, the name, and what follows it
 abbrev pub name_form : Bool → Bool → Name → Form → Form
 name_form by_ref mutable n f =
     when by_ref (keyword (codes "ref") ∷ Blank ∷ []) (when mutable (keyword (codes "mut") ∷ Blank ∷ [])
@@ -175,7 +175,7 @@ module _ (budget : ℕ) (within : PatWithin) (sound : SoundPatWithin budget with
         ]
   ]
 
-  -- a name behind `ref` or `mut`, or both
+  -- a name after `ref` or `mut`, or both
   pub marked_bind_sound : SoundStep (marked_bind within) (PatOpen (suc budget))
   unfolding marked_bind
   marked_bind_sound ts x rest t h =

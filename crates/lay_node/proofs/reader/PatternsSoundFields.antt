@@ -1,4 +1,4 @@
--- Fields in patterns, and what stands behind a path: what is read stands there, where what is one level deeper is read
+-- Fields in patterns, and what follows a path: what is read stands there, where what is one level deeper is read
 -- so.
 use Rattle.std.proofs.Common.{◌≡◌, ℕ, suc, ◌≤◌, max, Bool, true, false, not, ◌&&◌, List, [], ◌∷◌, ◌++◌, inl, inr, map, drop, codes, Some, None, if◌then◌else◌, refl, sym, subst, ◌∙◌, append-nil, arith}
 use Rattle.std.proofs.lemmas.Bool.{and_parts, and_from}
@@ -53,7 +53,7 @@ use Rattle.lay_node.proofs.reader.Words.{name_sound}
 
 -- ---- parts in braces
 
--- Parts in braces are spelled, and a comma may stand behind the last.
+-- Parts in braces are spelled, and a comma may stand after the last.
 pub braces_by : {A : Type 0} (form : A → Form) (depth : ℕ) (xs : List A) (ts inside rest : Tokens)
     → IsBit (opener Brace) ts inside → ElementsBy (closer Brace) (λ x. SpelledAt depth (form x)) xs inside rest
     → Spells (braces true (map form xs)) depth ts rest
@@ -70,7 +70,7 @@ braces_by form depth (x ∷ xs) ts inside rest o r =
       ),
     )
 
--- the same, where behind the last no comma may stand
+-- the same, where after the last no comma may stand
 shut_braces : (f : Form) (fs : List Form) (depth : ℕ) (ts inside mid end rest : Tokens)
     → IsBit (opener Brace) ts inside → Spells f depth inside mid → Rows (Further (SpelledAt depth)) fs mid end
     → IsBit (closer Brace) end rest → Spells (braces false (f ∷ fs)) depth ts rest
@@ -88,7 +88,7 @@ dots_form = piece (Operator (codes "..") ∷ [])
 abbrev form_of_field : FieldPat → Form
 form_of_field f = (about_field_pat f).form
 
--- parts with one more behind them, behind which no comma may stand
+-- parts with one more after them, after which no comma may stand
 pub last_list : {A : Type 0} (form : A → Form) (last_form : Form) (depth : ℕ) (fs : List A) (last : Bool)
     (ts inside end at rest : Tokens) → IsBit (opener Brace) ts inside
     → OpenBy begins_field (λ f. SpelledAt depth (form f)) fs last inside end → last ≡ true
@@ -149,7 +149,7 @@ module _ (budget : ℕ) (within : PatWithin) (sound : SoundPatWithin budget with
 
   module _ (ts : Tokens) (attrs : List Attr) (at : Tokens)
       (rows : (depth : ℕ) → Rows (GoodAt (about_attr false) depth) attrs ts at) (t : InText at) where
-    -- What is spelled behind attributes is spelled with them.
+    -- What is spelled after attributes is spelled with them.
     led : (f : Form) (depth : ℕ) (rest : Tokens) → Spells f depth at rest
         → Spells (behind_attrs (map attr_form attrs) f) depth ts rest
     led f depth rest s =
@@ -241,7 +241,7 @@ module _ (budget : ℕ) (within : PatWithin) (sound : SoundPatWithin budget with
       field_by_sound ts a.0.0 a.0.1 (λ depth. (attributes_sound false depth ts a.0.0 a.0.1 t a.1).0) r.1 (index a.0.1)
       refl x rest a.2
 
-  -- Fields in braces stand there, behind the opening brace, within the budget.
+  -- Fields in braces stand there, after the opening brace, within the budget.
   abbrev AreFields : Tokens → (List FieldPat × Bool) × ℕ → Tokens → Tokens → Type 0
   AreFields ts x inside rest =
       (x.1 ≤ budget)
@@ -305,7 +305,7 @@ module _ (budget : ℕ) (within : PatWithin) (sound : SoundPatWithin budget with
       (((nodes fs.0.0.0, more), deepest fs.0.0.0), c.0) (x, rest) c.2
       (fields_held fs.0.0.0 fs.0.0.1 ts inside fs.0.1 o r.0 r.1 more refl c.0 c.1)
 
-  -- ---- what stands behind a path
+  -- ---- what follows a path
 
   module _ (p : Path × ℕ) (begun ts : Tokens) (k : Held (path_told Code) budget p begun ts) (t : InText ts) where
     tuple_struct_sound : IsBit (opener Paren) ts (tail ts) → (x : Pat × ℕ) (rest : Tokens)

@@ -49,7 +49,7 @@ underscore_one : (ts : Tokens) → InText ts → first is_underscore ts ≡ true
 underscore_one [] t h = absurd (cc)
 underscore_one (u ∷ us) t h = only_first kind.Underscore (codes "_") refl u us t (underscore_kind u.kind h)
 
--- ---- a pattern behind a `&` that doesn't begin with `mut`
+-- ---- a pattern after a `&` that doesn't begin with `mut`
 
 -- A pattern that is spelled where no `mut` stands doesn't begin with it.
 begins_not : (x : Pat) (n : ℕ) (ts rest : Tokens) → Spells (about_pat x).told.form n ts rest
@@ -110,7 +110,7 @@ module _ (budget : ℕ) (within : PatWithin) (sound : SoundPatWithin budget with
 
   -- ---- references
 
-  -- by whether a `mut` stands behind the `&`
+  -- by whether a `mut` stands after the `&`
   mut_kept : (at : Tokens) (b : Bool) → first (is_keyword (codes "mut")) at ≡ b → (x : Pat) (n : ℕ) (rest : Tokens)
       → Spells (about_pat x).told.form n (flag (is_keyword (codes "mut")) at).1 rest
       → ((flag (is_keyword (codes "mut")) at).0 || not (about_pat x).begins_mut) ≡ true
@@ -338,7 +338,7 @@ module _ (budget : ℕ) (within : PatWithin) (sound : SoundPatWithin budget with
     ]
   ]
 
-  -- A pattern that isn't several alternatives stands there, and none is gone on with behind it.
+  -- A pattern that isn't several alternatives stands there, and none is gone on with after it.
   pub single_by_sound : SoundStep (single_by within) (PatHeld Single (suc budget))
   single_by_sound ts x rest t h =
       let y = bind_some (pat_by within ts) _ _ h in

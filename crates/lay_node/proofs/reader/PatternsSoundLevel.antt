@@ -69,7 +69,7 @@ alternatives_refused x ts h =
 
 -- ---- a pattern, one level above what is within it
 
--- A pattern that isn't several alternatives is spelled at the depth, which is within the budget, and what stands behind
+-- A pattern that isn't several alternatives is spelled at the depth, which is within the budget, and what follows
 -- it is none of its own last parts that are left out, nor what it refuses.
 pub record IsOpen (budget : ℕ) (x : PatFacts) (n : ℕ) (ts rest : Tokens) : Type 0 where
   pub need : n ≤ budget

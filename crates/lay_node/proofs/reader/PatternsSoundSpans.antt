@@ -76,7 +76,7 @@ EndHeld budget x ts rest =
     (x.1 ≤ budget) × Spells (end_form x.0) x.1 ts rest × (is_end x.0 ≡ true)
     × (may_follow (end_refuses x.0) rest ≡ true)
 
--- The first end stands there, or nothing, before whatever stands behind it.
+-- The first end stands there, or nothing, before whatever follows it.
 abbrev pub StartHeld : ℕ → Option SpanEnd → ℕ → Tokens → Tokens → Type 0
 StartHeld budget start need ts rest =
     (need ≤ budget) × (may_end start ≡ true)
@@ -89,7 +89,7 @@ pub end_starts : (budget : ℕ) (e : SpanEnd) (need : ℕ) (ts rest : Tokens) �
     → Spells (end_form e) need ts rest → is_end e ≡ true → StartHeld budget (Some e) need ts rest
 end_starts budget e need ts rest le s g = (le, g, λ f n end more r. (rest, raise (end_form e) need n ts rest more s, r))
 
--- With a last end a span has one, and behind `..=` too.
+-- With a last end a span has one, and after `..=` too.
 ends_there : (start : Option SpanEnd) (inclusive : Bool) (e : SpanEnd) → has_ends start inclusive (Some e) ≡ true
 ends_there None true e = refl
 ends_there None false e = refl
@@ -144,7 +144,7 @@ module _ (budget : ℕ) (within : Within) (sound : SoundWithin budget within) wh
           s.1,
         )
 
-  -- `..` without an end behind it
+  -- `..` without an end after it
   open_sound : (start : Option SpanEnd) (need : ℕ) (begun ts at : Tokens) → StartHeld budget start need begun ts
       → IsOperator (codes "..") ts at → InText at → begins_span_end at ≡ false
       → (x : Pat × ℕ) (rest : Tokens) → open_span start need at ≡ Some (x, rest)
@@ -182,7 +182,7 @@ module _ (budget : ℕ) (within : Within) (sound : SoundWithin budget within) wh
         t,
       )
 
-  -- what stands from a `..` or `..=` on, behind the first end
+  -- what stands from a `..` or `..=` on, after the first end
   pub span_sound : (start : Option SpanEnd) (need : ℕ) (begun ts : Tokens) → StartHeld budget start need begun ts
       → InText ts → begins_dots ts ≡ true → (x : Pat × ℕ) (rest : Tokens) → span within start need ts ≡ Some (x, rest)
       → Out (PatOpen (suc budget)) begun (x, rest)

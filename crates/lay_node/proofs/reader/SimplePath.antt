@@ -32,7 +32,7 @@ use Rattle.lay_node.proofs.reader.Words.{good_word, word_sound, word_complete, w
 abbrev IsWord : Word → Tokens → Tokens → Type 0
 IsWord w = IsOne (word_kind w.raw) w.text
 
--- a word behind its `::`
+-- a word after its `::`
 abbrev BehindColons : Word → Tokens → Tokens → Type 0
 BehindColons w = Then (IsOperator (codes "::")) (IsWord w)
 
@@ -127,7 +127,7 @@ simple_paths =
     exact about_simple_path (needless simple_path) (needless_sound about_simple_path simple_path (simple_path_sound 0))
     (needless_complete about_simple_path simple_path simple_path_complete)
 
--- ---- the front of a simple path
+-- ---- the beginning of a simple path
 
 pub word_no_keyword : (keyword : List ℕ) → is_path_class (class_of keyword) ≡ false → (raw : Bool) (text : List ℕ) (ts rest : Tokens)
     → is_path_word raw text ≡ true → IsOne (word_kind raw) text ts rest → first (is_keyword keyword) ts ≡ false
@@ -153,7 +153,7 @@ simple_path_no_keyword keyword n p depth ts rest g s = at p.global p.words g s
         let w = simple_words_rows one more depth ts rest s in
         word_no_keyword keyword n one.raw one.text ts w.0 (and_parts (good_word one) (are_path_words more) g).0 w.1
 
--- what a simple path begins with: a `::`, or a word, behind which a `::` or what follows the path stands
+-- what a simple path begins with: a `::`, or a word, after which a `::` or what follows the path stands
 pub data SimplePathFront (ts rest : Tokens) : Type 0 where
   OfLead : is_op (codes "::") ts ≡ true → SimplePathFront ts rest
   OfWord : (raw : Bool) (text : List ℕ) (at : Tokens) → IsOne (word_kind raw) text ts at → is_op (codes "::") at ≡ true → SimplePathFront ts rest

@@ -35,7 +35,7 @@ use Rattle.lay_node.proofs.reader.HeadsLevel.{CompleteHead}
 use Rattle.lay_node.proofs.reader.TypesComplete.{Reads}
 use Rattle.lay_node.proofs.reader.VariantsComplete.{variants_read}
 
--- ---- what stands behind a name and its generic parameters
+-- ---- what follows a name and its generic parameters
 
 -- Neither generic parameters nor fields without names begin there.
 record Behind (ts : Tokens) : Type 0 where

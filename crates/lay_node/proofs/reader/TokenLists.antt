@@ -16,7 +16,7 @@ use Rattle.lay_node.proofs.reader.Tokens.{ListTo, StopsAt, list_good, list_row_o
 use Rattle.lay_node.proofs.token_lists.Commas.{Commaless}
 use Rattle.lay_node.proofs.token_lists.Spelling.{IsRow, list_row, list_spelled}
 
--- What ends a run stands at the front.
+-- What ends a run comes next.
 abbrev pub EndsRun : Bool → Tokens → Type 0
 EndsRun to_comma ts = first (λ t. ends_run to_comma [] t) ts ≡ true
 
@@ -29,7 +29,7 @@ line_left : (line : Bool) (depth : ℕ) (ts rest : Tokens) → Spells (ended_by 
 line_left true depth ts rest s = s
 line_left false depth ts rest s = s
 
--- A list that is read behind what is no point, up to what ends a run, is spelled there.
+-- A list that is read after what is no point, up to what ends a run, is spelled there.
 pub tokens_held : (to_comma : Bool) (depth : ℕ) (ts : Tokens) (us : List Listed) (mid : Tokens) (i : InText ts) → pairs.is_mark (codes ".") i.last ≡ false
     → ListTo to_comma ts us mid → EndsRun to_comma mid
     → Spells (token_list us) depth ts mid × (is_token_list us ≡ true) × InText mid
@@ -59,7 +59,7 @@ list_there to_comma us depth ts mid g n s e =
 pub before_comma_stops : (ts : Tokens) (us : List Listed) (rest : Tokens) → tokens_before_comma ts ≡ Some (us, rest) → StopsAt true rest
 before_comma_stops ts us rest h = (tokens_is true ts us rest h).there.stops
 
--- What is read so, where a closer or a comma stands behind it, has no comma outside its groups.
+-- What is read so, where a closer or a comma stands after it, has no comma outside its groups.
 pub before_comma_sound : (depth : ℕ) (ts : Tokens) (us : List Listed) (rest : Tokens) (i : InText ts) → pairs.is_mark (codes ".") i.last ≡ false
     → tokens_before_comma ts ≡ Some (us, rest) → EndsRun true rest
     → Spells (token_list us) depth ts rest × (is_token_list us ≡ true) × (has_comma 0 us ≡ false) × InText rest

@@ -37,7 +37,7 @@ use Rattle.lay_node.proofs.token_lists.Spelling.{IsRow, row_joined, row_parts, o
 
 -- ---- a run
 
--- A run stops there: nothing is left, or a closer stands at the front, or a comma where the run goes on to one.
+-- A run stops there: nothing is left, or a closer comes next, or a comma where the run goes on to one.
 abbrev pub StopsAt : Bool → Tokens → Type 0
 StopsAt to_comma [] = Unit {0}
 StopsAt to_comma (t ∷ ts) = ends_run to_comma [] t ≡ true
@@ -213,7 +213,7 @@ apart_before to_comma b l c (x ∷ xs) rest k f =
     let may = not (is_joint_neighbour l) || may_join l (Single (as_listed x)) in
     apart_at to_comma l x c xs rest k (and_parts (may && is_had (is_index_place b l) (as_listed x)) _ f).1
 
--- What is read up to a closer or a comma, behind what is no point, is a token list.
+-- What is read up to a closer or a comma, after what is no point, is a token list.
 pub list_good : (to_comma : Bool) (ts : Tokens) (us : List Listed) (c : Token) (rest : Tokens) (i : InText ts) → is_mark (codes ".") i.last ≡ false
     → ends_run to_comma [] c ≡ true → ListTo to_comma ts us (c ∷ rest) → is_token_list us ≡ true
 list_good to_comma ts us c rest i n k l =

@@ -46,7 +46,7 @@ Flagged = TraitHead × (Bool × Bool)
 
 -- ---- what is read is spelled
 
--- Bounds behind a `:`, or a `:` alone, or nothing, with what follows them.
+-- Bounds after a `:`, or a `:` alone, or nothing, with what follows them.
 record SpelledBounds (budget : ℕ) (with_generics with_colon : Bool) (x : List Bound × ℕ) (ts rest : Tokens) : Type 0 where
   pub within : x.1 ≤ budget
   pub spelled : Spells (bounds_spelled with_colon x.0) x.1 ts rest
@@ -241,7 +241,7 @@ bounds_unflagged false [] depth ts rest s t = (ts, inl refl, s)
 bounds_unflagged true (b ∷ bs) depth ts rest s t = s
 bounds_unflagged false (b ∷ bs) depth ts rest s t = absurd (cc)
 
--- what stands behind `unsafe`
+-- what follows `unsafe`
 abbrev trait_called : TraitHead → Form → Form
 trait_called x f = Piece (keyword (codes "trait") ∷ Blank ∷ []) (leaf_of x.name.raw x.name.text f)
 

@@ -1,4 +1,4 @@
--- What a path and a type begin with: the first token depends on the root alone, but for a path behind a `<`, which begins with
+-- What a path and a type begin with: the first token depends on the root alone, but for a path after a `<`, which begins with
 -- a type in turn.
 use Rattle.std.proofs.Common.{◌≡◌, ℕ, zero, suc, ◌≤◌, ◌<◌, Bool, true, false, not, ◌&&◌, List, [], ◌∷◌, ◌++◌, map, length, drop, codes, Option, option_map, Some, None, refl, sym, subst, ◌∙◌, arith, inl, inr}
 use Rattle.std.specs.Prelude.{◌==◌}
@@ -61,7 +61,7 @@ pub opened : (f : Form) (depth : ℕ) (ts rest : Tokens) → Spells (deeper f) d
 opened f zero ts rest s = absurd s
 opened f (suc depth) ts rest s = (depth, refl, subst (λ us. Spells f depth ts us) s.2 s.1)
 
--- ---- what stands behind a word of a path
+-- ---- what follows a word of a path
 
 pub data ArgsFront (ts rest : Tokens) : Type 0 where
   OfNothing : ts ≡ rest → ArgsFront ts rest
@@ -116,7 +116,7 @@ pub path_goods : (style : PathStyle) (p : Path) → (about_path p style).good �
 path_goods style p g =
     and_parts (about_start p.start).good (segments_good style (map about_segment p.segments)) (subst (λ (F : PathFacts). (F style).good ≡ true) (path_is p) g)
 
--- the first word, and what stands behind it
+-- the first word, and what follows it
 pub record SegmentsFront (depth : ℕ) (ts rest : Tokens) : Type 0 where
   pub raw : Bool
   pub text : List ℕ
@@ -411,7 +411,7 @@ pub type_begins : (x : Ty) (place : TypePlace) (depth : ℕ) (ts rest : Tokens) 
     → good_at place (about_type x) ≡ true → Begun (lead_of x (type_view x)) ts rest
 type_begins x place depth ts rest s g = begins depth ts rest x (type_view x) s (good_of place (about_type x) g)
 
--- ---- what stands behind a first `<`
+-- ---- what follows a first `<`
 
 -- the first characters of an operator that more of it would have to follow
 shift_behind : (c d : ℕ) (cs : List ℕ) (ts rest : Tokens) → IsOne Punct (c ∷ []) ts rest → begins_op (d ∷ cs) rest ≡ false → begins_op (c ∷ d ∷ cs) ts ≡ false

@@ -33,7 +33,7 @@ use Rattle.lay_node.proofs.reader.TypesFronts.{no_other_op}
 use Rattle.lay_node.proofs.reader.Words.{word_complete, word_no_op}
 use Rattle.lay_node.specs.declared.types.PathStyle.{PathStyle}
 
--- a `!` behind what was read
+-- a `!` after what was read
 abbrev bang_behind : {A : Type 0} → Got A → Bool
 bang_behind None = false
 bang_behind (Some x) = is_op (codes "!") x.1
@@ -45,7 +45,7 @@ call_test ts = by (simple_path ts)
     by None = refl
     by (Some p) = refl
 
--- what stands behind a segment
+-- what follows a segment
 abbrev Next : PathStyle → List (Word × Args) → Form
 Next style [] = Done
 Next style (s ∷ more) = Piece colons (segments_form style (map about_segment (s ∷ more)))
@@ -72,7 +72,7 @@ mark_no_word : (text : List ℕ) (ts rest : Tokens) → IsOne Punct text ts rest
 unfolding word
 mark_no_word text ts rest o = rw (one_front Punct text ts rest o).1 refl
 
--- Behind a word of a path that isn't a macro call's, the words that go on aren't followed by `!`.
+-- After a word of a path that isn't a macro call's, the words that go on aren't followed by `!`.
 words_no_bang : (style : PathStyle) (ss : List (Word × Args)) (depth n : ℕ) (found : List Word) (ts mid rest : Tokens) → ArgsFront ts mid
     → Spells (Next style ss) depth mid rest → NextGood style ss
     → is_op (codes "::") rest ≡ false → is_op (codes "!") rest ≡ false → bang_behind (repeat_from begins_colons further_word n found ts) ≡ false

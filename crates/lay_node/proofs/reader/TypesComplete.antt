@@ -137,7 +137,7 @@ named_type_is n a g h =
     let local : starts_plain (views.out-PathStart start.Local) ≡ true = ap starts_plain views.outs-Local in
     rw (as_path_is (name_path n a), local, h, g) refl
 
--- what is asked of a name stands behind `=` or `:`
+-- what is asked of a name stands after `=` or `:`
 constraint_front : (c : Constraint) (depth : ℕ) (ts rest : Tokens) → Spells (about_constraint c).form depth ts rest → (begins_constraint ts ≡ true) × Quiet ts
 constraint_front c depth ts rest s = by c (constraint_view c) s
   where
@@ -194,7 +194,7 @@ arg_begins x depth ts rest s g = by x (arg_view x) s g
           less = omega (arith, one_shorter (word_kind n.raw) n.text ts l.0 l.1, shorter behind i.0 l.0 rest l.2);
         }
 
--- A `<` that arguments stand behind opens them.
+-- A `<` that arguments stand after opens them.
 angle_opens : (xs : List Arg) (depth : ℕ) (ts rest : Tokens) → Spells (angle_form (map about_arg xs)) depth ts rest → all_good (map about_arg xs) ≡ true
     → opens_args ts ≡ true
 angle_opens [] depth ts rest s g =
@@ -213,7 +213,7 @@ colons_no_args : (ts : Tokens) → is_op (codes "::") ts ≡ true → opens_args
 colons_no_args ts h =
     rw (other_op (codes "::") (codes "<") refl ts h, other_op (codes "::") (codes "<<") refl ts h, other_op (codes "::") (codes "<-") refl ts h) refl
 
--- What stands behind arguments that aren't the last of a path doesn't go on with them.
+-- What follows arguments that aren't the last of a path doesn't go on with them.
 pub colons_clear : (style : PathStyle) (a : Args) (w : Word) (ts at mid : Tokens) → (about_args a).returns ≡ false → IsOperator (codes "::") ts at
     → IsOne (word_kind w.raw) w.text at mid → Clear (in_style style (about_args a)).refuses ts
 colons_clear style a w ts at mid r o s = by style a (args_view a) r

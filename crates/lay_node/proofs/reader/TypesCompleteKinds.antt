@@ -67,7 +67,7 @@ inner_of f depth ts rest s = subst (λ us. Spells f depth ts us) s.2 s.1
 pub keyword_other : (at other : List ℕ) → bytes_eq at other ≡ false → (ts rest : Tokens) → IsOne Ident at ts rest → first (is_keyword other) ts ≡ false
 keyword_other at other h ts rest o = rw ((one_front Ident at ts rest o).1, h) refl
 
--- what stands behind the attributes of a parameter
+-- what follows the attributes of a parameter
 record ParamFront (ts : Tokens) : Type 0 where
   pub attr : begins_attr false ts ≡ false
   pub paren : first (closes Paren) ts ≡ false
@@ -365,7 +365,7 @@ module _ (depth : ℕ) (inner : Within) (reads : Reads depth inner) where
 
   -- ---- function types
 
-  -- the attributes of a parameter, and what stands behind them
+  -- the attributes of a parameter, and what follows them
   record ParamParts (p : FuncParam) (ts rest : Tokens) : Type 0 where
     pub mid : Tokens
     pub rows : Rows (GoodAt (about_attr false) depth) p.attrs ts mid
@@ -428,7 +428,7 @@ module _ (depth : ℕ) (inner : Within) (reads : Reads depth inner) where
   dots_no_param : (ts : Tokens) → is_op (codes "...") ts ≡ true → begins_param ts ≡ false
   dots_no_param ts h = let c : first (closes Paren) ts ≡ false = op_test (is_closer Paren) (codes "...") ts h in rw (c, h) refl
 
-  -- what stands behind the opening parenthesis
+  -- what follows the opening parenthesis
   params_made : (ps : List FuncParam) (variadic last : Bool) (ts inside end rest : Tokens) → IsOne (Opener Paren) (opening Paren ∷ []) ts inside
       → OpenParams ps last inside end → (last && is_op (codes "...") end) ≡ variadic → passed (closes Paren) (if variadic then drop 3 end else end) ≡ Some rest
       → Has (func_params inner) (ps, variadic) ts rest

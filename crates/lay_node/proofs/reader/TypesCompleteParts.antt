@@ -63,7 +63,7 @@ none_right false b h = h
 pub ends_no_lifetime : (ts : Tokens) → Ends ts → first is_lifetime ts ≡ false
 ends_no_lifetime ts e = none_left (first is_lifetime ts) _ e.bound
 
--- a leaf with nothing behind it
+-- a leaf with nothing after it
 pub one_alone : (k : Kind) (text : List ℕ) (ts mid rest : Tokens) → IsOne k text ts mid → mid ≡ rest → IsOne k text ts rest
 one_alone k text ts mid rest o e = subst (λ us. IsOne k text ts us) e o
 
@@ -138,7 +138,7 @@ param_attrs_rows (a ∷ more) f depth ts rest s g =
     let r = param_attrs_rows more f depth s.0 rest (behind_attr_spelled a (param_attrs more f) depth s.0 rest s.2) goods.1 in
     (r.0, (s.0, (s.1, goods.0), r.1), r.2)
 
--- An attribute closes no list, and isn't the `...` of a function type or the `..` behind the fields of a pattern.
+-- An attribute closes no list, and isn't the `...` of a function type or the `..` after the fields of a pattern.
 record NoEnd (ts : Tokens) : Type 0 where
   pub greater : first (is_mark (codes ">")) ts ≡ false
   pub closer : (d : Delim) → first (closes d) ts ≡ false
@@ -171,7 +171,7 @@ attr_no_end (t ∷ ts) h = elim (cases_Bool (is_doc_kind false t.kind)) [
     doc (Doc inner block) e = (refl, λ d. refl)
     doc _ e = absurd (cc)
 
--- So what closes a list stands at the front of a parameter only where it stands behind its attributes.
+-- So what closes a list stands at the beginning of a parameter only where it stands after its attributes.
 pub record AttrsFront (ts mid : Tokens) : Type 0 where
   pub greater : first (is_mark (codes ">")) mid ≡ false → first (is_mark (codes ">")) ts ≡ false
   pub closer : (d : Delim) → first (closes d) mid ≡ false → first (closes d) ts ≡ false
@@ -201,7 +201,7 @@ lifetime_no_attr l ts rest o = rw (one_front kind.Lifetime l.text ts rest o).1 r
 lifetime_no_greater : (l : Lifetime) (ts rest : Tokens) → IsOne kind.Lifetime l.text ts rest → first (is_mark (codes ">")) ts ≡ false
 lifetime_no_greater l ts rest o = rw (one_front kind.Lifetime l.text ts rest o).1 refl
 
--- a parameter that is a lifetime: its attributes, and what stands behind them
+-- a parameter that is a lifetime: its attributes, and what follows them
 pub record LifetimeRead (p : LifetimeParam) (ts rest : Tokens) : Type 0 where
   pub behind : Tokens
   pub attrs : attributes false ts ≡ Some (p.attrs, behind)

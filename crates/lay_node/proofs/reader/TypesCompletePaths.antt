@@ -69,7 +69,7 @@ module _ (depth : ℕ) (within : Within) (reads : Reads depth within) where
   abbrev FurtherSegment : PathStyle → (Word × Args) × ℕ → Tokens → Tokens → Type 0
   FurtherSegment style = Turn (is_op (codes "::")) (λ us. segment within style (drop 2 us))
 
-  -- a first segment, and further ones behind it
+  -- a first segment, and further ones after it
   abbrev SegmentsRead : PathStyle → Word × Args → List (Word × Args) → Tokens → Tokens → Type 0
   SegmentsRead style s ss ts rest = (mid : Tokens) × Has (segment within style) s ts mid × (length mid < length ts)
       × (ys : List ((Word × Args) × ℕ)) × (nodes ys ≡ ss) × (deepest ys ≤ depth) × Rows (FurtherSegment style) ys mid rest
@@ -124,7 +124,7 @@ module _ (depth : ℕ) (within : Within) (reads : Reads depth within) where
       let r = quiet_read depth within reads NoBounds (ty.Path p) ts rest (path_as_type p depth least ts rest e s) (path_type_good NoBounds p g) q in
       (r.0, r.1, rw (r.2, as_path_is p) refl)
 
-  -- the trait that a type is taken as, and the `>::` behind it
+  -- the trait that a type is taken as, and the `>::` after it
   of_read : (of : Option Path) (ts rest : Tokens) → Spells (of_form (option_map about_path of) (piece (greater ∷ colons))) depth ts rest
       → of_good (option_map about_path of) ≡ true
       → Quiet ts × (mid behind : Tokens) × Has (λ us. if_read (first (is_keyword (codes "as")) us) (λ vs. trait_path within (tail vs)) us) of ts mid

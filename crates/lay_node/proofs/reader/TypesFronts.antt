@@ -1,4 +1,4 @@
--- What types, paths and bounds begin with, and what stands behind them: what the first tokens tell, and tokens that begin
+-- What types, paths and bounds begin with, and what follows them: what the first tokens tell, and tokens that begin
 -- nothing that a type may refuse.
 use Rattle.std.proofs.Common.{◌≡◌, ℕ, Bool, true, false, not, ◌&&◌, ◌||◌, cond, List, [], ◌∷◌, length, codes, Option, Some, None, inl, inr, refl, sym, ap, subst, ◌∙◌, arith, eq-eqb}
 use Rattle.std.specs.Prelude.{◌==◌}
@@ -28,7 +28,7 @@ use Rattle.lay_node.proofs.Parts.{word_kind}
 
 -- ---- operators
 
--- An operator begins with the character that stands at the front.
+-- An operator begins with the character that comes next.
 pub no_other_op : (c : ℕ) (cs : List ℕ) (d : ℕ) (ts rest : Tokens) → (c == d) ≡ false → IsOne Punct (d ∷ []) ts rest → is_op (c ∷ cs) ts ≡ false
 no_other_op c cs d ts rest h s = false_from_ne_true (is_op (c ∷ cs) ts) (λ e.
     let f = one_front Punct (d ∷ []) ts rest s in
@@ -50,7 +50,7 @@ op_first c cs ts h =
     let o = op_text c cs t f.1 (subst (λ us. is_op (c ∷ cs) us ≡ true) f.2 h) in
     (f.0, f.1, o.0, f.2 ∙ ap (λ (w : List ℕ). record t { text = w } ∷ f.1) o.1)
 
--- What is left of an operator stands behind its first character.
+-- What is left of an operator stands after its first character.
 pub op_behind : (c d : ℕ) (cs : List ℕ) (ts rest : Tokens) → IsOne Punct (c ∷ []) ts rest → is_op (c ∷ d ∷ cs) ts ≡ true → begins_op (d ∷ cs) rest ≡ true
 unfolding op_at
 op_behind c d cs [] rest s h = absurd s
@@ -91,13 +91,13 @@ opens_by t inside = by (begins_op (codes "<<=") ts) (begins_op (codes "<=") ts) 
     by false false false true = refl
     by false false false false = refl
 
--- Behind a `<`, generic arguments are opened where it is the first character of neither `<=` nor `<<=`.
+-- After a `<`, generic arguments are opened where it is the first character of neither `<=` nor `<<=`.
 pub opens_args_is : (ts inside : Tokens) → IsOne Punct (codes "<") ts inside → opens_args ts ≡ not (is_op (codes "<=") ts || is_op (codes "<<=") ts)
 opens_args_is ts inside s =
     let f = one_front Punct (codes "<") ts inside s in
     subst (λ vs. opens_args vs ≡ not (is_op (codes "<=") vs || is_op (codes "<<=") vs)) (sym f.1) (opens_by f.0 inside)
 
--- What stands behind it tells.
+-- What follows it tells.
 pub opens_there : (ts inside : Tokens) → IsOne Punct (codes "<") ts inside → first (is_mark (codes "=")) inside ≡ false → begins_op (codes "<=") inside ≡ false
     → opens_args ts ≡ true
 opens_there ts inside s equals less =
@@ -109,7 +109,7 @@ opens_there ts inside s equals less =
 
 -- ---- what begins a type
 
--- the word or the mark at the front decides
+-- the word or the mark at the beginning decides
 keyword_lead : (word : List ℕ) (ts : Tokens) → first (is_keyword word) ts ≡ true → lead_at ts ≡ lead_of_word word
 unfolding lead_at
 keyword_lead word ts h = rw (one_front Ident word ts (tail ts) (keyword_one word ts h)).1 refl
@@ -275,7 +275,7 @@ pub word_no_mark : (character : List ℕ) (raw : Bool) (text : List ℕ) (ts res
 word_no_mark character true text ts rest s = rw (one_front RawIdent text ts rest s).1 refl
 word_no_mark character false text ts rest s = rw (one_front Ident text ts rest s).1 refl
 
--- No name of a parameter stands where no `:` does behind the word.
+-- No name of a parameter stands where no `:` does after the word.
 pub word_no_given : (raw : Bool) (text : List ℕ) (ts rest : Tokens) → IsOne (word_kind raw) text ts rest → is_op (codes ":") rest ≡ false
     → begins_given ts ≡ false
 unfolding given_name
@@ -290,7 +290,7 @@ word_no_given false text ts rest s h =
     by us true e = rw (e, h) refl
     by us false e = rw e refl
 
--- ---- what may stand behind a type
+-- ---- what may follow a type
 
 -- Of what a node may refuse, a type refuses all but another name.
 abbrev pub is_clear : Begin → Tokens → Bool
@@ -443,7 +443,7 @@ greater_ends = mark_ends 62 refl refl refl refl refl refl refl refl refl refl (�
 pub semicolon_quiet : (ts rest : Tokens) → IsOne Punct (codes ";") ts rest → Quiet ts
 semicolon_quiet = mark_quiet 59 refl refl refl refl refl
 
--- Behind what asks for a default no bound begins.
+-- After what asks for a default no bound begins.
 pub equals_no_bound : (ts : Tokens) → is_op (codes "=") ts ≡ true → begins_bound ts ≡ false
 unfolding lead_at
 equals_no_bound ts h =

@@ -139,7 +139,7 @@ module _ {A B : Type 0} (Is : A → B → Type 0) (close : Bit) (ends : Token �
   abbrev pub EachRead : List A → Tokens → Tokens → Type 0
   EachRead xs ts rest = (ys : List B) × Each Is xs ys × (elements ends read ts ≡ Some (ys, rest))
 
-  -- elements, what stands behind each, and what closes them
+  -- elements, what follows each, and what closes them
   pub each_some_read : (x : A) (xs : List A) (ts mid end rest : Tokens) → list_all good (x ∷ xs) ≡ true → Spells (spelling x) depth ts mid
       → Further xs mid end → Last end rest → EachRead (x ∷ xs) ts rest
   unfolding elements elements_from
@@ -232,7 +232,7 @@ last_of_all P [] ts p = tt
 last_of_all P (x ∷ []) ts p = p
 last_of_all P (x ∷ y ∷ ys) ts p = last_of_all P (y ∷ ys) ts p
 
--- what stands behind the last element, with a comma or without one
+-- what follows the last element, with a comma or without one
 abbrev pub Ending : {A : Type 0} → (Tokens → Bool) → (A → Tokens → Type 0) → Bool → List A → Tokens → Tokens → Type 0
 Ending begins follows true xs ts rest = IsOne Punct (codes ",") ts rest × (begins rest ≡ false)
 Ending begins follows false xs ts rest = (ts ≡ rest) × (first (is_mark (codes ",")) rest ≡ false) × LastFollows follows xs rest

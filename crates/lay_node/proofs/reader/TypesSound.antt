@@ -44,7 +44,7 @@ within_sound (suc budget) =
       constraints = constraint_sound budget (within budget) inner;
     }
 
--- A type that is read stands there, at the depth that it needs, and the tokens behind it may follow it at its place.
+-- A type that is read stands there, at the depth that it needs, and the tokens after it may follow it at its place.
 pub type_at_sound : (place : TypePlace) (budget : ℕ) → SoundStep (type_at place budget) (TypeHeld place budget)
 type_at_sound place budget = (within_sound budget).types place
 
@@ -115,14 +115,14 @@ bounds_at_sound budget ts x rest t h =
     budget ts x rest t h in
     let k = s.0 in ((k.0, k.1, k.2.0, k.2.1), s.1)
 
--- ---- fronts
+-- ---- beginnings
 
--- It is spelled within the budget, it is good, and what stands behind it may follow it.
+-- It is spelled within the budget, it is good, and what follows it may follow it.
 abbrev Fitting : {A : Type 0} → (A → Form) → (A → Bool) → (A → Tokens → Bool) → ℕ → A × ℕ → Tokens → Tokens → Type 0
 Fitting form good follows budget x ts rest =
     (x.1 ≤ budget) × Spells (form x.0) x.1 ts rest × (good x.0 ≡ true) × (follows x.0 rest ≡ true)
 
--- What is read so stands at the front, by a count of tokens.
+-- What is read so comes next, by a count of tokens.
 pub counted_sound : {A : Type 0} (form : A → Form) (good : A → Bool) (follows : A → Tokens → Bool)
     (read : ℕ → Tokens → Read A)
     → ((budget : ℕ) → SoundStep (read budget) (Fitting form good follows budget))

@@ -98,7 +98,7 @@ dots_form = piece (Operator (codes "...") ∷ [])
 abbrev form_of_param : FuncParam → Form
 form_of_param p = (about_func_param p).form
 
--- parameters with `...` behind them
+-- parameters with `...` after them
 variadic_list : (depth : ℕ) (ps : List FuncParam) (last : Bool) (ts inside end rest : Tokens)
     → IsBit (opener Paren) ts inside → OpenBy begins_param (λ p. SpelledAt depth (form_of_param p)) ps last inside end → last ≡ true
     → IsOperator (codes "...") end (drop 3 end) → IsBit (closer Paren) (drop 3 end) rest

@@ -160,7 +160,7 @@ dyn_first : (ts : Tokens) → FirstIs OfDyn ts → IsBit (bounds_word true) ts (
 dyn_first [] f = absurd f
 dyn_first (t ∷ ts) f = (f.0, f.1, refl)
 
--- ---- tokens behind a `;`
+-- ---- tokens after a `;`
 
 semicolon_texts : (ts : Tokens) → InText ts → first (is_mark (codes ";")) ts ≡ true → (j : InText (tail ts))
     × (pairs.is_mark (codes ".") j.last ≡ false)
@@ -173,7 +173,7 @@ semicolon_texts (t ∷ ts) i h =
     and_no true b h = h
     and_no false b h = refl
 
--- A list of tokens is spelled behind a `;` and before what closes it.
+-- A list of tokens is spelled after a `;` and before what closes it.
 pub length_sound : (d : Delim) (depth : ℕ) (ts : Tokens) (us : List Listed) (mid rest : Tokens) → InText ts
     → first (is_mark (codes ";")) ts ≡ true
     → tokens (tail ts) ≡ Some (us, mid) → passed (closes d) mid ≡ Some rest

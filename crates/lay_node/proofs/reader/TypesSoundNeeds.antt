@@ -101,7 +101,7 @@ module _ {A : Type 0} (budget : ℕ) (form : A → Form) (good : A → Bool) (P 
 
 -- ---- a level
 
--- two forms one behind the other, each spelled one level deeper
+-- two forms one after the other, each spelled one level deeper
 pub both_deeper : (f g : Form) (n : ℕ) (ts mid rest : Tokens) → Spells (types.deeper f) n ts mid
     → Spells (types.deeper g) n mid rest
     → (k : ℕ) × (n ≡ suc k) × Spells f k ts mid × Spells g k mid rest

@@ -16,7 +16,7 @@ use Rattle.lay_node.proofs.Steps.{same_some, chosen, bind_some, one_more}
 use Rattle.lay_node.proofs.reader.TypesSoundNeeds.{rows_most}
 use Rattle.lay_node.proofs.reader.TypesSoundParts.{bit_texts, ElementsBy}
 
--- what stands behind the last element: a `,`, and none begins there, or no `,`
+-- what follows the last element: a `,`, and none begins there, or no `,`
 abbrev pub LastOpen : (Tokens → Bool) → Bool → Tokens → Tokens → Type 0
 LastOpen begins true ts rest = IsOne kind.Punct (codes ",") ts rest × (begins rest ≡ false)
 LastOpen begins false ts rest = (ts ≡ rest) × (first (is_mark (codes ",")) rest ≡ false)
@@ -39,7 +39,7 @@ open_more begins P x (y ∷ ys) last ts mid next rest p m r =
 module _ {A : Type 0} (begins : Tokens → Bool) (one : Tokens → Got A) (P : A → Tokens → Tokens → Type 0)
     (sound : (ts : Tokens) (x : A) (rest : Tokens) → InText ts → begins ts ≡ true → one ts ≡ Some (x, rest)
     → P x ts rest × InText rest) where
-  -- what is found behind those that were found before
+  -- what is found after those that were found before
   abbrev Found : List A → Tokens → (List A × Bool) × Tokens → Type 0
   Found found ts r = (ys : List A) × (r.0.0 ≡ found ++ ys) × OpenBy begins P ys r.0.1 ts r.1 × InText r.1
 
@@ -112,7 +112,7 @@ open_shut begins P shut (x ∷ xs) last ts end rest r c =
     at true mid l = (end, inr (end, l.0, refl), c)
     at false mid l = (end, inl l.0, c)
 
--- A list behind whose last element no comma may stand.
+-- A list after whose last element no comma may stand.
 pub shut_list : (opens shut : Bit) (f : Form) (fs : List Form) (depth : ℕ) (ts inside mid end rest : Tokens)
     → IsBit opens ts inside → Spells f depth inside mid
     → Rows (Further (SpelledAt depth)) fs mid end → IsBit shut end rest

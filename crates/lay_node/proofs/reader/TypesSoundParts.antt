@@ -54,7 +54,7 @@ use Rattle.lay_node.proofs.reader.Words.{word_sound}
 abbrev pub Out : {A : Type 0} → (A → Tokens → Tokens → Type 0) → Tokens → A × Tokens → Type 0
 Out P ts r = P r.0 ts r.1 × InText r.1
 
--- It is spelled there before whatever stands behind it.
+-- It is spelled there before whatever follows it.
 abbrev pub Leads : (Form → Form) → Tokens → Tokens → Type 0
 Leads lead ts rest = (f : Form) (depth : ℕ) (end : Tokens) → Spells f depth rest end → Spells (lead f) depth ts end
 
@@ -117,7 +117,7 @@ if_read_sound P one false ts some none t x rest h = same_some (Out P ts) ((None,
 
 -- ---- parts with an operator between them
 
--- a part behind its operator
+-- a part after its operator
 abbrev pub BehindOp : {A : Type 0} → List ℕ → (A → Tokens → Tokens → Type 0) → A → Tokens → Tokens → Type 0
 BehindOp op P x = Then (IsOperator op) (P x)
 

@@ -474,7 +474,7 @@ module _ (budget : ℕ) (within : Within) (sound : SoundWithin budget within) wh
   chain_held style most [] ts rest le c g = absurd c
   chain_held style most (s ∷ ss) ts rest le c g = segments_held style most s ss ts c.0 rest le c.1 c.2 g
 
-  -- the trait behind `as`, which is read as a type that is a path
+  -- the trait after `as`, which is read as a type that is a path
   abbrev IsTrait : Path × ℕ → Tokens → Tokens → Type 0
   IsTrait x ts rest =
       (x.1 ≤ budget) × Spells (types.deeper (path_told Kind x.0).form) x.1 ts rest × ((path_told Kind x.0).good ≡ true)
@@ -491,7 +491,7 @@ module _ (budget : ℕ) (within : Within) (sound : SoundWithin budget within) wh
       same_some (Out IsTrait ts) ((p.0, y.0.0.1), y.0.1) (x, rest) p.2
       ((f.0, f.1, lone_good (ty_facts (Ty-F.Path (about_path p.0))) f.2), s.1)
 
-  -- the trait, before whatever stands behind it at the depth
+  -- the trait, before whatever follows it at the depth
   abbrev IsOf : Option Path × ℕ → Tokens → Tokens → Type 0
   IsOf x ts rest = (x.1 ≤ budget) × (of_good (option_map about_path x.0) ≡ true)
       × ((f : Form) (n : ℕ) (end : Tokens) → x.1 ≤ n → Spells f n rest end

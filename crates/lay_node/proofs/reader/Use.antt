@@ -177,7 +177,7 @@ pub underscore_complete : (ts rest : Tokens) → IsOne Underscore (codes "_") ts
 unfolding given_name
 underscore_complete ts rest o = rw (one_front Underscore (codes "_") ts rest o).1 refl
 
--- Another name is read behind `as`, and no `::` stands before it.
+-- Another name is read after `as`, and no `::` stands before it.
 as_complete : (r : GivenName) (ts mid rest : Tokens) → AreBits (Blank ∷ keyword (codes "as") ∷ Blank ∷ []) ts mid → given_name mid ≡ Some (r, rest)
     → (renamed ts ≡ Some (Some r, rest)) × (is_op (codes "::") ts ≡ false)
 unfolding renamed
@@ -199,7 +199,7 @@ rename_complete (Some given.Underscore) depth ts rest g h =
     let one : IsOne Underscore (codes "_") s.0 rest = subst (λ us. IsOne Underscore (codes "_") s.0 us) s.2.2 s.2.1 in
     as_complete given.Underscore ts s.0 rest s.1 (underscore_complete s.0 rest one)
 
--- ---- the front of a use tree
+-- ---- the beginning of a use tree
 
 -- Neither `::` nor what closes a list stands there, and fewer tokens are left.
 abbrev EndFront : Tokens → Tokens → Type 0
@@ -245,7 +245,7 @@ words_front : (ws : List Word) (e : UseEnd) (depth : ℕ) (ts rest : Tokens) →
 words_front [] e depth ts rest s = end_front e depth ts rest (part_alone (about_use_end e).form depth ts rest s)
 words_front (w ∷ ws) e depth ts rest s = word_front w (Piece colons (behind_lead ws e)) depth ts rest s
 
--- What closes a list begins no use tree, and fewer tokens are left behind one.
+-- What closes a list begins no use tree, and fewer tokens are left after one.
 lead_front : (leads : Bool) (ws : List Word) (e : UseEnd) (depth : ℕ) (ts rest : Tokens) → Spells (when leads colons (behind_lead ws e)) depth ts rest
     → (first (closes Brace) ts ≡ false) × (length rest < length ts)
 lead_front true ws e depth ts rest s =
@@ -286,7 +286,7 @@ module _ (depth : ℕ) (within : Tokens → Read UseTree) (complete : Complete a
       → use_end_by within mid ≡ Some ((tree.end, n), rest) → is_op (codes "::") rest ≡ false → use_by within ts ≡ Some ((tree, suc n), rest)
   tree_read tree n ts at mid rest g p e h = rw (g, p, e, h) refl
 
-  -- An end is read, and it is no word with a `::` behind it.
+  -- An end is read, and it is no word with a `::` after it.
   end_complete : (e : UseEnd) (ts rest : Tokens) → Stands (about_use_end e) depth ts rest → is_op (codes "::") rest ≡ false
       → IsRead depth (use_end_by within) e ts rest × (path_word ts ≡ None)
   end_complete e ts rest s h = by e (end_view e) s

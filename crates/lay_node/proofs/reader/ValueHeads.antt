@@ -60,9 +60,9 @@ given_read : (g : GivenName) (ts rest : Tokens) → RenameIs g ts rest → given
 given_read (given.Name n) ts rest i = given_name_complete n ts rest i
 given_read given.Underscore ts rest i = underscore_complete ts rest i
 
--- ---- a type behind a `:`
+-- ---- a type after a `:`
 
--- A type stands behind a `:` within the budget.
+-- A type stands after a `:` within the budget.
 abbrev pub TypeGiven : ℕ → Ty × ℕ → Tokens → Tokens → Type 0
 TypeGiven budget x ts rest =
     (x.1 ≤ budget) × Spells (heads.of_type x.0) x.1 ts rest
@@ -180,7 +180,7 @@ pub value_begins : (x : ValueHead) (depth : ℕ) (ts rest : Tokens) → Spells (
 value_begins (value.Const g x) depth ts rest s = (s.0, before_blank (keyword (codes "const")) ts s.0 s.1)
 value_begins (value.Static mutable n x) depth ts rest s = (s.0, before_blank (keyword (codes "static")) ts s.0 s.1)
 
--- Behind `const` a name stands, or `_`, and so no keyword.
+-- After `const` a name stands, or `_`, and so no keyword.
 pub const_no_keyword : (word : List ℕ) → is_path_class (class_of word) ≡ false → (g : GivenName) (x : Ty) (depth : ℕ) (ts rest : Tokens)
     → Spells (about_value_head (value.Const g x)).form depth ts rest → is_given g ≡ true → first (is_keyword word) (tail ts) ≡ false
 const_no_keyword word none g x depth ts rest s good =

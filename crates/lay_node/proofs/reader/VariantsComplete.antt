@@ -1,4 +1,4 @@
--- Variants of enumerations: what is spelled is read, where what is one level deeper is read. Behind a discriminant a comma
+-- Variants of enumerations: what is spelled is read, where what is one level deeper is read. After a discriminant a comma
 -- or a closer stands, so variants are read as elements of a list.
 use Rattle.std.proofs.Common.{◌≡◌, ℕ, ◌≤◌, ◌<◌, Bool, true, false, not, ◌&&◌, List, [], ◌∷◌, map, length, drop, codes, Option, Some, None, inl, inr, refl, ap, ◌∙◌, arith}
 use Rattle.std.specs.List.{list_all}

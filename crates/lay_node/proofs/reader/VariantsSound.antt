@@ -1,5 +1,5 @@
 -- Variants of enumerations: what is read within a budget stands there, at the depth that it needs. The tokens of a
--- discriminant are a token list since a comma or a closer stands behind them, so variants are told as elements of a list.
+-- discriminant are a token list since a comma or a closer stands after them, so variants are told as elements of a list.
 use Rattle.std.proofs.Common.{◌≡◌, ℕ, zero, suc, ◌≤◌, Bool, true, false, not, ◌&&◌, List, [], ◌∷◌, ◌++◌, length, map, drop, codes, Option, Some, None, inl, inr, refl, sym, ap, subst, ◌∙◌, if◌then◌else◌, arith}
 use Rattle.std.specs.List.{list_all}
 use Rattle.std.proofs.lemmas.Bool.{and_from, or_right}
@@ -43,7 +43,7 @@ use Rattle.lay_node.proofs.reader.Words.{name_sound}
 
 -- ---- elements before what ends them
 
--- an element, read where a comma or what closes the list stands behind it
+-- an element, read where a comma or what closes the list stands after it
 abbrev before_end : {A : Type 0} → (Token → Bool) → (Tokens → Got A) → Tokens → Got A
 before_end closed one ts = do x ← one ts; behind ← element_end closed x.1; Some x
 

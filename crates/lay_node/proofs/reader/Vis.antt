@@ -69,7 +69,7 @@ restricted_spelled word ts at rest o r = (rest, (at, o, (r.0, r.2, (r.1, r.3, (r
 vis_texts : (v : Vis) (ts rest : Tokens) → InText ts → Spells (vis_form v) 0 ts rest → InText rest
 vis_texts v ts rest t s = texts_behind ts rest (is_end (vis_form v) 0 ts rest s) t
 
--- behind `pub`
+-- after `pub`
 module _ (ts at : Tokens) (word : IsOne Ident (codes "pub") ts at) (whole : InText ts) (t : InText at) where
   stood : (v w : Vis) (mid rest : Tokens) → Spells (vis_form v) 0 ts mid → is_vis v ≡ true → vis_follows v mid ≡ true
       → ◌≡◌ {A = Got Vis} (Some (v, mid)) (Some (w, rest)) → Out (StoodFree about_vis) ts (w, rest)
@@ -119,7 +119,7 @@ vis_sound ts x rest t h = elim (chosen (first (is_keyword (codes "pub")) ts) _ _
   | inr g ↦ same_some (Out (StoodFree about_vis) ts) (vis.Inherited, ts) (x, rest) g.1 ((refl, refl, ap not g.0), t)
 ]
 
--- ---- what a visibility begins with, and what stands behind it
+-- ---- what a visibility begins with, and what follows it
 
 -- It is nothing, or begins with `pub`.
 pub vis_front : (v : Vis) (depth : ℕ) (ts rest : Tokens) → Spells (vis_form v) depth ts rest

@@ -124,7 +124,7 @@ parted_texts false ts h t = t
 pub global_texts : (ts : Tokens) → InText ts → InText (global ts).1
 global_texts ts t = parted_texts (is_op (codes "::") ts) ts refl t
 
--- what is spelled behind it, where that doesn't begin so itself
+-- what is spelled after it, where that doesn't begin so itself
 pub global_parts : (leads : Bool) (f : Form) (depth : ℕ) (ts rest : Tokens) → Spells (when leads colons f) depth ts rest
     → ((us : Tokens) → Spells f depth us rest → is_op (codes "::") us ≡ false) → (mid : Tokens) × (global ts ≡ (leads, mid)) × Spells f depth mid rest
 global_parts true f depth ts rest s none =
@@ -132,7 +132,7 @@ global_parts true f depth ts rest s none =
     (s.0, rw (o.0, o.1) refl, s.2)
 global_parts false f depth ts rest s none = (ts, rw (none ts s) refl, s)
 
--- ---- the words of a path that have a `::` behind them
+-- ---- the words of a path that have a `::` after them
 
 abbrev pub BeforeColons : Word → Tokens → Tokens → Type 0
 BeforeColons w = Then (IsOne (word_kind w.raw) w.text) (IsOperator (codes "::"))

@@ -53,7 +53,7 @@ meta name given = about_attr false (attr.Meta false name given)
 abbrev attr_tokens : List Token → List Token
 attr_tokens ts = mark (codes "#") ∷ opens Bracket ∷ (ts ++ closes Bracket ∷ [])
 
--- an outer attribute, behind its opening
+-- an outer attribute, after its opening
 meta_spelled : (name : MetaPath) (given : MetaInput) (ts : List Token)
     → Spells (Part (meta_path_form name) (input_form given (piece (closer Bracket ∷ [])))) 256 ts []
     → Spelt (meta name given) (mark (codes "#") ∷ opens Bracket ∷ ts)
@@ -117,7 +117,7 @@ laid_path = refl
 spelled_meta : Spelt (meta (path false (a ∷ [])) input.Bare) (attr_tokens (word a ∷ []))
 spelled_meta = meta_spelled (path false (a ∷ [])) input.Bare (word a ∷ closes Bracket ∷ []) (_, (_, (refl, refl, refl), refl), (_, (_, (refl, refl, refl), refl), refl))
 
--- `#[a]`, with this input behind its name
+-- `#[a]`, with this input after its name
 input_spelled : (given : MetaInput) (ts : List Token)
     → list.Spelt 256 (input_form given (piece (closer Bracket ∷ []))) ts []
     → Spelt (meta (path false (a ∷ [])) given) (mark (codes "#") ∷ opens Bracket ∷ word a ∷ ts)

@@ -38,7 +38,7 @@ use Rattle.lay_node.proofs.samples.Types.{local, local_is, B, B_is, a_of_B, B_th
 
 -- ---- trees and tokens
 
--- a name that is bound, behind `ref` and `mut` or not
+-- a name that is bound, after `ref` and `mut` or not
 abbrev bound : Bool → Bool → List ℕ → Pat
 bound by_ref mutable text = pat.Bind by_ref mutable (named text) None
 
@@ -83,7 +83,7 @@ dots ts = token kind.Punct (codes ".") true ∷ mark (codes ".") ∷ ts
 abbrev dots_to : List Token → List Token
 dots_to ts = token kind.Punct (codes ".") true ∷ token kind.Punct (codes ".") true ∷ mark (codes "=") ∷ ts
 
--- tokens in parentheses, and in braces behind `A`
+-- tokens in parentheses, and in braces after `A`
 abbrev in_parens : List Token → List Token
 in_parens ts = opens Paren ∷ (ts ++ closes Paren ∷ [])
 
@@ -157,7 +157,7 @@ one_is text rest =
 rest_of_89 : laid_pat (one_field_of (replicate 76 98) true) ≡ codes "A { " ++ (replicate 76 98 ++ codes ": _, .. }")
 rest_of_89 = rw (one_is (replicate 76 98) true, local_is (codes "A")) refl
 
--- No comma stands behind the `..`.
+-- No comma stands after the `..`.
 rest_of_90 : laid_pat (one_field_of (replicate 77 98) true)
     ≡ codes "A {\n    " ++ (replicate 77 98 ++ codes ": _,\n    ..\n}")
 rest_of_90 = rw (one_is (replicate 77 98) true, local_is (codes "A")) refl
@@ -228,7 +228,7 @@ laid_bind =
 laid_open_span : laid_pat (pat.Span (Some one) false None) ≡ codes "1.."
 laid_open_span = rw (pats.pat_span_is (Some one) false None) refl
 
--- A `..` that stands directly behind the point of a number has a blank before it.
+-- A `..` that stands directly after the point of a number has a blank before it.
 abbrev point : SpanEnd
 point = span_end.Value (record { negative = false; literal = record { kind = kind.Float; text = codes "1." } })
 
@@ -252,7 +252,7 @@ read_number : pat_at Single 1 (mark (codes "-") ∷ digits (codes "1") ∷ [])
 unfolding single_at pat_by value_pat value literal op_at
 read_number = refl
 
--- Only a number stands behind a `-`.
+-- Only a number stands after a `-`.
 not_negative_name : pat_at Single 1 (mark (codes "-") ∷ word a ∷ []) ≡ None
 unfolding single_at pat_by value_pat value literal
 not_negative_name = refl
@@ -283,7 +283,7 @@ read_path : pat_at Single 1 (word (codes "B") ∷ colons (word (codes "C") ∷ [
 unfolding single_at pat_by simple_path path_pat path_by path chain segment args_by repeat repeat_from word_reading op_at
 read_path = rw (types.args_none_is, views.outs-Local) refl
 
--- Generic arguments stand behind a `::` and cost a level.
+-- Generic arguments stand after a `::` and cost a level.
 read_args : pat_at Single 2 (word a ∷ colons (mark (codes "<") ∷ word (codes "B") ∷ mark (codes ">") ∷ []))
     ≡ Some ((pat.Path a_of_B, 2), [])
 unfolding single_at pat_by simple_path path_pat path_by path chain segment args_by repeat repeat_from word_reading op_at lead_at within path_type angle elements elements_from one_arg
@@ -355,7 +355,7 @@ read_rest : pat_at Single 1 (dots []) ≡ Some ((pat.Rest, 1), [])
 unfolding single_at pat_by span op_at lead_at
 read_rest = refl
 
--- Behind `..=` an end stands.
+-- After `..=` an end stands.
 not_without_end : pat_at Single 1 (digits (codes "1") ∷ dots_to []) ≡ None
 unfolding single_at pat_by value_pat value literal span one_end path chain segment word_reading op_at
 not_without_end = refl
@@ -451,7 +451,7 @@ read_or_in_parens : pat_at Single 3 (in_parens (mark (codes "|") ∷ word a ∷ 
 unfolding single_at pat_by simple_path path_pat path_by bind path chain segment args_by repeat repeat_from word_reading op_at paren_pat
 read_or_in_parens = rw (lone a, lone b, pats.pat_or_is (name_a ∷ name_b ∷ [])) refl
 
--- `..` alone in parentheses is a tuple, also behind a bar,
+-- `..` alone in parentheses is a tuple, also after a bar,
 read_rest_in_parens : pat_at Single 2 (in_parens (dots [])) ≡ Some ((pat.Tuple (pat.Rest ∷ []), 2), [])
 unfolding single_at pat_by span op_at lead_at paren_pat chain repeat repeat_from
 read_rest_in_parens = rw pats.pat_rest_is refl
@@ -498,7 +498,7 @@ read_rest_of_fields : pat_at Single 1 (of_A (dots [])) ≡ Some ((pat.Struct A [
 unfolding single_at pat_by simple_path path_pat path_by path chain segment args_by repeat repeat_from word_reading op_at fields open_elements open_elements_from
 read_rest_of_fields = refl
 
--- Nothing stands behind the `..`,
+-- Nothing stands after the `..`,
 not_behind_rest : pat_at Single 3 (of_A (dots (mark (codes ",") ∷ word a ∷ []))) ≡ None
 unfolding single_at pat_by simple_path path_pat path_by path chain segment args_by repeat repeat_from word_reading op_at fields open_elements open_elements_from
 not_behind_rest = refl
@@ -508,7 +508,7 @@ not_comma_behind_rest : pat_at Single 3 (of_A (dots (mark (codes ",") ∷ []))) 
 unfolding single_at pat_by simple_path path_pat path_by path chain segment args_by repeat repeat_from word_reading op_at fields open_elements open_elements_from
 not_comma_behind_rest = refl
 
--- and it stands behind one.
+-- and it stands after one.
 not_rest_without_comma : pat_at Single 3 (of_A (word (codes "ref") ∷ word a ∷ dots [])) ≡ None
 unfolding single_at pat_by simple_path path_pat path_by bind path chain segment args_by repeat repeat_from word_reading op_at fields one_field open_elements open_elements_from attributes name_reading marked_bind
 not_rest_without_comma = refl

@@ -66,7 +66,7 @@ told (u ∷ us) = told_of u ∷ told us
 abbrev laid : List Listed → List ℕ
 laid us = text_of (document (token_list us))
 
--- The front of the tokens, up to the rest, spells the form at the depth.
+-- The beginning of the tokens, up to the rest, spells the form at the depth.
 pub record Spelt (depth : ℕ) (f : Form) (ts rest : List Token) : Type 0 where
   pub spells : Spells f depth ts rest
 
@@ -90,7 +90,7 @@ pub doc : {n : ℕ} {inner : Bool} {x : List ℕ} {f : Form} {ts rest : List Tok
     → Spelt n (ListedDoc inner x (Part f Done)) (token (Doc inner false) x false ∷ ts) rest
 doc {ts = ts} {rest = rest} s = record { spells = (ts, (false, refl, refl, refl), (rest, s.spells, refl)) }
 
--- behind a break
+-- after a break
 pub gap : {n : ℕ} {g : Space} {f : Form} {ts rest : List Token} → Spelt n f ts rest → Spelt n (Brk g f) ts rest
 gap s = record { spells = s.spells }
 
@@ -319,7 +319,7 @@ laid_12 = refl
 spelt_12 : IsSpelt row_12
 spelt_12 = list (next (next (gap (next (gap (next (next (gap (next (next end))))))))))
 
--- behind a joint one, and behind a group
+-- after a joint one, and after a group
 abbrev row_12_operator : List Listed
 row_12_operator = opens Paren ∷ a ∷ closes Paren ∷ mark (codes "-") ∷ a ∷ joint (codes "&") ∷ mark (codes "&") ∷ b ∷ []
 
@@ -395,7 +395,7 @@ unlisted_group : is_token_list (opens Paren ∷ a ∷ []) ≡ false
 unfolding is_utf8 chars encode had has_form may_precede
 unlisted_group = rw a_starts refl
 
--- A Float may stand behind `..`, and behind a point none does.
+-- A Float may stand after `..`, and after a point none does.
 listed_range : is_token_list (joint (codes ".") ∷ mark (codes ".") ∷ listed.Token Float (codes "1.2") false ∷ []) ≡ true
 unfolding is_utf8 chars encode had has_form may_precede
 listed_range = refl

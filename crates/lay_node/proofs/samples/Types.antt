@@ -253,7 +253,7 @@ laid_code = rw (types.path_is a_of_B, types.start_local_is, types.args_angle_is 
 laid_generics : text_of (document (generics_form three_params)) ≡ codes "<'a: 'b, A: B = C, const D: E = 1>"
 laid_generics = rw (meeting_is false false (codes "B"), named_is (codes "C"), named_is (codes "E")) refl
 
--- a where clause behind a word, and before a body or a `;`
+-- a where clause after a word, and before a body or a `;`
 abbrev before_body : Wheres → Form
 before_body wheres = Piece (Fixed kind.Ident a ∷ []) (Part (wheres_before_body wheres) (piece (opener Brace ∷ [])))
 

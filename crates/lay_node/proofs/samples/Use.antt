@@ -104,7 +104,7 @@ spelled_glob = tree_spelled _ _ _ _ _ uses.glob_is (_, (_, (_, (refl, refl), ref
 spelled_no_trees : Spelt (about_use (tree_of false [] (use_end.Group []))) (opens Brace ∷ closes Brace ∷ [])
 spelled_no_trees = tree_spelled _ _ _ _ _ (uses.group_is []) (_, (_, (_, (refl, refl, refl), (_, (refl, refl, refl), refl)), refl), refl)
 
--- two trees, and what stands behind the last
+-- two trees, and what follows the last
 trees_spelled : (ts : List Token) → MayBe comma ts (closes Brace ∷ [])
     → Spelt (about_use (group_of b c)) (word a ∷ colons (opens Brace ∷ word b ∷ mark (codes ",") ∷ word c ∷ ts))
 unfolding op_at
@@ -126,7 +126,7 @@ trees_spelled ts m = rw (group_is b c) (_, (_, (refl, refl, refl), (_, (_, (refl
 spelled_trees : Spelt (about_use (group_of b c)) (word a ∷ colons (opens Brace ∷ word b ∷ mark (codes ",") ∷ word c ∷ closes Brace ∷ []))
 spelled_trees = trees_spelled _ (inl refl)
 
--- with a comma behind the last tree
+-- with a comma after the last tree
 spelled_last_comma : Spelt (about_use (group_of b c))
     (word a ∷ colons (opens Brace ∷ word b ∷ mark (codes ",") ∷ word c ∷ mark (codes ",") ∷ closes Brace ∷ []))
 spelled_last_comma = trees_spelled _ (inr (_, (refl, refl, refl), refl))

@@ -1,4 +1,4 @@
--- Balanced lists: what stands behind one sees the same delimiters open as what stands before it; and the test says what
+-- Balanced lists: what follows one sees the same delimiters open as what stands before it; and the test says what
 -- `Balanced` says of the tokens.
 use Rattle.std.proofs.Common.{◌≡◌, ℕ, List, [], ◌∷◌, ◌++◌, Bool, true, false, cond, Option, Some, None, map, refl, sym, ap, ◌∙◌, append_assoc, append-nil}
 use Rattle.lay_token.specs.Delimiters.{is_opener, is_closer, is_pair, Trees, NoTree, One, Nest, tokens_of, Paired, Balanced}
@@ -62,7 +62,7 @@ pub balances_turned : (left more : List Delim) (t : Listed) (ts : List Listed) �
 unfolding behind_turn
 balances_turned left more t ts e = first_turn left t ts ∙ ap (λ o. behind_turn o ts) e
 
--- What a balanced list begins with turns the delimiters that are open, and the rest is balanced behind it.
+-- What a balanced list begins with turns the delimiters that are open, and the rest is balanced after it.
 pub record Turns (left : List Delim) (t : Listed) (ts : List Listed) : Type 0 where
   pub more : List Delim
   pub turn : turned (kind_of t) left ≡ Some more
@@ -76,7 +76,7 @@ turns left t ts h = by (turned (kind_of t) left) refl (sym (first_turn left t ts
     by None e g = cc
     by (Some more) e g = record { more = more; turn = e; rest = g }
 
--- ---- one list behind another
+-- ---- one list after another
 
 -- Delimiters that are open further out change nothing.
 pub turned_within : (k : Kind) (inner more left : List Delim) → turned k inner ≡ Some more

@@ -58,7 +58,7 @@ last_may (Doc inner true) x = refl
 last_may (Doc inner false) x = refl
 last_may k x = stops (is_whole (after_literal k x))
 
--- digits alone, and what goes on with a word behind them, are no number
+-- digits alone, and what goes on with a word after them, are no number
 digits_end : (x : List ℕ) → list_all is_ascii_digit x ≡ true → after in_digits x ≡ []
 digits_end [] h = refl
 digits_end (c ∷ x) h = let q = and_parts (is_ascii_digit c) _ h in
@@ -84,8 +84,8 @@ no_number Int x y n d w = by (has_form Int x) (begins in_word y) _ w
 no_number Float x y n d w = ap (λ z. z && may_precede Float x y) (no_float x d)
 no_number _ x y n d w = cc
 
--- n: a number's kind is Int; d, e: it begins with digits, and has nothing else; b, w: a word goes on behind its digits,
--- and behind it; m: its form and what follows it; r: its form and nothing behind it
+-- n: a number's kind is Int; d, e: it begins with digits, and has nothing else; b, w: a word goes on after its digits,
+-- and after it; m: its form and what follows it; r: its form and nothing after it
 at_place : (n d e b w m r : Bool) → cond (d && not (cond e w b)) (n && (d && e) && not w) m ≡ true
     → (e ≡ true → w ≡ true → m ≡ false) → (m ≡ true → r ≡ true)
     → cond (d && not (cond e false b)) (n && (d && e) && true) r ≡ true
@@ -185,7 +185,7 @@ loose p [] n = refl
 loose p (q ∷ qs) n = ap (λ z. z && is_punct q.kind && is_nil q.gap && not (is_separator p.piece)
     && not (is_separator q.piece)) n
 
--- a joint part and the one behind it
+-- a joint part and the one after it
 record Joins (p q : Part) : Type 0 where
   left : is_punct p.kind ≡ true
   right : is_punct q.kind ≡ true
@@ -322,7 +322,7 @@ point_step true true true = refl
 point_step true true false = refl
 point_step true false n = refl
 
--- behind one more token
+-- after one more token
 stands_behind : (before before_it : Neighbour) (b : Before) (p : Part) (ps : List Part) (last : List ℕ)
     → Stands before before_it b (p ∷ ps) → Fit b (p ∷ ps) last
     → Stands before_it (stood p.kind p.piece (lexed.is_joint p ps)) (step b p) ps
@@ -406,7 +406,7 @@ text_row bytes start tokens u l =
 
 -- ---- a part of the tokens
 
--- What two lists tell, one behind the other.
+-- What two lists tell, one after the other.
 pub record TwoRows (before last : Neighbour) (us vs : List Listed) : Type 0 where
   pub front : fits before last us ≡ true
   pub before_back : Neighbour

@@ -54,7 +54,7 @@ abbrev pub HaveDelimiters : List Listed → Type 0
 HaveDelimiters [] = Unit {0}
 HaveDelimiters (t ∷ ts) = IsDelimiter (kind_of t) t × HaveDelimiters ts
 
--- Behind these the list lists what these groups do, each with the closer of its delimiter before it.
+-- After these the list lists what these groups do, each with the closer of its delimiter before it.
 abbrev AreBehind : List Delim → List Grouping → List Listed → Type 0
 AreBehind [] [] ts = ts ≡ []
 AreBehind [] (g ∷ gs) ts = ⊥
@@ -62,7 +62,7 @@ AreBehind (d ∷ ds) [] ts = ⊥
 AreBehind (d ∷ ds) (g ∷ gs) ts =
     (rest : List Listed) × (ts ≡ closer_token d ∷ (flat g ++ rest)) × InGroups g × AreBehind ds gs rest
 
--- A list behind these open delimiters is in groups.
+-- A list after these open delimiters is in groups.
 record Regrouped (left : List Delim) (ts : List Listed) (s : Nested) : Type 0 where
   rest : List Listed
   whole : ts ≡ flat s.grouping ++ rest

@@ -12,7 +12,7 @@ use Rattle.lay_node.specs.tokens.Listing.{as_listed, turned, balances, is_balanc
 use Rattle.lay_node.proofs.token_lists.Balance.{turned_listed, turned_within, turns}
 use Rattle.lay_node.proofs.token_lists.Commas.{Commaless, CommaApart, commaless_joined, commaless_none, commaless_parts, level_turned}
 
--- what a run gives behind these tokens
+-- what a run gives after these tokens
 abbrev pub onto : List Token → Got (List Token) → Got (List Token)
 onto xs None = None
 onto xs (Some r) = Some (xs ++ r.0, r.1)

@@ -27,7 +27,7 @@ use Rattle.lay_node.proofs.token_lists.Grouped.{opener_token, closer_token, flat
 
 -- ---- a row of tokens
 
--- The front of the tokens, up to the rest, is listed so.
+-- The beginning of the tokens, up to the rest, is listed so.
 abbrev pub IsRow : List Listed → Tokens → Tokens → Type 0
 IsRow [] ts rest = ts ≡ rest
 IsRow (u ∷ us) [] rest = ⊥
@@ -121,7 +121,7 @@ led NoBreak f n ts rest s = s
 led SoftBreak f n ts rest s = s
 led HardBreak f n ts rest s = s
 
--- what stands between the delimiters of a group with tokens, and behind it
+-- what stands between the delimiters of a group with tokens, and after it
 abbrev Inside : Delim → Form → ℕ → Tokens → Tokens → Type 0
 Inside d x n ts rest = (mid : Tokens) × Spells x n ts mid × IsOne (Closer d) (closing d ∷ []) mid rest
 
@@ -202,7 +202,7 @@ module _ (d : Delim) (line : Bool) (x f : Form) (n : ℕ) where
   enclosed_spelled (OneToken t r) ts mid rest l g w s = full_spelled (OneToken t r) ts mid rest l g w s
   enclosed_spelled (OneGroup e j r) ts mid rest l g w s = full_spelled (OneGroup e j r) ts mid rest l g w s
 
--- a part with nothing behind it
+-- a part with nothing after it
 part_alone : (f : Form) (n : ℕ) (ts rest : Tokens) → Spells (Part f Done) n ts rest → Spells f n ts rest
 part_alone f n ts rest s = subst (λ z. Spells f n ts z) s.2 s.1
 

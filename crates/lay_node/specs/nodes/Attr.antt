@@ -96,7 +96,7 @@ attr_form (attr.Meta inner path input) =
     Piece (attr_opening inner) (Part (meta_path_form path) (input_form input (piece (closer Bracket ∷ []))))
 
 -- An attribute within other parts, and what follows it: an inner one alone; an outer one on a line of its own where that
--- is wanted or it is documentation on a line, and else with a blank behind it.
+-- is wanted or it is documentation on a line, and else with a blank after it.
 abbrev pub is_line : Attr → Bool
 is_line (attr.Doc inner text) = is_line_doc (listed.Doc inner text)
 is_line (attr.Meta inner path input) = false

@@ -17,7 +17,7 @@ is_group group = is_token_list group.tokens
 abbrev pub about_group : Group → Facts
 about_group group = record { form = group_form group Done; good = is_group group; refuses = [] }
 
--- the `!` of a macro call, before a group in braces with a blank behind it
+-- the `!` of a macro call, before a group in braces with a blank after it
 abbrev pub bang : Delim → List Bit
 bang Brace = Operator (codes "!") ∷ Blank ∷ []
 bang _ = Operator (codes "!") ∷ []
@@ -27,7 +27,7 @@ abbrev pub before_rules : Delim → Form → Form
 before_rules Brace f = Piece (Blank ∷ []) f
 before_rules _ f = f
 
--- what ends an item that is a macro call or declares a macro: behind braces nothing, and else a `;`
+-- what ends an item that is a macro call or declares a macro: after braces nothing, and else a `;`
 abbrev pub end_form : Delim → Form
 end_form Brace = Done
 end_form _ = piece semicolon

@@ -91,7 +91,7 @@ varies_last [] = true
 varies_last (p ∷ []) = true
 varies_last (p ∷ q ∷ ps) = not (is_variadic p.kind) && varies_last (q ∷ ps)
 
--- Behind one that takes further arguments no comma stands.
+-- After one that takes further arguments no comma stands.
 abbrev pub fn_params_form : List Param → Form
 fn_params_form ps = comma_list (not (ends_variadic ps)) (opener Paren) (closer Paren) (map fn_param_form ps)
 
@@ -118,7 +118,7 @@ abbrev pub head_output : Option Ty → Form
 head_output None = Done
 head_output (Some x) = Piece (Blank ∷ Operator (codes "->") ∷ Blank ∷ []) (Part (about_type x).told.form Done)
 
--- what stands behind `fn`
+-- what follows `fn`
 abbrev pub signature_form : FnHead → Form
 signature_form h = leaf_of h.name.raw h.name.text
     (Part (generics_form h.generics) (Part (fn_params_form h.params) (Part (head_output h.output) Done)))

@@ -87,6 +87,6 @@ GenericsAt is_spelled generics ts n depth =
     spelled.Front (deeper (generics_spelled is_spelled generics)) ((is_spelled || not (is_there generics.params)) && is_generics generics)
     (generics_follow is_spelled) ts n depth
 
--- Generic parameters by themselves stand at the front of the tokens, spelled in one of the two ways.
+-- Generic parameters by themselves stand at the beginning of the tokens, spelled in one of the two ways.
 abbrev pub GenericsFront : Generics → Tokens → ℕ → ℕ → Type 0
 GenericsFront generics ts n depth = (is_spelled : Bool) × GenericsAt is_spelled generics ts n depth

@@ -64,11 +64,11 @@ headed x = record { form = notation.I0 x.head x.tail; good = x.good; follows = �
 abbrev pub seen : Vis → HeadFacts → Form
 seen v x = notation.I0 (Part (vis_form v) x.head) x.tail
 
--- Braces behind a where clause that is there have no leading blank.
+-- Braces after a where clause that is there have no leading blank.
 abbrev pub leads : Wheres → Bool
 leads wheres = not (is_there wheres.predicates)
 
--- what a word and a name begin, with generic parameters behind the name
+-- what a word and a name begin, with generic parameters after the name
 abbrev pub called : List ℕ → Bool → List ℕ → Generics → Form → Form
 called word raw text generics f = Piece (keyword word ∷ Blank ∷ []) (leaf_of raw text (Part (generics_form generics) f))
 
@@ -222,7 +222,7 @@ abbrev pub type_opens_less : Ty-F Arg Args Bound Constraint PathStart Ty FuncPar
 type_opens_less (Ty-F.Path p) = path_opens_less p
 type_opens_less _ = false
 
--- What stands behind the generic parameters begins with `<`.
+-- What follows the generic parameters begins with `<`.
 abbrev pub opens_less : Option TraitRef → Ty → Bool
 opens_less None x = type_opens_less (out-Ty x)
 opens_less (Some r) x = not r.negative && path_opens_less r.path
@@ -231,7 +231,7 @@ abbrev pub impl_head_form : ImplHead → Form
 impl_head_form x = unsafe_form x.is_unsafe
     (Piece (keyword (codes "impl") ∷ []) (Part (generics_form x.generics) (Piece (Blank ∷ []) (trait_ref_form x.of (Part (about_type x.ty).told.form Done)))))
 
--- Behind `impl` a `<` always opens generic parameters.
+-- After `impl` a `<` always opens generic parameters.
 abbrev pub is_impl_head : ImplHead → Bool
 is_impl_head x = is_generics x.generics && is_trait_ref x.of && good_at Bounds (about_type x.ty)
     && (is_there x.generics.params || not (opens_less x.of x.ty))

@@ -31,7 +31,7 @@ use Rattle.lay_node.specs.declared.types.PathStyle.TheVariants.{Code}
 
 -- ---- parts with no patterns within them
 
--- a literal, or a number behind a `-`
+-- a literal, or a number after a `-`
 abbrev pub value_form : PatValue → Form
 value_form v = when v.negative (punct char.minus ∷ []) (literal_form v.literal Done)
 
@@ -70,7 +70,7 @@ abbrev pub last_end_refuses : Option SpanEnd → List Begin
 last_end_refuses None = []
 last_end_refuses (Some e) = end_refuses e
 
--- One end at least, and behind `..=` the last one.
+-- One end at least, and after `..=` the last one.
 abbrev pub has_ends : Option SpanEnd → Bool → Option SpanEnd → Bool
 has_ends start inclusive end = (is_some start || is_some end) && (not inclusive || is_some end)
 
@@ -93,11 +93,11 @@ pub record PatFacts : Type 0 where
   pub rest : Bool
   -- It is a span.
   pub span : Bool
-  -- It is a name that is bound, with nothing behind it.
+  -- It is a name that is bound, with nothing after it.
   pub short : Bool
   -- It is a name that is bound and begins with `mut`.
   pub begins_mut : Bool
-  -- It ends in a `..` without an end behind it.
+  -- It ends in a `..` without an end after it.
   pub lacks_end : Bool
   -- It ends in a name that is bound to no pattern.
   pub lacks_bound : Bool
@@ -123,8 +123,8 @@ abbrev pub pat_good : PatPlace → PatFacts → Bool
 pat_good Alternatives x = x.told.good
 pat_good Single x = x.told.good && not x.several
 
--- A pattern isn't followed by what goes on with one, nor by the last part of its own that is left out: an end behind its
--- `..`, or an `@` behind a name.
+-- A pattern isn't followed by what goes on with one, nor by the last part of its own that is left out: an end after its
+-- `..`, or an `@` after a name.
 abbrev pub single_follows : PatFacts → Tokens → Bool
 single_follows x ts =
     not (goes_on_pattern ts) && not (x.lacks_end && begins_span_end ts) && not (x.lacks_bound && is_op (codes "@") ts) && may_follow x.told.refuses ts
@@ -168,7 +168,7 @@ field_facts (FieldPat-F.Short attrs x) = record {
   refuses = x.told.refuses;
 }
 
--- the `..` behind fields
+-- the `..` after fields
 abbrev pub rest_form : Bool → List Form
 rest_form true = piece (Operator (codes "..") ∷ []) ∷ []
 rest_form false = []
@@ -266,8 +266,8 @@ about_pat = fold-Pat Facts PatFacts field_facts pat_facts
 unfoldable pub about_field_pat : FieldPat → Facts
 about_field_pat = fold-FieldPat Facts PatFacts field_facts pat_facts
 
--- ---- fronts
+-- ---- beginnings
 
--- A pattern of which this is told stands at the front of the tokens, at the place.
+-- A pattern of which this is told stands at the beginning of the tokens, at the place.
 abbrev pub PatFront : PatPlace → PatFacts → Tokens → ℕ → ℕ → Type 0
 PatFront place x ts n depth = spelled.Front (pat_form place x) (pat_good place x) (pat_follows place x) ts n depth

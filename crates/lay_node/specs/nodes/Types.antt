@@ -70,7 +70,7 @@ idle_colon = Optional false (Operator (codes ":") ∷ []) Done
 abbrev pub equals : List Bit
 equals = Blank ∷ Operator (codes "=") ∷ Blank ∷ []
 
--- attributes of a parameter, each with a blank behind it, or a newline behind documentation on a line
+-- attributes of a parameter, each with a blank after it, or a newline after documentation on a line
 abbrev pub param_attrs : List Attr → Form → Form
 param_attrs [] f = f
 param_attrs (a ∷ more) f = attr_part false a (param_attrs more f)
@@ -345,7 +345,7 @@ path_facts path style = record {
 abbrev pub deeper : Form → Form
 deeper f = Deeper f Done
 
--- a type in brackets, or otherwise closed, behind which anything may follow
+-- a type in brackets, or otherwise closed, after which anything may follow
 abbrev pub shut_type : Form → Bool → TypeFacts
 shut_type form good = plain_type (record { form = deeper form; good = good; refuses = [] })
 
@@ -381,7 +381,7 @@ func_param_facts p = record {
   refuses = p.ty.told.refuses;
 }
 
--- the `...` of a function type that takes further arguments, behind which no comma stands
+-- the `...` of a function type that takes further arguments, after which no comma stands
 abbrev pub dots : Bool → List Form
 dots true = piece (Operator (codes "...") ∷ []) ∷ []
 dots false = []
@@ -466,14 +466,14 @@ unfoldable pub about_func_param : FuncParam → Facts
 about_func_param = fold-FuncParam Facts ArgsFacts Facts Facts Facts TypeFacts Facts PathFacts
     arg_facts args_facts bound_facts constraint_facts start_facts ty_facts func_param_facts path_facts
 
--- ---- fronts
+-- ---- beginnings
 
 -- Where several bounds may stand, no `+` follows bounds.
 abbrev pub type_follows : TypePlace → TypeFacts → Tokens → Bool
 type_follows Bounds x ts = not (x.bounded && is_op (codes "+") ts) && may_follow x.told.refuses ts
 type_follows NoBounds x ts = may_follow x.told.refuses ts
 
--- A type of which this is told stands at the front of the tokens, at the place.
+-- A type of which this is told stands at the beginning of the tokens, at the place.
 abbrev pub TypeFront : TypePlace → TypeFacts → Tokens → ℕ → ℕ → Type 0
 TypeFront place x ts n depth = spelled.Front x.told.form (good_at place x) (type_follows place x) ts n depth
 

@@ -56,7 +56,7 @@ end_facts end = record { form = end_form end; good = end_good end; refuses = end
 
 -- ---- a use tree
 
--- words, each with a `::` behind it
+-- words, each with a `::` after it
 abbrev pub words_form : List Word → Form → Form
 words_form [] f = f
 words_form (w ∷ ws) f = leaf_of w.raw w.text (Piece colons (words_form ws f))

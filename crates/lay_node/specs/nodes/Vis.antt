@@ -51,7 +51,7 @@ abbrev pub restricts : Tokens → Bool
 restricts ts =
     restricts_to (codes "crate") ts || (restricts_to (codes "self") ts || (restricts_to (codes "super") ts || restricts_in ts))
 
--- Where nothing stands no `pub` follows, and behind `pub` no restriction.
+-- Where nothing stands no `pub` follows, and after `pub` no restriction.
 abbrev pub vis_follows : Vis → Tokens → Bool
 vis_follows vis.Inherited ts = not (first (is_keyword (codes "pub")) ts)
 vis_follows vis.Public ts = not (restricts ts)

@@ -71,7 +71,7 @@ wheres_before_body wheres = where_body (map predicate_form wheres.predicates)
 abbrev pub wheres_before_semicolon : Wheres → Form
 wheres_before_semicolon wheres = where_semicolon (map predicate_form wheres.predicates)
 
--- A where clause by itself stands at the front of the tokens, spelled with its last part or without it.
+-- A where clause by itself stands at the beginning of the tokens, spelled with its last part or without it.
 abbrev pub WheresAt : Bool → Wheres → Tokens → ℕ → ℕ → Type 0
 WheresAt last wheres ts n depth =
     spelled.Front (deeper (wheres_spelled last (map predicate_form wheres.predicates))) (are_predicates wheres)

@@ -27,7 +27,7 @@ meta_name ts =
     if first (is_keyword (codes "unsafe")) ts then Some (meta_path.Unsafe, tail ts)
     else (do p ← simple_path ts; Some (meta_path.Path p.0, p.1))
 
--- a token list of one token at least, behind the `=`
+-- a token list of one token at least, after the `=`
 unfoldable pub value : Tokens → Got MetaInput
 value ts = do us ← tokens (drop 1 ts); if is_empty us.0 then None else Some (input.Value us.0, us.1)
 
@@ -52,7 +52,7 @@ made inner path (input.Value us) =
     else attr.Meta inner path (input.Value us)
 made inner path given = attr.Meta inner path given
 
--- what stands behind `#[`, or behind `#![` of an inner attribute
+-- what follows `#[`, or after `#![` of an inner attribute
 abbrev pub behind_opening : Bool → Tokens → Option Tokens
 behind_opening false ts = do mark ← passed (is_mark (codes "#")) ts; passed (opens Bracket) mark
 behind_opening true ts = do mark ← passed (is_mark (codes "#")) ts; bang ← passed (is_mark (codes "!")) mark; passed (opens Bracket) bang

@@ -9,7 +9,7 @@ use Rattle.lay_node.specs.reader.SimplePath.{simple_path}
 use Rattle.lay_node.specs.reader.Tokens.{group}
 use Rattle.lay_node.specs.declared.tokens.MacroCall.{MacroCall}
 
--- the `!` of a macro call, left behind
+-- what follows the `!` of a macro call
 abbrev pub behind_bang : Tokens → Option Tokens
 behind_bang ts = if is_op (codes "!") ts then Some (drop 1 ts) else None
 
@@ -20,7 +20,7 @@ call ts = do
   g ← group within
   Some (record { path = p.0; tokens = g.0 }, g.1)
 
--- what ends an item that is a macro call or declares a macro, left behind
+-- what follows the end of an item that is a macro call or declares a macro
 abbrev pub behind_end : Delim → Tokens → Option Tokens
 behind_end Brace ts = Some ts
 behind_end _ ts = passed (is_mark (codes ";")) ts

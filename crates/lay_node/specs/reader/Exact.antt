@@ -1,4 +1,4 @@
--- What is proved of readings: a node is read exactly where it stands at the front of the tokens.
+-- What is proved of readings: a node is read exactly where it stands at the beginning of the tokens.
 use Rattle.std.specs.Prelude.{ℕ, ◌≡◌, ◌≤◌, Bool, ◌||◌, not, drop, map, Some, IsTrue}
 use Rattle.std.specs.List.{list_all}
 use Rattle.lay_token.specs.Lexes.{is_punct}
@@ -13,14 +13,14 @@ use Rattle.lay_node.specs.tokens.Pairs.{Neighbour}
 abbrev pub is_loose : Token → Bool
 is_loose t = is_punct t.kind || not t.joint
 
--- The tokens stand in a row in what some text lexes to, behind two others.
+-- The tokens stand in a row in what some text lexes to, after two others.
 pub record InText (ts : Tokens) : Type 0 where
   pub before : Neighbour
   pub last : Neighbour
   pub fit : IsTrue (fits before last (map as_listed ts))
   pub loose : IsTrue (list_all is_loose ts)
 
--- What is read within a budget stands at the front at the depth that it needs, and what stands there at a depth is read
+-- What is read within a budget stands at the beginning at the depth that it needs, and what stands there at a depth is read
 -- within every budget from it on. So at most one node and one count of tokens fit.
 pub record Exact {A : Type 0} (read : ℕ → Tokens → Read A) (Front : A → Tokens → ℕ → ℕ → Type 0) : Type 0 where
   pub sound : (budget : ℕ) (ts : Tokens) (x : A) (need : ℕ) (rest : Tokens) → InText ts → read budget ts ≡ Some ((x, need), rest)

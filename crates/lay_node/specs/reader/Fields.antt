@@ -54,7 +54,7 @@ variant_fields within ts =
     else (if first (opens Brace) ts then (do fs ← named_fields within ts; Some ((fields.Named fs.0.0, fs.0.1), fs.1))
     else Some ((fields.Unit, 0), ts))
 
--- behind the `=`
+-- after the `=`
 unfoldable pub discriminant : Tokens → Got (List Listed)
 discriminant ts = do us ← tokens_before_comma ts; if is_empty us.0 then None else Some us
 

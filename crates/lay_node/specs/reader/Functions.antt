@@ -58,7 +58,7 @@ begins_ref_self ts = first (is_mark (codes "&")) ts && is_self_by_ref (mut_flag 
 abbrev pub begins_own_self : Tokens → Bool
 begins_own_self ts = is_self_by_itself (mut_flag ts).1
 
--- behind the `&`
+-- after the `&`
 unfoldable pub ref_self : Tokens → Got ParamKind
 ref_self ts = do
   l ← if_there (first is_lifetime ts) lifetime ts
@@ -71,7 +71,7 @@ own_self within ts = do
 
 -- ---- parameters
 
--- what stands behind a pattern and a `:`
+-- what follows a pattern and a `:`
 abbrev pub typed_by : Within → Pat × ℕ → Tokens → Read ParamKind
 typed_by within p ts =
     if is_op (codes "...") ts then Some ((param.NamedVariadic p.0, p.1), drop 3 ts)
@@ -98,7 +98,7 @@ fn_param within ts = do
 abbrev pub begins_fn_param : Tokens → Bool
 begins_fn_param ts = not (first (closes Paren) ts)
 
--- They stand in order, and no comma stands behind one that takes further arguments.
+-- They stand in order, and no comma stands after one that takes further arguments.
 abbrev pub are_in_order : List Param → Bool → Bool
 are_in_order ps comma = receives_first ps && varies_last ps && not (ends_variadic ps && comma)
 
@@ -122,7 +122,7 @@ const_flag ts = flag (is_keyword (codes "const")) ts
 abbrev pub async_flag : Tokens → Bool × Tokens
 async_flag ts = flag (is_keyword (codes "async")) ts
 
--- what stands behind `const` and `async`
+-- what follows `const` and `async`
 abbrev pub safety_behind : Tokens → Option Safety × Tokens
 safety_behind ts = safety_at (async_flag (const_flag ts).1).1
 
@@ -131,15 +131,15 @@ is_string_kind kind.Str = true
 is_string_kind kind.RawStr = true
 is_string_kind _ = false
 
--- the string behind `extern`, if one stands there, left behind
+-- what follows the string after `extern`, if one stands there
 abbrev pub behind_string : Tokens → Tokens
 behind_string ts = if first (λ t. is_string_kind t.kind) ts then tail ts else ts
 
--- an ABI, left behind
+-- what follows an ABI, if one comes next
 abbrev pub behind_abi : Tokens → Tokens
 behind_abi ts = if first (is_keyword (codes "extern")) ts then behind_string (tail ts) else ts
 
--- the words that may stand before `fn`, left behind
+-- what follows the words that may stand before `fn`
 abbrev pub behind_qualifiers : Tokens → Tokens
 behind_qualifiers ts = behind_abi (safety_behind ts).1
 

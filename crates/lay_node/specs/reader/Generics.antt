@@ -16,7 +16,7 @@ use Rattle.lay_node.specs.declared.generics.Generics.{Generics}
 use Rattle.lay_node.specs.declared.types.Bound.{Bound}
 use Rattle.lay_node.specs.declared.types.TypePlace.TheVariants.{Bounds}
 
--- bounds behind a `:`, none where none begins
+-- bounds after a `:`, none where none begins
 abbrev pub met : Within → Tokens → Read (List Bound)
 met within ts = if begins_bound ts then all_bounds within ts else Some (([], 0), ts)
 
@@ -24,7 +24,7 @@ met within ts = if begins_bound ts then all_bounds within ts else Some (([], 0),
 abbrev pub met_if : Within → Tokens → Read (List Bound)
 met_if within ts = if is_op (codes ":") ts then met within (drop 1 ts) else Some (([], 0), ts)
 
--- what stands behind the attributes
+-- what follows the attributes
 unfoldable pub type_param : Within → List Attr → Tokens → Read GenericParam
 type_param within attrs ts = do
   n ← name ts

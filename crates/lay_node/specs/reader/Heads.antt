@@ -34,7 +34,7 @@ use Rattle.lay_node.specs.declared.types.TypePlace.TheVariants.{Bounds}
 abbrev pub semicolon : Tokens → Option Tokens
 semicolon ts = passed (is_mark (codes ";")) ts
 
--- a keyword and a name, with generic parameters behind it
+-- a keyword and a name, with generic parameters after it
 abbrev pub called : Within → List ℕ → Tokens → Read (Name × Generics)
 called within keyword ts = do
   behind ← passed (is_keyword keyword) ts
@@ -55,7 +55,7 @@ extern_crate ts = do
 
 -- ---- types with a name
 
--- a type behind a `=`, if one is given
+-- a type after a `=`, if one is given
 abbrev pub given : Within → Tokens → Read (Option Ty)
 given within ts = if_read (is_op (codes "=") ts) (λ us. within.types Bounds (drop 1 us)) ts
 
@@ -86,7 +86,7 @@ tuple_struct within c ts = do
   rest ← semicolon w.1
   Some ((record { name = c.0.0; generics = c.0.1; fields = fields.Tuple fs.0.0; wheres = w.0.0.0 }, max c.1 (max fs.0.1 w.0.1)), rest)
 
--- behind a where clause fields with names, or a `;`
+-- after a where clause fields with names, or a `;`
 abbrev pub other_struct : Within → (Name × Generics) × ℕ → Tokens → Read Struct
 other_struct within c ts = do
   w ← wheres within ts
@@ -119,7 +119,7 @@ enum within ts = do
 
 -- ---- constants and statics
 
--- a type behind a `:`
+-- a type after a `:`
 abbrev pub of_type : Within → Tokens → Read Ty
 of_type within ts = do at ← operator (codes ":") ts; within.types Bounds at
 
@@ -142,7 +142,7 @@ value_head within ts =
 abbrev pub unsafe_flag : Tokens → Bool × Tokens
 unsafe_flag ts = flag (is_keyword (codes "unsafe")) ts
 
--- a head; whether the `<` and `>` of its generic parameters are spelled; and whether a `:` stands behind them
+-- a head; whether the `<` and `>` of its generic parameters are spelled; and whether a `:` stands after them
 unfoldable pub trait_head : Within → Tokens → Read (TraitHead × (Bool × Bool))
 trait_head within ts = do
   behind ← passed (is_keyword (codes "trait")) (unsafe_flag ts).1
@@ -166,7 +166,7 @@ trait_found negative ts (Some p) =
     if first (is_keyword (codes "for")) p.1 then Some ((Some (record { negative = negative; path = p.0.0 }), p.0.1), tail p.1)
     else Some ((None, 0), ts)
 
--- the trait that is implemented and the `for` behind it, if they stand there, since a type may begin as they do
+-- the trait that is implemented and the `for` after it, if they stand there, since a type may begin as they do
 unfoldable pub trait_ref : Within → Tokens → Read (Option TraitRef)
 trait_ref within ts =
     trait_found (flag (is_mark (codes "!")) ts).0 ts (path within InKind (flag (is_mark (codes "!")) ts).1)

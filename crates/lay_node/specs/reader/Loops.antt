@@ -17,7 +17,7 @@ infixl 10 ◌>>=◌
 abbrev pub ◌>>=◌ : {A B : Type 0} → Option A → (A → Option B) → Option B
 o >>= f = option_and_then f o
 
--- the first token, where it passes, left behind
+-- what follows the first token, if it passes the test
 abbrev pub passed : (Token → Bool) → Tokens → Option Tokens
 passed p ts = if first p ts then Some (tail ts) else None
 
@@ -29,7 +29,7 @@ abbrev pub deepest : {A : Type 0} → List (A × ℕ) → ℕ
 deepest [] = 0
 deepest (x ∷ xs) = max x.1 (deepest xs)
 
--- Parts as long as the test holds, behind those that are found, in so many turns at the most. In each loop every turn
+-- Parts as long as the test holds, after those that are found, in so many turns at the most. In each loop every turn
 -- but the last leaves fewer tokens, so more turns than there are tokens suffice.
 unfoldable pub repeat_from : {A : Type 0} → (Tokens → Bool) → (Tokens → Got A) → ℕ → List A → Tokens → Got (List A)
 repeat_from more one zero found ts = None
@@ -39,12 +39,12 @@ repeat_from more one (suc n) found ts =
 unfoldable pub repeat : {A : Type 0} → (Tokens → Bool) → (Tokens → Got A) → Tokens → Got (List A)
 repeat more one ts = repeat_from more one (suc (length ts)) [] ts
 
--- behind an element of a list: a `,` is passed, and else what closes the list stands there
+-- after an element of a list: a `,` is passed, and else what closes the list stands there
 abbrev pub element_end : (Token → Bool) → Tokens → Option Tokens
 element_end closes ts =
     if first (is_mark (codes ",")) ts then Some (tail ts) else (if first closes ts then Some ts else None)
 
--- the elements of a list behind those that are found, and what closes it
+-- the elements of a list after those that are found, and what closes it
 unfoldable pub elements_from : {A : Type 0} → (Token → Bool) → (Tokens → Got A) → ℕ → List A → Tokens → Got (List A)
 elements_from closes one zero found ts = None
 elements_from closes one (suc n) found ts =
@@ -54,8 +54,8 @@ elements_from closes one (suc n) found ts =
 unfoldable pub elements : {A : Type 0} → (Token → Bool) → (Tokens → Got A) → Tokens → Got (List A)
 elements closes one ts = elements_from closes one (suc (length ts)) [] ts
 
--- Elements with commas that nothing closes, as long as one begins, behind those that are found; and whether a `,` stands
--- behind the last of them, or there is none.
+-- Elements with commas that nothing closes, as long as one begins, after those that are found; and whether a `,` stands
+-- after the last of them, or there is none.
 abbrev pub behind_open : {A : Type 0} → (Tokens → Got (List A × Bool)) → List A → Tokens → Got (List A × Bool)
 behind_open go_on found ts = if first (is_mark (codes ",")) ts then go_on (tail ts) else Some ((found, false), ts)
 

@@ -51,12 +51,12 @@ one_end kinds ts =
     if begins_value ts then (do v ← value ts; Some ((span_end.Value v.0, 0), v.1))
     else (do p ← path kinds Code ts; Some ((span_end.Path p.0.0, p.0.1), p.1))
 
--- `..` without an end behind it: a rest, or a span with its first end alone
+-- `..` without an end after it: a rest, or a span with its first end alone
 abbrev pub open_span : Option SpanEnd → ℕ → Tokens → Read Pat
 open_span None need ts = Some ((pat.Rest, 1), ts)
 open_span (Some start) need ts = Some ((pat.Span (Some start) false None, suc need), ts)
 
--- what stands behind the `..` or `..=` of a span, whose first end needs so much
+-- what follows the `..` or `..=` of a span, whose first end needs so much
 abbrev pub closed_span : Within → Option SpanEnd → ℕ → Bool → Tokens → Read Pat
 closed_span kinds start need inclusive ts = do
   e ← one_end kinds ts
@@ -88,7 +88,7 @@ bind within by_ref mutable n ts =
 abbrev pub begins_bind : Tokens → Bool
 begins_bind ts = first (is_keyword (codes "ref")) ts || first (is_keyword (codes "mut")) ts
 
--- a name behind `ref` or `mut`, or both
+-- a name after `ref` or `mut`, or both
 unfoldable pub marked_bind : PatWithin → Tokens → Read Pat
 marked_bind within ts = do
   n ← name (flag (is_keyword (codes "mut")) (flag (is_keyword (codes "ref")) ts).1).1
@@ -116,12 +116,12 @@ abbrev pub is_int : Kind → Bool
 is_int kind.Int = true
 is_int _ = false
 
--- the number that a field is called by, and the `:` behind it
+-- the number that a field is called by, and the `:` after it
 abbrev pub index : Tokens → Got (List ℕ)
 index [] = None
 index (t ∷ ts) = if is_int t.kind && is_op (codes ":") ts then Some (t.text, drop 1 ts) else None
 
--- a name with a `:` behind it
+-- a name with a `:` after it
 abbrev pub field_name : Tokens → Got Name
 field_name ts = do n ← name ts; rest ← operator (codes ":") n.1; Some (n.0, rest)
 
@@ -144,7 +144,7 @@ one_field within ts = do attrs ← attributes false ts; field_by within attrs.0 
 abbrev pub begins_field : Tokens → Bool
 begins_field ts = not (first (closes Brace) ts || is_op (codes "..") ts)
 
--- fields behind a `{`, and whether a `..` stands behind them
+-- fields after a `{`, and whether a `..` stands after them
 unfoldable pub fields : PatWithin → Tokens → Read (List FieldPat × Bool)
 fields within ts = do
   fs ← open_elements begins_field (one_field within) ts
@@ -154,7 +154,7 @@ fields within ts = do
 abbrev pub struct_pat : PatWithin → Path × ℕ → Tokens → Read Pat
 struct_pat within p ts = do fs ← fields within ts; Some ((pat.Struct p.0 fs.0.0.0 fs.0.0.1, suc (max p.1 fs.0.1)), fs.1)
 
--- what stands behind a path
+-- what follows a path
 unfoldable pub path_by : PatWithin → Path × ℕ → Tokens → Read Pat
 path_by within p ts =
     if first (opens Paren) ts then tuple_struct within p (tail ts)
@@ -170,7 +170,7 @@ call_pat ts = do c ← call ts; Some ((pat.Call c.0, 1), c.1)
 
 -- ---- in delimiters, and references
 
--- what stands behind a `&`
+-- what follows a `&`
 unfoldable pub ref_pat : PatWithin → Tokens → Read Pat
 ref_pat within ts = do
   x ← within.pats Single (flag (is_keyword (codes "mut")) ts).1
@@ -185,7 +185,7 @@ abbrev pub tuple_of : Pat × ℕ → List (Pat × ℕ) → Tokens → Read Pat
 tuple_of x [] ts = if (about_pat x.0).rest then None else Some ((pat.Tuple (x.0 ∷ []), suc x.1), ts)
 tuple_of x (y ∷ more) ts = Some ((pat.Tuple (x.0 ∷ nodes (y ∷ more)), suc (max x.1 (deepest (y ∷ more)))), ts)
 
--- what stands behind a `(` and a pattern
+-- what follows a `(` and a pattern
 abbrev pub paren_by : PatWithin → Pat × ℕ → Tokens → Read Pat
 paren_by within x ts =
     if first (closes Paren) ts then alone_of x (tail ts)
@@ -194,13 +194,13 @@ paren_by within x ts =
       more ← elements (closes Paren) (within.pats Alternatives) behind
       tuple_of x more.0 more.1)
 
--- what stands behind a `(`
+-- what follows a `(`
 unfoldable pub paren_pat : PatWithin → Tokens → Read Pat
 paren_pat within ts =
     if first (closes Paren) ts then Some ((pat.Tuple [], 1), tail ts)
     else (do x ← within.pats Alternatives ts; paren_by within x.0 x.1)
 
--- what stands behind a `[`
+-- what follows a `[`
 unfoldable pub slice_pat : PatWithin → Tokens → Read Pat
 slice_pat within ts = do
   xs ← elements (closes Bracket) (within.pats Alternatives) ts
@@ -245,7 +245,7 @@ alternatives_of budget (x ∷ []) ts = Some (x, ts)
 alternatives_of budget xs ts =
     if nat_le (suc (deepest xs)) budget then Some ((pat.Or (nodes xs), suc (deepest xs)), ts) else None
 
--- behind the bar that may stand before alternatives
+-- after the bar that may stand before alternatives
 abbrev pub behind_bar : Tokens → Tokens
 behind_bar ts = if is_op (codes "|") ts then drop 1 ts else ts
 

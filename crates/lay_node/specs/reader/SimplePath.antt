@@ -10,7 +10,7 @@ use Rattle.lay_node.specs.declared.token.Word.{Word}
 abbrev pub begins_colons : Tokens → Bool
 begins_colons ts = is_op (codes "::") ts
 
--- a word behind its `::`
+-- a word after its `::`
 abbrev pub further_word : Tokens → Got Word
 further_word ts = word (drop 2 ts)
 

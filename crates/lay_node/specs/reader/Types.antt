@@ -56,11 +56,11 @@ pub record Within : Type 0 where
 
 -- ---- small parts
 
--- an operator, left behind
+-- what follows an operator
 abbrev pub operator : List ℕ → Tokens → Option Tokens
 operator op ts = if is_op op ts then Some (drop (length op) ts) else None
 
--- whether a token that passes stands at the front, left behind
+-- whether the next token passes the test, and what follows it; without such a token the tokens as they are
 abbrev pub flag : (Token → Bool) → Tokens → Bool × Tokens
 flag p ts = if first p ts then (true, tail ts) else (false, ts)
 
@@ -89,7 +89,7 @@ chain op one ts = do
   more ← repeat (is_op op) (λ us. one (drop (length op) us)) x.1
   Some (x.0 ∷ more.0, more.1)
 
--- lifetimes behind a `:`
+-- lifetimes after a `:`
 abbrev pub lifetimes : Tokens → Got (List Lifetime)
 lifetimes ts = if first is_lifetime ts then chain (codes "+") lifetime ts else Some ([], ts)
 
@@ -97,7 +97,7 @@ lifetimes ts = if first is_lifetime ts then chain (codes "+") lifetime ts else S
 abbrev pub outlived : Tokens → Got (List Lifetime)
 outlived ts = if is_op (codes ":") ts then lifetimes (drop 1 ts) else Some ([], ts)
 
--- a lifetime that is a parameter, behind its attributes
+-- a lifetime that is a parameter, after its attributes
 unfoldable pub lifetime_behind : List Attr → Tokens → Got LifetimeParam
 lifetime_behind attrs ts = do
   l ← lifetime ts
@@ -170,7 +170,7 @@ named_path p = if starts_plain (out-PathStart p.start) then named_segments p.seg
 abbrev pub named_type : Ty → Option (Name × Args)
 named_type x = do p ← as_path x; named_path p
 
--- What is asked of a name is read behind it, since a type may stand there as well.
+-- What is asked of a name is read after it, since a type may stand there as well.
 abbrev pub begins_constraint : Tokens → Bool
 begins_constraint ts = is_op (codes "=") ts || is_op (codes ":") ts
 
@@ -263,7 +263,7 @@ meets within parens ts = do
   p ← path within InKind b.1
   Some ((bound.Meets parens (flag (is_mark (codes "?")) ts).0 b.0 p.0.0, p.0.1), p.1)
 
--- what is captured, behind `use`
+-- what is captured, after `use`
 abbrev pub captures : Tokens → Read Bound
 captures ts = do captured ← angled one_capture ts; Some ((bound.Captures captured.0, 0), captured.1)
 
@@ -310,7 +310,7 @@ path_type within ts = do
   p ← path within InKind ts
   if begins_there OfBang p.1 then None else Some ((ty.Path p.0.0, suc p.0.1), p.1)
 
--- what stands behind a `(` and a type
+-- what follows a `(` and a type
 abbrev pub paren_by : Within → Ty × ℕ → Tokens → Read Ty
 paren_by within x ts =
     if first (closes Paren) ts then Some ((ty.Paren x.0, suc x.1), tail ts)
@@ -319,7 +319,7 @@ paren_by within x ts =
       more ← elements (closes Paren) (within.types Bounds) behind
       Some ((ty.Tuple (x.0 ∷ nodes more.0), suc (max x.1 (deepest more.0))), more.1))
 
--- what stands behind a `(`
+-- what follows a `(`
 unfoldable pub paren_type : Within → Tokens → Read Ty
 paren_type within ts =
     if first (closes Paren) ts then Some ((ty.Tuple [], 1), tail ts)
@@ -334,13 +334,13 @@ array_by x ts = do
 abbrev pub slice_by : Ty × ℕ → Tokens → Read Ty
 slice_by x ts = do rest ← passed (closes Bracket) ts; Some ((ty.Slice x.0, suc x.1), rest)
 
--- what stands behind a `[`
+-- what follows a `[`
 unfoldable pub bracket_type : Within → Tokens → Read Ty
 bracket_type within ts = do
   x ← within.types Bounds ts
   if first (is_mark (codes ";")) x.1 then array_by x.0 (tail x.1) else slice_by x.0 x.1
 
--- what stands behind a `&`
+-- what follows a `&`
 unfoldable pub reference_type : Within → Tokens → Read Ty
 reference_type within ts = do
   l ← if_there (first is_lifetime ts) lifetime ts
@@ -352,14 +352,14 @@ is_mutable ts =
     if first (is_keyword (codes "mut")) ts then Some (true, tail ts)
     else (if first (is_keyword (codes "const")) ts then Some (false, tail ts) else None)
 
--- what stands behind a `*`
+-- what follows a `*`
 unfoldable pub pointer_type : Within → Tokens → Read Ty
 pointer_type within ts = do
   m ← is_mutable ts
   x ← within.types NoBounds m.1
   Some ((ty.Ptr m.0 x.0.0, suc x.0.1), x.1)
 
--- what stands behind `impl` or `dyn`
+-- what follows `impl` or `dyn`
 unfoldable pub bounds_type : Within → Bool → TypePlace → Tokens → Read Ty
 bounds_type within dynamic place ts = do
   bs ← bounds_by within place ts
@@ -393,7 +393,7 @@ func_param within ts = do
 abbrev pub begins_param : Tokens → Bool
 begins_param ts = not (first (closes Paren) ts || is_op (codes "...") ts)
 
--- parameters, and whether `...` stands behind them
+-- parameters, and whether `...` stands after them
 unfoldable pub func_params : Within → Tokens → Read (List FuncParam × Bool)
 func_params within ts = do
   inside ← passed (opens Paren) ts

@@ -8,11 +8,11 @@ use Rattle.lay_node.specs.reader.SimplePath.{simple_path}
 use Rattle.lay_node.specs.declared.vis.Vis.{Vis}
 use Rattle.lay_node.specs.declared.vis.Vis.TheVariants as vis
 
--- the path behind `(in`, and the `)` behind it
+-- the path after `(in`, and the `)` after it
 abbrev pub vis_path : Tokens → Got Vis
 vis_path ts = do p ← simple_path ts; rest ← passed (closes Paren) p.1; Some (vis.In p.0, rest)
 
--- what stands behind `pub`
+-- what follows `pub`
 abbrev pub vis_behind : Tokens → Got Vis
 vis_behind ts =
     if restricts_to (codes "crate") ts then Some (vis.Crate, drop 3 ts)

@@ -39,17 +39,17 @@ unfoldable pub word : Tokens → Got Word
 word [] = None
 word (t ∷ ts) = do w ← word_by t.kind t.text; Some (w, ts)
 
--- whether a `::` stands at the front, left behind
+-- whether a `::` comes next, and what follows it; without one the tokens as they are
 abbrev pub global : Tokens → Bool × Tokens
 global ts = if is_op (codes "::") ts then (true, drop 2 ts) else (false, ts)
 
--- a word and the `::` behind it
+-- a word and the `::` after it
 unfoldable pub path_word : Tokens → Got Word
 path_word ts = do w ← word ts; if is_op (codes "::") w.1 then Some (w.0, drop 2 w.1) else None
 
 abbrev pub begins_path_word : Tokens → Bool
 begins_path_word ts = is_some (path_word ts)
 
--- the words of a path that have a `::` behind them
+-- the words of a path that have a `::` after them
 unfoldable pub path_words : Tokens → Got (List Word)
 path_words ts = repeat begins_path_word path_word ts

@@ -66,7 +66,7 @@ abbrev pub may_join : Neighbour → Neighbour → Bool
 may_join l r =
     is_joinable l && is_joinable r && not (is_mark (codes "/") l && (is_mark (codes "/") r || is_mark (codes "*") r))
 
--- The tokens may stand in a text behind these two, one behind the other.
+-- The tokens may stand in a text after these two, one after the other.
 abbrev pub fits : Neighbour → Neighbour → List Listed → Bool
 fits before last [] = true
 fits before last (t ∷ ts) =

@@ -64,7 +64,7 @@ as_listed t = listed_by t.kind t.text t.joint
 
 -- ---- balance
 
--- The delimiters that are open behind a token of this kind, the last one first, where these are open before it. Behind a
+-- The delimiters that are open after a token of this kind, the last one first, where these are open before it. After a
 -- closer that isn't the last one's there are none.
 abbrev pub closed : Delim → List Delim → Option (List Delim)
 closed d [] = None
@@ -75,7 +75,7 @@ turned (Opener d) within = Some (d ∷ within)
 turned (Closer d) within = closed d within
 turned _ within = Some within
 
--- Behind the tokens no delimiter is open, where these are open before them.
+-- After the tokens no delimiter is open, where these are open before them.
 abbrev pub balances : List Delim → List Listed → Bool
 balances [] [] = true
 balances (d ∷ within) [] = false
@@ -93,7 +93,7 @@ pub data Grouping : Type 0 where
   OneGroup : Delim → Grouping → Grouping → Grouping
 
 -- The tokens from a place on, up to the closer of the group that the place is in; and for each group that the place is
--- in, from the inside out, what is behind it.
+-- in, from the inside out, what follows it.
 pub record Nested : Type 0 where
   pub grouping : Grouping
   pub outer : List Grouping

@@ -82,7 +82,7 @@ abbrev pub is_paren : Neighbour → Bool
 is_paren (Enclosed Paren) = true
 is_paren _ = false
 
--- A number behind these two may be an index: behind a point, but not behind `..`.
+-- A number after these two may be an index: after a point, but not after `..`.
 abbrev pub is_index_place : Neighbour → Neighbour → Bool
 is_index_place before last = is_mark (codes ".") last && not (is_joint_mark (codes ".") before)
 
@@ -107,7 +107,7 @@ abbrev pub is_positive : ℕ → Bool
 is_positive zero = false
 is_positive (suc n) = true
 
--- the turbofish's count, behind a `<`, behind a `>`, and behind any one
+-- the turbofish's count, after a `<`, after a `>`, and after any one
 abbrev pub raised : Seen → ℕ
 raised s = cond (is_positive s.count || is_joint_mark (codes ":") s.last) (suc s.count) s.count
 
@@ -140,11 +140,11 @@ seen_token s t = record {
 abbrev pub at_start : ℕ → Seen
 at_start n = record { before = Nothing; last = Nothing; place = false; opens = false; closes = false; count = n }
 
--- What stands before a group decides nothing behind it.
+-- What stands before a group decides nothing after it.
 abbrev pub behind_group : Delim → ℕ → Seen
 behind_group d n = record { before = Nothing; last = Enclosed d; place = false; opens = false; closes = false; count = n }
 
--- behind a list
+-- after a list
 abbrev pub seen_all : Seen → Grouping → Seen
 seen_all s NoMore = s
 seen_all s (OneToken t r) = seen_all (seen_token s t) r

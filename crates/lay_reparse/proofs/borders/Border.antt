@@ -1,4 +1,4 @@
--- A border lies behind a piece: what is asked behind it, and what is known of the place. A fixed piece leads from one
+-- A border lies after a piece: what is asked after it, and what is known of the place. A fixed piece leads from one
 -- border to another, and its tokens spell it.
 use Rattle.std.proofs.Common.{◌≡◌, ℕ, ◌+◌, List, [], ◌∷◌, ◌++◌, Bool, true, false, cond, not, ◌&&◌, sym, refl, ap, ◌∙◌, subst, append_assoc, arith, length, length-append}
 use Rattle.std.specs.Prelude.{IsTrue, ◌==◌, codes}
@@ -20,7 +20,7 @@ use Rattle.lay_reparse.proofs.borders.Need.{Text, Need, Grow, Solidus, next_part
 use Rattle.lay_reparse.proofs.borders.OperatorRuns.{begins_comment, is_run, is_operator, no_operator, operator_run, run_low, op_parts, op_along}
 use Rattle.lay_reparse.proofs.texts.Characters.{is_low, low_encodes, all_both}
 
--- What stands before a place: a point directly before it or behind a gap, a point behind a joint point, or anything
+-- What stands before a place: a point directly before it or after a gap, a point after a joint point, or anything
 -- else.
 pub data Place : Type 0 where
   Other : Place
@@ -39,7 +39,7 @@ is_near Point = true
 is_near Points = true
 is_near _ = false
 
--- behind a gap
+-- after a gap
 abbrev pub apart : Place → Place
 apart Other = Other
 apart Point = Far
@@ -56,7 +56,7 @@ is_dot k p = is_punct k && bytes_eq p (codes ".")
 abbrev pub behind : Place → Kind → Text → Place
 behind b k p = cond (is_dot k p) (cond (is_near b) Points Point) Other
 
--- each part is a gap and a piece that is had, where rest follows the parts; a gap may come in front of them
+-- each part is a gap and a piece that is had, where rest follows the parts; a gap may come before them
 abbrev pub Fits : Place → List Part → Text → Type 0
 Fits b [] rest = Unit {0}
 Fits b (p ∷ ps) rest = IsTrue (is_gap p.gap) × Had p.kind p.piece (spell ps rest) (is_index_place (spaced p.gap b))
@@ -181,7 +181,7 @@ behind_tok b k t = record { needs = asks k t ++ extras t b.needs; spot = spot_be
 abbrev pub behind_op : Border → Text → Border
 behind_op b cs = record { needs = op_asks cs ++ extras cs b.needs; spot = op_spot b.spot cs }
 
--- the border behind a piece
+-- the border after a piece
 abbrev pub beyond_bit : Border → Bit → Border
 beyond_bit b Blank = behind_gap b
 beyond_bit b (Fixed k t) = behind_tok b k t
@@ -271,7 +271,7 @@ pub record Rest (e : Place) (y : Text) (ps : List Part) (last : Text) : Type 0 w
   pub fit : Fits e ps last
   pub end : is_last_gap last ≡ true
 
--- with one more blank or LF in front
+-- with one more leading blank or LF
 abbrev pub wider : ℕ → List Part → List Part
 wider c [] = []
 wider c (p ∷ ps) = record { gap = c ∷ p.gap; kind = p.kind; piece = p.piece } ∷ ps
@@ -350,7 +350,7 @@ tokens_wider c at (p ∷ ps) =
       } ∷ tokens_from (n + size p.piece) ps) place,
     )
 
--- The tokens of the one spell what they have in front of the tokens of the other.
+-- The tokens of the one spell what they have before the tokens of the other.
 abbrev pub Along : (List Token → List Token → Type 0) → List Part → List Part → Type 0
 Along R ps qs = (at : ℕ) → (to : ℕ) × R (tokens_from at ps) (tokens_from to qs)
 

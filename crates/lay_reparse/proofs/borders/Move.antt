@@ -1,5 +1,5 @@
 -- A move leads from a border and a state of the layout to others. It knows the characters that it adds, and that these
--- are lexed to tokens which spell a part, whatever may stand behind them. Moves are joined one behind the other.
+-- are lexed to tokens which spell a part, whatever may follow them. Moves are joined one after the other.
 use Rattle.std.proofs.Common.{◌≡◌, ℕ, zero, suc, ◌+◌, ◌<◌, inl, inr, List, [], ◌∷◌, ◌++◌, Bool, true, false, not, ◌&&◌, ◌||◌, sym, refl, ap, ◌∙◌, subst, append_assoc, append-nil, arith, min, replicate}
 use Rattle.std.specs.Prelude.{◌==◌}
 use Rattle.std.specs.Str.{encode_utf8_all, bytes_eq}
@@ -295,7 +295,7 @@ along_wider R c ps qs f at =
     let a = f w.0 in
     (a.0, subst (λ ts. R ts (tokens_from a.0 qs)) (sym w.1) a.1)
 
--- the text and the parts with so many blanks in front, one at least
+-- the text and the parts with that many leading blanks, one at least
 record Blanked (e : Place) (y : Text) (R : List Token → List Token → Type 0) (qs : List Part) : Type 0 where
   parts : List Part
   last : Text

@@ -37,7 +37,7 @@ abbrev pub is_lone : Text → Bool
 is_lone [] = false
 is_lone (c ∷ cs) = is_nil cs
 
--- the operator is in the table, behind those that it doesn't begin like, or is one character alone
+-- the operator is in the table, after those that it doesn't begin like, or is one character alone
 abbrev pub is_in_table : Text → List Text → Bool
 is_in_table cs [] = is_lone cs
 is_in_table cs (op ∷ ops) = bytes_eq cs op || (differs cs cs op && is_in_table cs ops)

@@ -48,7 +48,7 @@ abbrev is_block_body : BodyKind → Bool
 is_block_body (BlockBody lone structless) = true
 is_block_body _ = false
 
--- Behind a block as the body of an arm its comma may be left out.
+-- After a block as the body of an arm its comma may be left out.
 abbrev pub block_free : ExprFacts → Bool
 block_free x = not (is_block_body x.kind) || is_free x
 

@@ -42,7 +42,7 @@ run_ascii p low (c ∷ cs) h = elim (cases_Bool (p c)) [
 digits_ascii : (cs : List ℕ) → is_nil (after in_digits cs) ≡ true → IsAscii cs
 digits_ascii cs h = run_ascii in_digits digits_small cs h
 
--- Behind `0` and the letter of a base stand digits.
+-- After `0` and the letter of a base stand digits.
 based_ascii : (c d : ℕ) (ds : List ℕ) → 48 == c ≡ true → d < 128 → IsAscii ds → IsAscii (c ∷ d ∷ ds)
 based_ascii c d ds e l h =
     let zero : 48 ≡ c = eqb-true 48 c e in IsAscii-cons c (d ∷ ds) (omega arith) (IsAscii-cons d ds l h)

@@ -56,7 +56,7 @@ pub record ItemPasses (x : ItemFacts) : Type 0 where
 
 -- ---- statements
 
--- a type behind the pattern of a `let`, and what stands behind it
+-- a type after the pattern of a `let`, and what follows it
 let_type_passes : (ty : Option Ty) {i f : Form} → may_be_type ty ≡ true
     → are_pieces (let_type ty (form.Part i f)) ≡ true → From ends_pat i ends_expr → From ends_expr f ends_stmt
     → From ends_pat (let_type ty (form.Part i f)) ends_stmt
@@ -80,7 +80,7 @@ value_from (Some x) k g w =
     let i = part plain ends_expr refl (free_expr x k g p) (ends refl) in
     (fixed refl (breaks refl i), fixed refl (breaks refl i))
 
--- the block behind an `else`
+-- the block after an `else`
 else_passes : (x : Option ExprFacts) (b : Option BlockFacts) → Any BlockPasses b → else_good x b ≡ true
     → are_pieces (else_form b) ≡ true → From ends_expr (else_form b) ends_expr
 unfolding tables
@@ -119,7 +119,7 @@ item_stmt_pass x k = record {
   go = λ g w. wider refl (k.go Module (and_parts (x.good Module) (not x.call) g).0 w);
 }
 
--- an expression as a statement, behind its attributes
+-- an expression as a statement, after its attributes
 expr_alone : (attrs : List Attr) (ended : Bool) {f : Form} → From plain f ends_expr
     → From plain (form.Part f (ended_form ended)) (stmt_end (is_plain attrs && not ended))
 unfolding tables
@@ -143,7 +143,7 @@ expr_stmt_pass attrs x ended k = record {
 
 -- ---- statements of a block
 
--- A `;` that is dropped may stand behind a statement.
+-- A `;` that is dropped may stand after a statement.
 stmt_form_passes : (s : StmtFacts) → StmtPasses s → s.good ≡ true → are_pieces (stmt_form s) ≡ true
     → From plain (stmt_form s) ends_stmt
 unfolding tables

@@ -75,7 +75,7 @@ layer_free (Expr-F.Block None b) = refl
 layer_free (Expr-F.Block (Some l) b) = refl
 layer_free _ = refl
 
--- Behind a block no comma is asked.
+-- After a block no comma is asked.
 free : (x : Expr) → block_free (about_expr x) ≡ true
 free x = subst (λ z. block_free (about_expr z) ≡ true) (views.roll-out-Expr x)
     (subst (λ z. block_free z ≡ true) (sym (expr_is (views.out-Expr x))) (layer_free _))

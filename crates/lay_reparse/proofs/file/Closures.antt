@@ -109,7 +109,7 @@ head_passes b s is_async moves ps g {f} w k =
 
 -- ---- closures
 
--- What may follow an expression may follow it behind a newline too, or behind a closing brace.
+-- What may follow an expression may follow it after a newline too, or after a closing brace.
 body_fits : (bare base : Bool) → body_fits_both plain plain (ends_by bare base) ≡ true
 unfolding tables
 body_fits true base = refl
@@ -122,7 +122,7 @@ loosened_ends true base = refl
 loosened_ends false true = refl
 loosened_ends false false = refl
 
--- behind the bars a blank, and the body: as it stands, in braces that are its own, or in braces where it is broken
+-- after the bars a blank, and the body: as it stands, in braces that are its own, or in braces where it is broken
 body_behind : (b : Braces) (bare base : Bool) {f : Form} → From plain f (ends_by bare base)
     → From plain (Piece gap (closure_body b f)) (ends_by bare base)
 unfolding tables

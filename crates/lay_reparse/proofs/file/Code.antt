@@ -123,7 +123,7 @@ expr_passes_at b h p x g w =
     wider (ends_any (about_expr x).tail.bare _)
     (in_both (λ v. stands_at (about_expr x) (expr_passes x) p g w v b (any_begins v b p.level h)))
 
--- Behind these an expression may begin, as it may where nothing is asked.
+-- After these an expression may begin, as it may where nothing is asked.
 abbrev pub before_expr : List (List Bit)
 before_expr =
     [] ∷ (Blank ∷ []) ∷ (opener Paren ∷ []) ∷ (opener Bracket ∷ []) ∷ (Blank ∷ opener Brace ∷ Blank ∷ []) ∷ comma
@@ -134,7 +134,7 @@ pub expr_begins : list_all (λ p. begins_expr (beyond plain p)) before_expr ≡ 
 unfolding tables
 expr_begins = refl
 
--- These stand behind an expression, and lead to where nothing is asked.
+-- These stand after an expression, and lead to where nothing is asked.
 abbrev pub behind_expr : List (List Bit)
 behind_expr =
     comma ∷ semicolon ∷ (closer Paren ∷ []) ∷ (closer Bracket ∷ []) ∷ (Blank ∷ []) ∷ (Blank ∷ opener Brace ∷ [])

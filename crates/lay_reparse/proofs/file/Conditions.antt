@@ -62,7 +62,7 @@ let_link_pass pat x k = record {
 
 -- ---- conditions
 
--- a link, and further ones, each behind an `&&`
+-- a link, and further ones, each after an `&&`
 links_pass : (l : LinkFacts) (more : List LinkFacts) → LinkPasses l → Each LinkPasses more → links_good (l ∷ more) ≡ true
     → are_pieces (form.Part l.form (links_form more)) ≡ true → From plain (form.Part l.form (links_form more)) ends_expr
 unfolding tables

@@ -69,7 +69,7 @@ utf8_int : (t : List ℕ) → is_text_of kind.Int t ≡ true → is_utf8 t ≡ t
 unfolding is_text_of
 utf8_int t w = (and_parts (is_utf8 t) _ w).0
 
--- a tuple index may stand behind a literal but a number without suffix
+-- a tuple index may stand after a literal but a number without suffix
 literal_ends : (k : Kind) (t : List ℕ) → is_literal k t ≡ true → is_text_of k t ≡ true
     → From plain (Leaf k t Done) (ends_by false (not (is_bare_number k t)))
 literal_ends kind.Ident t h w = leaf_passes kind.Ident t refl w (ends refl)
@@ -119,7 +119,7 @@ call_pass call = record {
 
 -- ---- what stands in parentheses and brackets
 
--- an expression behind the delimiter that it is opened by
+-- an expression after the delimiter that it is opened by
 enclosed : (b : Border) (o : Bit) → opens_by b o ≡ true → (x : ExprFacts) → ExprPasses x → placed x FREE ≡ true
     → are_pieces x.form ≡ true → {f : Form} → On (bits_open even (o ∷ [])) ends_expr f ends_base
     → From b (Piece (o ∷ []) (form.Part x.form f)) ends_base
@@ -136,7 +136,7 @@ paren_pass x k = record {
       shut_deep (enclosed b (opener Paren) (starting v 14 b h).opens_round x k g p (fixed refl (ends refl)));
 }
 
--- none, one with a comma behind it, or several
+-- none, one with a comma after it, or several
 tuple_passes : (b : Border) → Begins b → (xs : List ExprFacts) → Each ExprPasses xs → all_free xs ≡ true
     → are_pieces (tuple_form xs) ≡ true → From b (tuple_form xs) ends_base
 unfolding tables
@@ -180,7 +180,7 @@ repeat_pass x length k = record {
 abbrev BasePasses : Option (Option ExprFacts) → Type 0
 BasePasses base = Any (Any ExprPasses) base
 
--- what stands behind the `..` before a base, also a `..`
+-- what follows the `..` before a base, also a `..`
 based : (v : Bool) (x : ExprFacts) → ExprPasses x → placed x FREE ≡ true → are_pieces x.form ≡ true
     → Behind true (beyond plain (led v (dots false))) x.form ends_expr
 based v x k g w =

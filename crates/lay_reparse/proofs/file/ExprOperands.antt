@@ -155,7 +155,7 @@ unary_pass (p ∷ ps) x k = record {
 
 -- ---- ranges
 
--- `..` or `..=`, with the blank that it gets behind a point
+-- `..` or `..=`, with the blank that it gets after a point
 dotted_behind : {v : Bool} {b c : Border} {f : Form} (inclusive : Bool) → piece_passes v b (dots inclusive) ≡ true
     → From (beyond b (led v (dots inclusive))) f c → Behind v b (Piece (dots inclusive) f) c
 dotted_behind true h k = record { now = (h, k.go _) }
@@ -170,7 +170,7 @@ end_passes b h x k no_struct g w =
     (in_both (λ v. stands_at x k (place.plain 2 no_struct) g w v b (operand_begins v b 2 refl h)))
     (ends (ends_wide x.tail.bare _))
 
--- `..` or `..=`, and what stands behind it
+-- `..` or `..=`, and what follows it
 range_passes : (v : Bool) (b : Border) → begins_range v b ≡ true → (inclusive : Bool) (end : Option ExprFacts)
     → Any ExprPasses end → (no_struct : Bool) → end_placed end inclusive no_struct ≡ true
     → are_pieces (end_form end Done) ≡ true
@@ -217,7 +217,7 @@ TargetPasses x = ExprPasses x.0
 abbrev behind_target : ExprFacts × Op → Form → Form
 behind_target x f = Piece gap (Piece (Operator (op_text x.1) ∷ []) (Piece gap (N f)))
 
--- the operator behind a target, and what follows it
+-- the operator after a target, and what follows it
 assigned : (x : ExprFacts × Op) {f : Form} {c : Border} → From plain f c → From ends_operand (behind_target x f) c
 unfolding tables
 assigned x k = fixed refl (operator_passes x.1 (breaks refl k))
@@ -277,7 +277,7 @@ base_end false true true h g = refl
 base_end false true false h g = refl
 base_end false false number h g = cc
 
--- No tuple index stands behind a number without suffix.
+-- No tuple index stands after a number without suffix.
 may_begin : (number index : Bool) → not (number && index) ≡ true → not number || not index ≡ true
 may_begin true true h = cc
 may_begin true false h = refl
@@ -305,7 +305,7 @@ postfix_pass x steps k l = record {
 
 -- ---- jumps
 
--- what stands behind a word that needs no operand
+-- what follows a word that needs no operand
 operand_passes : (b : Border) → may_lack_operand b ≡ true → (x : Option ExprFacts) → Any ExprPasses x → (no_struct : Bool)
     → operand_placed x no_struct ≡ true → are_pieces (operand_form x) ≡ true
     → From b (operand_form x) (ends_by (tail_of_jump x).bare false)
@@ -331,7 +331,7 @@ label_pieces : (label : Option Lifetime) (f : Form) → are_pieces (label_form l
 label_pieces None f w = w
 label_pieces (Some x) f w = (and_parts (are_pieces (lifetime_form x)) (are_pieces f) w).1
 
--- a label needs no operand behind it
+-- a label needs no operand after it
 lifetime_may_lack : may_lack_operand ends_lifetime ≡ true
 unfolding tables
 lifetime_may_lack = refl

@@ -29,7 +29,7 @@ use Rattle.lay_reparse.proofs.file.Types.{begins_path}
 
 -- ---- where an expression may have ended
 
--- an expression behind which a tuple index may stand: no number without suffix
+-- an expression after which a tuple index may stand: no number without suffix
 abbrev pub ends_base : Border
 ends_base = record {
   needs =
@@ -45,7 +45,7 @@ ends_operand = record { needs = need.IntBare ∷ ends_base.needs; spot = At Othe
 abbrev pub ends_expr : Border
 ends_expr = record { needs = Grow (codes "..") ∷ ends_operand.needs; spot = Clear }
 
--- The flags say that a last operand may be left out, and that a tuple index may stand behind it.
+-- The flags say that a last operand may be left out, and that a tuple index may stand after it.
 abbrev pub ends_by : Bool → Bool → Border
 ends_by true base = ends_expr
 ends_by false true = ends_base
@@ -72,7 +72,7 @@ pub operand_under : (bare : Bool) → under ends_operand (ends_by bare false) �
 operand_under true = refl
 operand_under false = refl
 
--- ---- forms behind a text that ends in a point, or in none
+-- ---- forms after a text that ends in a point, or in none
 
 -- The form passes from b to c, where the flag says that the text before ends in a point.
 pub record Behind (v : Bool) (b : Border) (f : Form) (c : Border) : Type 0 where
@@ -93,7 +93,7 @@ behind_wider {v} {b} {c} {z} {f} u k = record { now = to_wider even v f b c z u 
 pub deep : {v : Bool} {b c z : Border} {f : Form} → under c z ≡ true → Behind v b f c → Behind v b (deeper f) z
 deep {v} {b} {c} u k = record { now = (b, c, under-refl b, k.now, u) }
 
--- the same, where an expression ends behind which a tuple index may stand
+-- the same, where an expression ends after which a tuple index may stand
 pub shut_deep : {v : Bool} {b : Border} {f : Form} → From b f ends_base → Behind v b (deeper f) ends_base
 shut_deep k = deep (under-refl ends_base) (always k)
 
@@ -136,7 +136,7 @@ from_clear {o} b {f} {c} h k = subst (λ z. On o z f c) (clear_is b h) k
 abbrev pub gap : List Bit
 gap = Blank ∷ []
 
--- A word that needs no operand may have ended, and one may stand behind it.
+-- A word that needs no operand may have ended, and one may stand after it.
 abbrev pub may_lack_operand : Border → Bool
 may_lack_operand b = under b ends_base && (simple b gap && is_clear (beyond b gap))
 
@@ -155,7 +155,7 @@ continue_word = keyword (codes "continue") ∷ []
 abbrev pub begins_words : Border → Bool
 begins_words b = begins_word b return_word && (begins_word b break_word && begins_word b continue_word)
 
--- an operator before an operand, behind which nothing is asked
+-- an operator before an operand, after which nothing is asked
 abbrev pub begins_by : Border → Prefix → Bool
 begins_by b p = simple b (prefix_bits p) && is_clear (beyond b (prefix_bits p))
 
@@ -202,7 +202,7 @@ begins_group b =
 abbrev pub begins_wild : Border → Bool
 begins_wild b = simple b wild && under (beyond b wild) ends_base
 
--- behind a statement: an expression or an item may have ended
+-- after a statement: an expression or an item may have ended
 abbrev pub ends_stmt : Border
 ends_stmt = record { needs = need.LineDoc ∷ ends_expr.needs; spot = Clear }
 
@@ -225,7 +225,7 @@ block_word w = keyword w ∷ []
 abbrev pub head_word : List ℕ → List Bit
 head_word w = keyword w ∷ gap
 
--- the `move` behind an `async`
+-- the `move` after an `async`
 abbrev pub move_word : List Bit
 move_word = Blank ∷ keyword (codes "move") ∷ []
 
@@ -363,7 +363,7 @@ begins b h =
       opens_square = g3.1;
     }
 
--- `..` or `..=`, with the blank that it gets behind a point, and an operand behind it
+-- `..` or `..=`, with the blank that it gets after a point, and an operand after it
 abbrev pub begins_dots : Bool → Border → List Bit → Bool
 begins_dots v b p = piece_passes v b p && begins_operand (beyond b (led v p))
 
@@ -417,13 +417,13 @@ pub begins_plain : begins_expr plain ≡ true
 unfolding tables
 begins_plain = refl
 
--- `..` may stand behind an operand
+-- `..` may stand after an operand
 pub ranges_behind_operand : (v : Bool) → begins_range v ends_operand ≡ true
 unfolding tables
 ranges_behind_operand true = refl
 ranges_behind_operand false = refl
 
--- an expression may stand behind the `..` of a struct literal, also one that begins with `..`
+-- an expression may stand after the `..` of a struct literal, also one that begins with `..`
 pub begins_based : (v : Bool) → begins_at true 0 (beyond plain (led v (dots false))) ≡ true
 unfolding tables
 begins_based true = refl

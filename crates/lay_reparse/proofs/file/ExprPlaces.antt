@@ -101,7 +101,7 @@ args_fit : list_fits true (opener Paren) (closer Paren) ends_operand plain ends_
 unfolding tables
 args_fit = refl
 
--- arguments behind what is called
+-- arguments after what is called
 pub args_passes : (xs : List ExprFacts) → Each ExprPasses xs → all_free xs ≡ true → are_pieces (args_form xs) ≡ true
     → From ends_operand (args_form xs) ends_base
 args_passes xs k g w =

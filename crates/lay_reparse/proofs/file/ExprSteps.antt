@@ -1,4 +1,4 @@
--- Steps behind the base of a postfix expression pass, and fields of struct literals, given that the expressions within
+-- Steps after the base of a postfix expression pass, and fields of struct literals, given that the expressions within
 -- them pass.
 use Rattle.std.proofs.Common.{◌≡◌, ℕ, List, [], ◌∷◌, Bool, true, false, not, ◌&&◌, ◌||◌, refl, map, Option, Some, None}
 use Rattle.std.proofs.lemmas.Bool.{and_parts, and_from}
@@ -31,7 +31,7 @@ use Rattle.lay_reparse.proofs.file.ExprPlaces.{ExprPasses, free_expr, args_passe
 
 -- ---- what is told of a step
 
--- where it may begin: a tuple index not behind a number without suffix
+-- where it may begin: a tuple index not after a number without suffix
 abbrev pub step_start : StepKind → Border
 step_start k = ends_by false (is_tuple_index k)
 
@@ -49,7 +49,7 @@ field_step_pass name = record {
       (word name.raw name.text refl w (ends refl) (ends refl));
 }
 
--- a tuple index, behind whose point a number is an index
+-- a tuple index, after whose point a number is an index
 pub tuple_index_pass : (index : List ℕ) → StepPasses (step_facts (Step-F.TupleIndex index))
 unfolding tables
 tuple_index_pass index = record {
@@ -67,7 +67,7 @@ each_arg : (args : List Arg) → Each (Passing plain ends_arg) (map about_arg ar
 each_arg [] = tt
 each_arg (x ∷ xs) = (arg_passes x, each_arg xs)
 
--- behind the name of a method: its generic arguments, if there are any, and its arguments
+-- after the name of a method: its generic arguments, if there are any, and its arguments
 generics_pass : (generics : Option (List Arg)) {f : Form} → are_generics generics ≡ true
     → are_pieces (generics_form generics (form.Part f Done)) ≡ true → From ends_operand f ends_base
     → From behind_word (generics_form generics (form.Part f Done)) ends_base
@@ -83,7 +83,7 @@ generics_pass (Some args) {f} g w k =
     (part ends_operand ends_base refl k (ends refl)) in
     (fixed refl z, fixed refl z)
 
--- the arguments behind them are made of pieces
+-- the arguments after them are made of pieces
 generics_pieces : (generics : Option (List Arg)) (f : Form) → are_pieces (generics_form generics (form.Part f Done)) ≡ true
     → are_pieces f ≡ true
 generics_pieces None f w = (and_parts (are_pieces f) true w).0
@@ -126,9 +126,9 @@ pub await_pass : StepPasses (step_facts Step-F.Await)
 unfolding tables
 await_pass = record { go = λ g w. dotted refl (ends refl) (ends refl) }
 
--- ---- steps one behind the other
+-- ---- steps one after the other
 
--- The first is good, and so are those behind it.
+-- The first is good, and so are those after it.
 step_parts : (s : StepFacts) (more : List StepFacts) → are_steps (s ∷ more) ≡ true
     → (s.good ≡ true) × (are_steps more ≡ true)
 step_parts s [] g = (g, refl)
@@ -147,7 +147,7 @@ broken_pieces : (is_broken : Bool) (f : Form) → are_pieces (break_if is_broken
 broken_pieces true f w = w
 broken_pieces false f w = w
 
--- A step begins behind a base, where it isn't a tuple index behind a number without suffix.
+-- A step begins after a base, where it isn't a tuple index after a number without suffix.
 starts : (base index : Bool) → base || not index ≡ true → under (ends_by false base) (ends_by false index) ≡ true
 starts true true h = refl
 starts true false h = refl

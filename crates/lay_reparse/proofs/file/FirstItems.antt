@@ -28,7 +28,7 @@ use Rattle.lay_code.proofs.nodes.Layers.{kind_is}
 use Rattle.lay_reparse.proofs.file.FirstText.{Fair, first_text, low_fair, attr_fair, call_fair}
 use Rattle.lay_reparse.proofs.forms.HeadsFirst.{BeginsFair, seen_fair, extern_crate_fair, alias_fair, struct_fair, union_fair, enum_fair, value_head_fair, unsafe_fair, trait_head_fair, impl_head_fair, fn_head_fair}
 
--- what is told of a kind of item, behind each visibility, where it is made of pieces
+-- what is told of a kind of item, after each visibility, where it is made of pieces
 record KindFair (x : KindFacts) : Type 0 where
   go : (v : Vis) → are_pieces (kind_form v x.head x.tail) ≡ true → BeginsFair (kind_form v x.head x.tail)
 

@@ -1,4 +1,4 @@
--- Generic parameters and where clauses pass: parameters behind a name or a word, a where clause behind what may stand
+-- Generic parameters and where clauses pass: parameters after a name or a word, a where clause after what may stand
 -- before it.
 use Rattle.std.proofs.Common.{◌≡◌, List, [], ◌∷◌, true, false, not, ◌&&◌, ◌||◌, refl, codes, map, Option, Some, None, is_some}
 use Rattle.std.specs.List.{list_all}
@@ -118,7 +118,7 @@ params_fit : list_fits true less greater ends_name plain ends_arg ends_name ≡ 
 unfolding tables
 params_fit = refl
 
--- parameters in `<` and `>`, behind a word as `impl` or a name
+-- parameters in `<` and `>`, after a word as `impl` or a name
 pub params_list_passes : (generics : Generics) → is_generics generics ≡ true → are_pieces (params_list generics) ≡ true
     → From ends_name (params_list generics) ends_name
 params_list_passes generics g w =
@@ -209,7 +209,7 @@ semicolon_wheres_pass wheres fit g w =
     (where_both es plain ends_predicate fit
     (predicates_pass wheres.predicates g (body_pieces es (semicolon_pieces es w)))).1
 
--- the borders that a where clause stands behind: parameters, or a name; a type; a closing delimiter
+-- the borders that a where clause follows: parameters, or a name; a type; a closing delimiter
 pub behind_generics : where_fits ends_name plain ends_predicate ends_predicate ≡ true
 unfolding tables
 behind_generics = refl

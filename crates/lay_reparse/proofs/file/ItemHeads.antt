@@ -1,4 +1,4 @@
--- What items consist of passes: each head, and what stands behind it, given that the items within pass.
+-- What items consist of passes: each head, and what follows it, given that the items within pass.
 use Rattle.std.proofs.Common.{◌≡◌, List, [], ◌∷◌, ◌++◌, Bool, true, false, ◌&&◌, refl, codes, map, Option, Some, None, is_some}
 use Rattle.std.specs.List.{list_all}
 use Rattle.std.proofs.lemmas.Bool.{and_parts}
@@ -41,7 +41,7 @@ use Rattle.lay_reparse.proofs.file.Generics.{behind_type, ends_predicate}
 use Rattle.lay_reparse.proofs.forms.Functions.{fn_head_passes}
 use Rattle.lay_reparse.proofs.forms.Heads.{HeadPasses, four_parts, body_tail, semicolon_tail, items_fit, value_head_passes, trait_head_passes, impl_head_passes}
 
--- what is told of a kind of item, behind each visibility
+-- what is told of a kind of item, after each visibility
 pub record KindPasses (x : KindFacts) : Type 0 where
   pub go : (place : Site) (v : Vis) → x.good place ≡ true → are_pieces (kind_form v x.head x.tail) ≡ true
       → From plain (kind_form v x.head x.tail) plain
@@ -106,7 +106,7 @@ unfolding tables
 body_opens true = refl
 body_opens false = refl
 
--- what stands behind the head of a function: its body, or a `;`
+-- what follows the head of a function: its body, or a `;`
 function_tail_passes : (wheres : Wheres) (b : Option BlockFacts) → Any BlockPasses b → are_predicates wheres ≡ true
     → may_be_good b ≡ true → are_pieces (function_tail wheres b) ≡ true → From ends_type (function_tail wheres b) plain
 function_tail_passes wheres None k g h w = semicolon_tail wheres behind_type g w
@@ -150,7 +150,7 @@ value_passes place head value k = record {
 
 -- ---- traits and implementations
 
--- a where clause and items in braces, behind a head that may end in a type
+-- a where clause and items in braces, after a head that may end in a type
 where_items_pass : (place : Site) (wheres : Wheres) (attrs : List Attr) (items : List ItemFacts)
     → ItemsPass place items → are_predicates wheres ≡ true → are_attrs true attrs ≡ true
     → items_good place items ≡ true

@@ -78,7 +78,7 @@ end_passes Paren = fixed refl (ends refl)
 end_passes Bracket = fixed refl (ends refl)
 end_passes Brace = ends refl
 
--- the rules of a macro, behind its name
+-- the rules of a macro, after its name
 rules_pass : (b : Border) (rules : Group) → is_group rules ≡ true → simple b (Blank ∷ []) ≡ true → opens_at b Paren
     → opens_at b Bracket
     → From b (before_rules rules.delim (group_form rules (end_form rules.delim))) plain

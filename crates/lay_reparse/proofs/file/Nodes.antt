@@ -173,7 +173,7 @@ doc_passes_plain inner t u h =
     ((bytes_eq-Decides (encode_utf8_all (text_of_piece k x)) t).1 f.text) refl))
     f.laid
 
--- where an attribute ends: behind documentation on a line, its end
+-- where an attribute ends: after documentation on a line, its end
 abbrev pub attr_end : Attr → Border
 attr_end (attr.Doc inner t) = record { needs = cond (as_block inner t) [] (LineDoc ∷ []); spot = At Other }
 attr_end (attr.Meta inner path given) = plain
@@ -365,7 +365,7 @@ use_passes = use_fold.ind-UseTree EndPasses (λ t. UsePasses (about_use t))
 
 -- ---- macro calls
 
--- a group behind the `!` of a macro call
+-- a group after the `!` of a macro call
 pub behind_bang : (group : Group) → is_group group ≡ true
     → From ends_path_name (Piece (bang group.delim) (group_form group Done)) plain
 unfolding tables

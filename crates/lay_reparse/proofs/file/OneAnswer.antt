@@ -66,7 +66,7 @@ whole_front depth tokens file s =
     let behind : length tokens ≤ length tokens = omega arith in
     (behind, subst (λ us. (f : File) × Written f × Spells (form_of_file f) depth tokens us) (sym (drop-length tokens)) (file, s.0, s.1))
 
--- tokens behind which a token stands are fewer than all
+-- tokens after which a token stands are fewer than all
 fewer : (count : ℕ) (tokens : List Token) (token : Token) (rest : List Token) → drop count tokens ≡ token ∷ rest
     → count < length tokens
 fewer count tokens token rest e = omega (arith, sym (length-drop count tokens) ∙ ap length e)

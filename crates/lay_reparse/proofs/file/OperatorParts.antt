@@ -1,4 +1,4 @@
--- Operators between operands pass, each with a blank before it and behind it.
+-- Operators between operands pass, each with a blank before it and after it.
 use Rattle.std.proofs.Common.{◌≡◌, [], ◌∷◌, Bool, true, ◌&&◌, refl}
 use Rattle.std.proofs.lemmas.Bool.{and_parts}
 use Rattle.lay_form.specs.Form.{Blank, Operator, Form, Piece}
@@ -11,7 +11,7 @@ use Rattle.lay_reparse.proofs.forms.Passes.{plain, stands}
 use Rattle.lay_reparse.proofs.forms.Rules.{tables, From, fixed, dotted, breaks, simple}
 use Rattle.lay_reparse.proofs.file.ExprParts.{ends_operand, is_clear, from_clear, gap}
 
--- an operator, with the blank that it may get, and a blank behind it
+-- an operator, with the blank that it may get, and a blank after it
 abbrev op_fits : Op → Bool
 op_fits o =
     let p = Operator (op_text o) ∷ [] in
@@ -25,12 +25,12 @@ unfolding tables
 ops_fit op.Set = refl
 ops_fit _ = refl
 
--- a blank, behind which nothing is asked
+-- a blank, after which nothing is asked
 behind_gap : (b : Border) → simple b gap && is_clear (beyond b gap) ≡ true → {f : Form} {c : Border} → From plain f c
     → From b (Piece gap f) c
 behind_gap b h k = let q = and_parts (simple b gap) _ h in fixed q.0 (from_clear (beyond b gap) q.1 k)
 
--- an operator, and an operand behind it
+-- an operator, and an operand after it
 pub operator_passes : (o : Op) {f : Form} {c : Border} → From plain f c
     → From plain (Piece (Operator (op_text o) ∷ []) (Piece gap f)) c
 operator_passes o k =
@@ -39,7 +39,7 @@ operator_passes o k =
     let r = and_parts (simple (beyond plain p) gap && is_clear (beyond (beyond plain p) gap)) _ q.1 in
     dotted q.0 (behind_gap (beyond plain p) r.0 k) (behind_gap (beyond plain (Blank ∷ p)) r.1 k)
 
--- the same behind an operand, where a break stands before it
+-- the same after an operand, where a break stands before it
 pub operator_broken : (o : Op) {f : Form} {c : Border} → From plain f c
     → From ends_operand (B (Piece (Operator (op_text o) ∷ []) (Piece gap f))) c
 operator_broken o k = breaks refl (operator_passes o k)

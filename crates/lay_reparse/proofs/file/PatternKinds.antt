@@ -153,7 +153,7 @@ bound_passes (Some x) k g w =
     let z = part plain ends_pat refl (inner Single x k g (and_parts (are_pieces x.told.form) true w).0) (ends refl) in
     (fixed refl z, fixed refl z)
 
--- a name behind `mut `, behind `ref `, and behind both
+-- a name after `mut `, after `ref `, and after both
 name_passes : (b : Border) → words_lead b ≡ true → (raw : Bool) (t : List ℕ) (of : Option PatFacts)
     → Any PatPasses of → bound_good of ≡ true → are_pieces (leaf_of raw t (bound_form of)) ≡ true
     → From b (leaf_of raw t (bound_form of)) ends_pat
@@ -192,7 +192,7 @@ bind_pass ref mutable name of k = record {
 
 -- ---- spans
 
--- `..` and `..=` may stand behind an end, and an end behind them
+-- `..` and `..=` may stand after an end, and an end after them
 spans_behind_end : begins_span ends_arg ≡ true
 unfolding tables
 spans_behind_end = refl
@@ -320,7 +320,7 @@ groups b h =
     let p3 = and_parts (simple b (opener Paren ∷ [])) _ p2.1 in
     record { round = p1.0; square = p2.0; opens = p3.0; behind = p3.1 }
 
--- one pattern in parentheses, behind which stands what may end it
+-- one pattern in parentheses, after which stands what may end it
 enclosed : (b : Border) → Groups b → (x : PatFacts) → PatPasses x → (p : List Bit)
     → pat_good Alternatives x ≡ true → are_pieces (form.Part (pat_form Alternatives x) (piece p)) ≡ true
     → simple ends_pat p ≡ true → under (beyond ends_pat p) ends_pat ≡ true

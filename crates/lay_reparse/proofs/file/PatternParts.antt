@@ -55,7 +55,7 @@ literals_lead b = spot_under b.spot Clear && all (leads kind.Str) b.needs
 abbrev pub minus : List Bit
 minus = punct char.minus ∷ []
 
--- a literal, or a number behind a `-`
+-- a literal, or a number after a `-`
 abbrev pub begins_value : Border → Bool
 begins_value b = literals_lead b && (simple b minus && literals_lead (beyond b minus))
 
@@ -237,7 +237,7 @@ ended b p h e g w =
     let r = and_parts (begins_end (beyond b p)) _ q.1 in
     (q.0, last_passes (beyond b p) r.0 e g w, last_passes (beyond b (Blank ∷ p)) r.1 e g w)
 
--- `..` or `..=`, and what stands behind it
+-- `..` or `..=`, and what follows it
 pub dots_pass : (b : Border) → begins_span b ≡ true → (inclusive : Bool) (end : Option SpanEnd)
     → not inclusive || is_some end ≡ true → may_end end ≡ true → are_pieces (last_end end) ≡ true
     → From b (Piece (dots inclusive) (last_end end)) ends_pat

@@ -139,7 +139,7 @@ pat_passes_at b h place x g w = placed place (about_pat x) (pat_passes x) b h g 
 abbrev pub bar : Bit
 bar = Fixed kind.Punct (codes "|")
 
--- Behind these a pattern may begin, as it may where nothing is asked.
+-- After these a pattern may begin, as it may where nothing is asked.
 abbrev pub before_pat : List (List Bit)
 before_pat =
     [] ∷ (Blank ∷ []) ∷ (opener Paren ∷ []) ∷ (opener Bracket ∷ []) ∷ (Blank ∷ opener Brace ∷ Blank ∷ []) ∷ comma
@@ -150,7 +150,7 @@ pub pat_begins : list_all (λ p. begins_pat (beyond plain p)) before_pat ≡ tru
 unfolding tables
 pat_begins = refl
 
--- These stand behind a pattern, and lead to where nothing is asked.
+-- These stand after a pattern, and lead to where nothing is asked.
 abbrev pub behind_pat : List (List Bit)
 behind_pat =
     comma ∷ colon ∷ equals ∷ (closer Paren ∷ []) ∷ (closer Bracket ∷ []) ∷ (bar ∷ []) ∷ (Blank ∷ [])

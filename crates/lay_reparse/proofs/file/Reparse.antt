@@ -80,7 +80,7 @@ made file written depth bytes from added parts last t s e r k p = record {
 
 -- ---- without a shebang
 
--- no mark and no shebang stands at the front of the characters
+-- no mark and no shebang stands at the beginning of the characters
 record Open (cs : List ℕ) : Type 0 where
   mark : without_mark cs ≡ cs
   plain_line : is_shebang (front is_in_line cs) ≡ false
@@ -118,7 +118,7 @@ plain_reads file written depth text end n e l k p =
     (made file written depth (encode_utf8_all k.added) from k.added k.parts k.last at (none ∙ sym n)
     (ap (λ i. chars (drop i (encode_utf8_all k.added))) zero ∙ chars-encodes k.added s) k.reads k.spells p)
 
--- ---- behind a shebang
+-- ---- after a shebang
 
 kept_nil : (c d : ℕ) (ds : List ℕ) → cond (c == 13) [] (c ∷ []) ≡ c ∷ d ∷ ds → ⊥
 kept_nil c d ds e = by (c == 13) e

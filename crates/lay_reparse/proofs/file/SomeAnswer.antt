@@ -35,7 +35,7 @@ use Rattle.lay_reparse.proofs.file.SomeTokens.{tokens_or_none}
 
 -- ---- sources
 
--- What stands behind a line, and behind the LF that ends it, is UTF-8.
+-- What follows a line, and after the LF that ends it, is UTF-8.
 behind_line : (line rest : List ℕ) → scalars (line ++ rest) ≡ true → begins is_in_line rest ≡ false
     → IsUtf8 (drop (size line + cond (is_nil rest) 0 1) (encode_utf8_all (line ++ rest)))
 behind_line line [] h s =
@@ -86,7 +86,7 @@ module _ (depth : ℕ) (bytes : List ℕ) (start : ℕ) (tokens : List Token) (u
   Run = (List Attr × List Item) × List Token
 
   module _ (attrs : List Attr) (items : List Item) (left : List Token) (e : front depth tokens ≡ ((attrs, items), left)) where
-    -- The run that is read is spelled, as a file that can be written behind any good shebang.
+    -- The run that is read is spelled, as a file that can be written after any good shebang.
     front_spelled : (shebang : Option (List ℕ)) → IsTrue (is_good_shebang shebang)
         → (let file : File = record { shebang = shebang; attrs = attrs; items = items } in Written file × Spells (form_of_file file) depth tokens left)
     front_spelled shebang good =
@@ -107,7 +107,7 @@ module _ (depth : ℕ) (bytes : List ℕ) (start : ℕ) (tokens : List Token) (u
         (in_text bytes start [] tokens [] utf8 (subst (Lexes bytes start) (sym (append-nil tokens)) lexes)) file.2 file.1.normal in
         omega (arith, least, f.0, length-drop more tokens, ap (λ (run : Run). length run.1) e)
 
-  -- Where a token is left behind the run, no item begins there.
+  -- Where a token is left after the run, no item begins there.
   no_item : (attrs : List Attr) (items : List Item) (token : Token) (rest : List Token)
       → front depth tokens ≡ ((attrs, items), token ∷ rest) → NoItemAt depth tokens token.at
   no_item attrs items token rest e =
@@ -129,7 +129,7 @@ module _ (depth : ℕ) (bytes : List ℕ) (start : ℕ) (tokens : List Token) (u
         longest = λ more less f. omega (arith, less, all, none_longer attrs items (token ∷ rest) e more f);
       }
 
-  -- The tokens spell a file behind this shebang, or no item begins at a place.
+  -- The tokens spell a file after this shebang, or no item begins at a place.
   file_or_not : (shebang : Option (List ℕ)) → IsTrue (is_good_shebang shebang)
       → ((file : File) × (shebang ≡ file.shebang) × SpellsFile depth file tokens) ⊎ ((at : ℕ) × NoItemAt depth tokens at)
   file_or_not shebang good = by (front depth tokens) refl

@@ -6,7 +6,7 @@ use Rattle.lay_token.specs.Delimiters.{Trees, NoTree, One, Nest, Paired, Balance
 use Rattle.lay_token.specs.declared.token.Token.{Token}
 use Rattle.lay_nest.proofs.Delimiters.{not_pair_stray}
 
--- ---- trees behind trees
+-- ---- trees after trees
 
 abbrev joined : Trees → Trees → Trees
 joined NoTree more = more
@@ -47,7 +47,7 @@ abbrev Answers : List Token → Type 0
 Answers tokens = Balanced tokens ⊎ ((at : ℕ) × UnbalancedAt tokens at)
 
 module _ (before : List Token) (t : Token) (ts : List Token) where
-  -- what the tokens behind this one answer, whatever is open there
+  -- what the tokens after this one answer, whatever is open there
   abbrev Onward : Type 0
   Onward = (us : List Token) → LeaveOpen us (before ++ t ∷ []) → Answers (before ++ t ∷ ts)
 

@@ -17,12 +17,12 @@ use Rattle.lay_token.proofs.Parts.{had_some}
 
 -- ---- gaps
 
--- no front of the text closes the gap, and the text may not end in it
+-- no prefix of the text closes the gap, and the text may not end in it
 record Held (s : InGap) (cs : List ℕ) : Type 0 where
   none : (gap rest : List ℕ) → cs ≡ gap ++ rest → IsTrue (is_closed (gap_end s gap)) → gap ≡ []
   unended : IsFalse (is_closed_or_line (gap_end s cs))
 
--- a front of the text closes the gap, and no longer one does
+-- a prefix of the text closes the gap, and no longer one does
 record Passed (s : InGap) (cs : List ℕ) : Type 0 where
   gap : List ℕ
   rest : List ℕ
@@ -52,7 +52,7 @@ held_more s c cs h g = record { none = none; unended = g.unended }
         let P : List ℕ → Type 0 = λ x. IsTrue (is_closed (gap_end (gap_step s c) x)) in subst P nil here in
         cc
 
--- the text may end in the gap; or no front of it closes the gap, or a longest one does
+-- the text may end in the gap; or no prefix of it closes the gap, or a longest one does
 abbrev Splits : InGap → List ℕ → Type 0
 Splits s cs = IsTrue (is_closed_or_line (gap_end s cs)) ⊎ (Held s cs ⊎ Passed s cs)
 
@@ -73,7 +73,7 @@ splits s [] = elim (cases_Bool (is_closed_or_line s)) [
 ]
 splits s (c ∷ cs) = one_more s c cs (splits (gap_step s c) cs)
 
--- the longest gap at the front
+-- the longest gap at the beginning
 record Longest (text : List ℕ) : Type 0 where
   gap : List ℕ
   rest : List ℕ
@@ -84,7 +84,7 @@ record Longest (text : List ℕ) : Type 0 where
 no_gap : (rest : List ℕ) → Held Outside rest → BeginsNoGap rest
 no_gap rest h = record { none = h.none; unended = h.unended }
 
--- A text is a gap that ends the whole, or a gap as long as it can be stands at its front.
+-- A text is a gap that ends the whole, or a gap as long as it can be stands at its beginning.
 gap_at : (text : List ℕ) → IsTrue (is_last_gap text) ⊎ Longest text
 gap_at text = elim (splits Outside text) [
   | inl e ↦ inl e
@@ -96,7 +96,7 @@ gap_at text = elim (splits Outside text) [
 
 -- ---- pieces
 
--- A piece stands at the front of a text, or none does.
+-- A piece stands at the beginning of a text, or none does.
 piece_at : (text : List ℕ) (index : Bool) → ((k : Kind) × (rest : List ℕ) × Stands index text k rest) ⊎ BeginsNoPiece text index
 piece_at text index = by (front_of index text) refl (front_sound index text)
   where
@@ -109,7 +109,7 @@ piece_at text index = by (front_of index text) refl (front_sound index text)
 
 -- ---- parts
 
--- The text is parts and a last gap, behind what stands there.
+-- The text is parts and a last gap, after what stands there.
 record Ends (b : Before) (text : List ℕ) : Type 0 where
   parts : List Part
   last : List ℕ
@@ -131,7 +131,7 @@ record Stops (b : Before) (text : List ℕ) : Type 0 where
 abbrev Lexed : Before → List ℕ → Type 0
 Lexed b text = Ends b text ⊎ Stops b text
 
--- One part more at the front.
+-- One part more at the beginning.
 behind_part : (b : Before) (p : Part) (text rest : List ℕ) → text ≡ p.gap ++ (p.piece ++ rest) → IsTrue (is_gap p.gap)
     → Had p.kind p.piece rest (is_index_place b) → Lexed (step b p) rest → Lexed b text
 behind_part b p text rest w g h (inl e) = inl (record {
@@ -152,14 +152,14 @@ behind_part b p text rest w g h (inr s) = inr (record {
   no_piece = s.no_piece;
 })
 
--- a rest behind a piece is shorter
+-- a rest after a piece is shorter
 shorter : (k : Kind) (text gap piece rest : List ℕ) (index : Bool) (n : ℕ) → text ≡ gap ++ (piece ++ rest)
     → Had k piece rest index → length text ≤ n → length rest < n
 shorter k text gap [] rest index n w h l = let none : had k [] rest index ≡ false = had_some k rest index in cc
 shorter k text gap (c ∷ piece) rest index n w h l =
     omega (arith, l, ap length w, length-append gap (c ∷ piece ++ rest), length-append piece rest)
 
--- The parts at the front, and those of a shorter rest.
+-- The parts at the beginning, and those of a shorter rest.
 lexed_behind : (n : ℕ) (b : Before) (text : List ℕ) → length text ≤ n
     → ((c : Before) (rest : List ℕ) → length rest < n → Lexed c rest) → Lexed b text
 lexed_behind n b text l more = elim (gap_at text) [

@@ -304,7 +304,7 @@ pub global_pass : Passing plain start_path (start_facts PathStart-F.Global)
 unfolding tables
 global_pass = record { go = λ g w. fixed refl (ends refl) }
 
--- behind the `<`
+-- after the `<`
 pub qualified_passes : (b : Border) → under b plain ≡ true → (x : TypeFacts) (of : Option PathFacts) → TypePasses x
     → Any PathPasses of → x.told.good && of_good of ≡ true
     → are_pieces (form.Part x.told.form (of_form of (piece (greater ∷ colons)))) ≡ true

@@ -166,7 +166,7 @@ bounds_type_pass false xs k = record {
 
 -- ---- function types
 
--- a parameter of a function type, or the `...` behind them, may have ended
+-- a parameter of a function type, or the `...` after them, may have ended
 abbrev pub ends_param : Border
 ends_param = record { needs = need.Word ∷ RawWord ∷ need.Life ∷ Grow (codes "...") ∷ []; spot = Clear }
 

@@ -362,7 +362,7 @@ begins_path b =
     words_lead b && (simple b colons && (under (beyond b colons) start_path
     && (simple b (less ∷ []) && under (beyond b (less ∷ [])) plain)))
 
--- what a path begins with, and what follows it there: from b, or behind `::`
+-- what a path begins with, and what follows it there: from b, or after `::`
 record StartsAt (b : Border) (x : Facts) : Type 0 where
   pub go : (f : Form) (c : Border) → x.good ≡ true → are_pieces x.form ≡ true → From b f c → From start_path f c
       → From b (form.Part x.form f) c
@@ -415,7 +415,7 @@ path_passes_at b h s p =
           (segments_pass start_path refl s xs (each_segment p.segments) n.1 q.1);
     })
 
--- Behind these operators a path may begin, as it may where nothing is asked.
+-- After these operators a path may begin, as it may where nothing is asked.
 abbrev pub before_path : List (List ℕ)
 before_path = codes "&" ∷ codes "&&" ∷ codes "*" ∷ codes "-" ∷ codes "!" ∷ codes ".." ∷ codes "..=" ∷ []
 
@@ -423,7 +423,7 @@ pub path_begins : begins_path plain && list_all (λ op. begins_path (beyond plai
 unfolding tables
 path_begins = refl
 
--- These stand behind a type and behind an argument, and lead to where nothing is asked.
+-- These stand after a type and after an argument, and lead to where nothing is asked.
 abbrev pub followers : List (List Bit)
 followers =
     comma ∷ semicolon ∷ colon ∷ equals ∷ (closer Paren ∷ []) ∷ (closer Bracket ∷ []) ∷ (greater ∷ []) ∷ (Blank ∷ [])

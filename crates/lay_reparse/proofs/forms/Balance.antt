@@ -84,7 +84,7 @@ begins_after o (c ∷ d ∷ cs) (t ∷ ts) h =
     let a = and_parts (is_punct t.kind && bytes_eq t.text (c ∷ [])) _ h in
     punct_after o t ts (and_parts (is_punct t.kind) _ a.0).0 ∙ begins_after o (d ∷ cs) ts (and_parts t.joint _ a.1).1
 
--- what stands at the front of the tokens
+-- what stands at the beginning of the tokens
 OperatorAt : List ℕ → List Token → Type 0
 OperatorAt op ts = (begins_op op ts ≡ true)
     ⊎ ((t : Token) × (us : List Token) × (ts ≡ t ∷ us) × (is_punct t.kind ≡ true) × (op ≡ t.text))
@@ -160,7 +160,7 @@ onto_turn (Closer d) (Some (e ∷ ds)) z h = at (same_delim d e) h
     at false h = cc
 onto_turn _ (Some ds) z h = refl
 
--- the tokens of a bit, and what is open behind them
+-- the tokens of a bit, and what is open after them
 bit_after : (x : Bit) (o : Option (List Delim)) (z : List Delim) (ts mid : List Token) → is_some (bit_open x o) ≡ true
     → ops_fine (x ∷ []) ≡ true → are_single ts ≡ true
     → IsBit x ts mid → open_after (onto o z) ts ≡ open_after (onto (bit_open x o) z) mid
@@ -276,7 +276,7 @@ inside : (o : Option (List Delim)) (z : List Delim) (ts mid : List Token) → is
 inside None z ts mid s f = cc
 inside (Some ds) z ts mid s f = f (ds ++ z)
 
--- what passes within a body, and behind it
+-- what passes within a body, and after it
 record Passed (o : Option (List Delim)) (v : Bool) (i f : Form) (c : Border) : Type 0 where
   from : Border
   to : Border
@@ -326,7 +326,7 @@ alive (Docs i t f) o v b c q = alive f o _ _ c q.1
 alive (Body braces after i f) o v b c q = let p = body_passed braces after i f o v b c q in
     alive f o p.point p.border c p.rest
 
--- a body within braces, with what stands behind it
+-- a body within braces, with what follows it
 in_body : (n : ℕ) (after : Behind) (i : Form) (d : ℕ) (y : List Delim) (ts last rest : List Token)
     → are_single ts ≡ true → ((first mid : List Token) (y : List Delim) → are_single first ≡ true → Spells i d first mid
     → open_after (Some y) first ≡ open_after (Some y) mid)
@@ -412,7 +412,7 @@ pair_of Bracket Bracket h = refl
 pair_of Brace Brace h = refl
 pair_of _ _ h = cc
 
--- The tokens go on with trees, close the delimiters that are open, each behind more trees, and end in trees.
+-- The tokens go on with trees, close the delimiters that are open, each after more trees, and end in trees.
 abbrev Closed : List Delim → List Token → Type 0
 Closed [] ts = Balanced ts
 Closed (d ∷ ds) ts = (inside : Trees) × (closer : Token) × (rest : List Token) × Paired inside

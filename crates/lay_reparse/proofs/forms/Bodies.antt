@@ -1,4 +1,4 @@
--- The body of an arm or a closure as a move, in braces or as it stands, with what stands behind it.
+-- The body of an arm or a closure as a move, in braces or as it stands, with what follows it.
 use Rattle.std.proofs.Common.{◌≡◌, ℕ, ◌-◌, ◌≤◌, ◌⊎◌, inl, inr, List, [], ◌∷◌, Bool, true, false, ◌&&◌, refl, ap, subst}
 use Rattle.std.specs.Prelude.{ℤ}
 use Rattle.std.proofs.lemmas.Bool.{and_parts}
@@ -75,7 +75,7 @@ frames Flat g o d e = inr e
 frames (Broken c i) g o d (inl e) = inl (_, e)
 frames (Broken c i) g o d (inr e) = inr e.1
 
--- a body within so many braces, and what stands behind it
+-- a body within so many braces, and what follows it
 abbrev pub BodySpells : Form → Behind → ℕ → List Token → List Token → Type 0
 BodySpells i behind d ts us = (n : ℕ) × (cost n ≤ d) × Then (Braced n (Spells i (d - cost n))) (IsBehind behind n) ts us
 
@@ -101,7 +101,7 @@ in_braces i behind d ts us le r = (
   ),
 )
 
--- without braces, and with what stands behind it
+-- without braces, and with what follows it
 unbraced : (i : Form) (behind : Behind) (d : ℕ) (ts us : List Token) → 1 ≤ d
     → Then (Spells i (d - 1)) (IsBehind behind 0) ts us → BodySpells i behind d ts us
 unbraced i behind d ts us le r = (0, le, (r.0, (ts, refl, (r.0, r.1, refl)), r.2))
@@ -161,7 +161,7 @@ flat_body v i behind b g h c w d s m le start ended ih (inr l) =
         (go_then {R = Spells i (d - 1)} {S = IsBehind behind 0} b v s h (ends_behind_point v i) mid c w _ two
         (ended mid)))
 
--- where a body is laid out as it stands, its comma or nothing is behind it
+-- where a body is laid out as it stands, its comma or nothing is after it
 pub comma_text : (v : Bool) (h : Border) (last like : Bool) (x : State) → pass h comma ≡ true
     → Goes (IsBehind (ArmComma last like) 0) h v x (beyond h comma) false (write (44 ∷ []) x)
 comma_text v h last like x sep =
@@ -183,7 +183,7 @@ pub no_mark : (v : Bool) (h : Border) (x : State)
 no_mark v h x = after_none {S = Same} h v x h v (wait 0 x) (loosened h) v (wait 0 x) (go_none h v x)
     (go_loose h v (wait 0 x))
 
--- Behind `}` what stands behind the body as it is may follow too.
+-- After `}` what follows the body as it is may follow too.
 pub loosened_under : (h : Border) → under plain (loosened h) ≡ true
 loosened_under h = at h.spot
   where

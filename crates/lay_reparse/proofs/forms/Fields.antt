@@ -46,7 +46,7 @@ all_of shape good k (x ∷ xs) g w =
     let p = and_parts (are_pieces (shape x)) (list_all are_pieces (map shape xs)) w in
     (k x n.0 p.0, all_of shape good k xs n.1 p.1)
 
--- attributes on lines of their own, and what stands behind them
+-- attributes on lines of their own, and what follows them
 pub attributed : (attrs : List Attr) {f : Form} {c : Border} → are_attrs false attrs ≡ true
     → are_pieces (behind_attrs (map attr_form attrs) f) ≡ true → (are_pieces f ≡ true → From plain f c)
     → From plain (behind_attrs (map attr_form attrs) f) c
@@ -106,7 +106,7 @@ commas_pieces (e ∷ f ∷ es) w =
     and_from (are_pieces e) (list_all are_pieces (f ∷ es)) (and_parts (are_pieces e) true p.0).0
     (commas_pieces (f ∷ es) p.1)
 
--- parts in braces, each on a line of its own with a comma behind it
+-- parts in braces, each on a line of its own with a comma after it
 pub in_braces : {A : Type 0} (lead : Bool) (shape : A → Form) (good : A → Bool) {b k z : Border}
     → ((x : A) → good x ≡ true → are_pieces (shape x) ≡ true → From plain (shape x) k) → field_fits k plain ≡ true
     → body_fits (blank_if lead) [] b plain plain z ≡ true → (xs : List A) → list_all good xs ≡ true
@@ -135,7 +135,7 @@ unfolding tables
 named_fits true = refl
 named_fits false = refl
 
--- behind a name
+-- after a name
 pub fields_pass : (lead : Bool) (fs : Fields) → are_fields fs ≡ true → are_pieces (fields_form lead fs) ≡ true
     → From ends_name (fields_form lead fs) ends_name
 fields_pass lead fields.Unit g w = ends refl

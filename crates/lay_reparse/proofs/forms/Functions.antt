@@ -91,7 +91,7 @@ unfolding tables
 head_output_passes None g w = ends refl
 head_output_passes (Some x) g w = fixed refl (type_ends x g w)
 
--- a name with generic parameters, and what stands behind them
+-- a name with generic parameters, and what follows them
 pub behind_name : (raw : Bool) (t : List ℕ) (generics : Generics) {f : Form} {c : Border}
     → is_generics generics ≡ true → are_pieces (leaf_of raw t (form.Part (generics_form generics) f)) ≡ true
     → (are_pieces f ≡ true → From ends_name f c) → From plain (leaf_of raw t (form.Part (generics_form generics) f)) c

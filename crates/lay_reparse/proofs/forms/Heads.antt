@@ -1,4 +1,4 @@
--- The heads of items pass, and so do the items that are heads alone, behind a visibility.
+-- The heads of items pass, and so do the items that are heads alone, after a visibility.
 use Rattle.std.proofs.Common.{◌≡◌, inl, inr, List, [], ◌∷◌, Bool, true, false, not, ◌&&◌, ◌||◌, refl, codes, Option, Some, None}
 use Rattle.std.specs.List.{list_all}
 use Rattle.std.proofs.lemmas.Bool.{and_parts}
@@ -44,7 +44,7 @@ use Rattle.lay_reparse.proofs.forms.Fields.{type_ends, tuple_fits, tuple_passes,
 use Rattle.lay_reparse.proofs.forms.Functions.{behind_name}
 use Rattle.lay_reparse.proofs.forms.Vis.{behind_vis}
 
--- ---- a head, and what stands behind it
+-- ---- a head, and what follows it
 
 -- Each of the two passes, with the same border between them.
 pub record HeadPasses (x : HeadFacts) : Type 0 where
@@ -52,7 +52,7 @@ pub record HeadPasses (x : HeadFacts) : Type 0 where
   pub head : x.good ≡ true → are_pieces x.head ≡ true → From plain x.head between
   pub tail : x.good ≡ true → are_pieces x.tail ≡ true → From between x.tail plain
 
--- a group of a visibility and the head, and what stands behind it
+-- a group of a visibility and the head, and what follows it
 pub seen_passes : (v : Vis) (x : HeadFacts) → HeadPasses x → x.good ≡ true → are_pieces (seen v x) ≡ true
     → From plain (seen v x) plain
 seen_passes v x k g w =
@@ -85,7 +85,7 @@ body_tail {b} wheres {f} fit g w k =
     let p = and_parts (are_pieces (wheres_before_body wheres)) (are_pieces f) w in
     part b ends_predicate (under-refl b) (body_wheres_pass wheres fit g p.0) (k p.1)
 
--- fields or variants in braces behind a where clause, with a leading blank and without one
+-- fields or variants in braces after a where clause, with a leading blank and without one
 pub braces_fit : (lead : Bool) → body_fits (blank_if lead) [] ends_predicate plain plain plain ≡ true
 unfolding tables
 braces_fit true = refl

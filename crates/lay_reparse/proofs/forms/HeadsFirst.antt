@@ -26,11 +26,11 @@ use Rattle.lay_node.specs.declared.vis.Vis.{Vis}
 use Rattle.lay_node.specs.declared.vis.Vis.TheVariants as vis
 use Rattle.lay_reparse.proofs.file.FirstText.{Fair, first_text, low_fair}
 
--- The form begins fairly, whatever is laid out behind it.
+-- The form begins fairly, whatever is laid out after it.
 abbrev pub BeginsFair : Form → Type 0
 BeginsFair f = (d : Document) → Fair (first_text (laid_out false f d))
 
--- ---- behind a visibility
+-- ---- after a visibility
 
 pub seen_fair : (v : Vis) (x : HeadFacts) → BeginsFair x.head → BeginsFair (seen v x)
 seen_fair vis.Inherited x k d = k _

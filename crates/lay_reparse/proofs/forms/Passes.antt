@@ -56,7 +56,7 @@ asks_at o k x = cond (is_number_kind k && at_index o) (Number ∷ []) (asks k x)
 abbrev pub behind_leaf : Border → Kind → Text → Border
 behind_leaf b k t = record { needs = asks_at b.spot k (raw k t); spot = At Other }
 
--- of a token of a token list: behind a point its digits may also go on as a number that is no index
+-- of a token of a token list: after a point its digits may also go on as a number that is no index
 abbrev pub is_index_at : Spot → Text → Bool
 is_index_at o x = at_index o && fronts_index x []
 
@@ -94,7 +94,7 @@ loosen (At Points) = Clear
 loosen Clear = Clear
 loosen _ = Unsure
 
--- behind this border, or behind a newline there
+-- after this border, or after a newline there
 abbrev pub loosened : Border → Border
 loosened b = record { needs = b.needs; spot = loosen b.spot }
 

@@ -276,7 +276,7 @@ pub documented : {o : Option (List Delim)} {inner : Bool} {t : Text} {f : Form} 
     → On o b (Docs inner t f) c
 documented h k = record { go = λ v. (h, k.go _) }
 
--- Bodies: six, by their braces and by what stands behind them. In no braces, with nothing behind it or with a comma;
+-- Bodies: six, by their braces and by what follows them. In no braces, with nothing after it or with a comma;
 pub bare_body : {o : Option (List Delim)} {i f : Form} {b c : Border} (g h : Border) → under b g ≡ true → From g i h
     → On o h f c → On o b (Body Bare Nothing i f) c
 bare_body g h u i k = record { go = λ v. (g, h, u, i.go v, k.go _) }
@@ -295,7 +295,7 @@ pub unseen_arm : {o : Option (List Delim)} {last like : Bool} {i f : Form} {b c 
     → On o b (Body Unseen (ArmComma last like) i f) c
 unseen_arm g h m u i k = record { go = λ v. (m, g, h, u, i.go v, k.go _) }
 
--- in braces where it is broken: what follows a closure's body stands behind it or behind `}`.
+-- in braces where it is broken: what follows a closure's body stands after it or after `}`.
 abbrev pub body_fits_both : Border → Border → Border → Bool
 body_fits_both b g h = under b g && braces_pass b g h
 
@@ -359,7 +359,7 @@ line_lead g h fit = record {
       breaks a.0 (part g h a.1 k l);
 }
 
--- the break behind the last element, where a comma may stand or not
+-- the break after the last element, where a comma may stand or not
 abbrev pub last_passes : Bool → ℕ → Border → Bool
 last_passes true n h = comma_passes n h
 last_passes false n h = break_passes (Soft true n) h
@@ -373,7 +373,7 @@ pub last_one : {o : Option (List Delim)} (may : Bool) (n : ℕ) {f : Form} {b c 
 last_one true n h k = comma_or h k
 last_one false n h k = breaks h k
 
--- LIST: from b its opening, g before a part, h behind one, z at the end
+-- LIST: from b its opening, g before a part, h after one, z at the end
 abbrev pub list_fits : Bool → Bit → Bit → Border → Border → Border → Border → Bool
 list_fits may o c b g h z =
     let n = beyond b (o ∷ []) in

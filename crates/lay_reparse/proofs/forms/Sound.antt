@@ -28,7 +28,7 @@ use Rattle.lay_reparse.proofs.forms.Texts.{after_none, token_leads, put, put_lea
 use Rattle.lay_reparse.proofs.forms.Breaks.{break_goes, comma_goes}
 use Rattle.lay_reparse.proofs.forms.Bodies.{Sound, frames, BodySpells, comma_text, comma_mark, no_mark, loosened_under, marked_body}
 
--- one form behind a nested one
+-- one form after a nested one
 nested : {R : List Token → List Token → Type 0} (v : Bool) (i f : Form) (b g h c : Border) (d : ℕ) (fr : Frame)
     (D : Document) (s t : State) → under b g ≡ true
     → ((E : Document) → Leads fr (laid_out v i E) s t
@@ -51,7 +51,7 @@ nested_as : {S T : List Token → List Token → Type 0} (v : Bool) (f : Form) (
     → (m : State) × Goes T b v s c (ends_behind_point v f) m × Leads fr D m t
 nested_as {S} {T} v f b c fr D s t g r = (r.0, go_as {R = S} {S = T} b v s c (ends_behind_point v f) r.0 g r.1, r.2)
 
--- a body that stands in no braces and has nothing behind it
+-- a body that stands in no braces and has nothing after it
 unbraced_then : (braces : Braces) (behind : Behind) (i f : Form) (d : ℕ) (ts us : List Token) → MayBrace braces 0
     → ((us : List Token) → IsBehind behind 0 us us) → 1 ≤ d → Then (Spells i (d - 1)) (Spells f d) ts us
     → Spells (Body braces behind i f) d ts us
@@ -268,7 +268,7 @@ sound (Body Marked (ArmComma last like) i f) o v b c d q n fr D s t l =
       two.2,
     )
 
--- What is laid out behind a state, read.
+-- What is laid out after a state, read.
 pub record Laid (f : Form) (d : ℕ) (s t : State) : Type 0 where
   pub added : Text
   pub grown : t.text ≡ s.text ++ encode_utf8_all added

@@ -28,7 +28,7 @@ then_same S ts us h = subst (λ z. S z us) (sym h.1) h.2
 same_then : (S : List Token → List Token → Type 0) (ts us : List Token) → Then S Same ts us → S ts us
 same_then S ts us h = subst (λ z. S ts z) h.2 h.1
 
--- a move that adds no token, before and behind another
+-- a move that adds no token, before and after another
 pub after_none : {S : List Token → List Token → Type 0} (b : Border) (v : Bool) (s : State) (c : Border) (w : Bool)
     (m : State) (h : Border) (x : Bool) (t : State)
     → Goes Same b v s c w m → Goes S c w m h x t → Goes S b v s h x t

@@ -24,7 +24,7 @@ vis_passes (vis.In path) w =
     let p = (and_parts (are_pieces (simple_path_form path)) true w).0 in
     fixed refl (part start_path ends_path_name refl (simple_path_passes path p) (fixed refl (ends refl)))
 
--- a visibility, and what stands behind it
+-- a visibility, and what follows it
 pub behind_vis : (v : Vis) {f : Form} {c : Border} → are_pieces (form.Part (vis_form v) f) ≡ true
     → (are_pieces f ≡ true → From plain f c) → From plain (form.Part (vis_form v) f) c
 behind_vis v {f} w k =

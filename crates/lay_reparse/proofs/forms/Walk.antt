@@ -169,13 +169,13 @@ comma_missing : walk even false (Body Unseen (ArmComma false false) (piece (keyw
 unfolding tables
 comma_missing = refl
 
--- a word directly behind a closure's body: behind `}` it might stand, behind the body's own word it can't
+-- a word directly after a closure's body: after `}` it might stand, after the body's own word it can't
 behind_closure : walk even false (Body Marked Nothing (piece (keyword (codes "a") ∷ [])) (piece (keyword (codes "b") ∷ [])))
     plain ≡ None
 unfolding tables
 behind_closure = refl
 
--- a tuple index behind a number without suffix, which would be a Float with it
+-- a tuple index after a number without suffix, which would be a Float with it
 abbrev index_of : List ℕ → Form
 index_of number = Leaf Int number (Piece (Operator (codes ".") ∷ []) (Leaf Int (codes "0") Done))
 
@@ -183,14 +183,14 @@ float_instead : walk even false (index_of (codes "1")) plain ≡ None
 unfolding tables chars is_utf8
 float_instead = refl
 
--- `..` directly behind `..`, where no blank comes between them
+-- `..` directly after `..`, where no blank comes between them
 four_points : walk even false (Piece (Operator (codes "..") ∷ Operator (codes "..") ∷ []) Done) plain ≡ None
 unfolding tables
 four_points = refl
 
 -- ---- what it lets pass
 
--- a tuple index behind a number with a suffix
+-- a tuple index after a number with a suffix
 behind_suffix : Ends (record { needs = Number ∷ []; spot = At Other }) (walk even false (index_of (codes "1u8")) plain)
 unfolding tables chars is_utf8
 behind_suffix = refl
@@ -209,7 +209,7 @@ arm braces last like i = Piece (keyword (codes "x") ∷ Blank ∷ Operator (code
 abbrev ends_word : Border
 ends_word = record { needs = Word ∷ []; spot = At Other }
 
--- `x => a`: with a body in braces or with a comma, with a comma alone, and with nothing behind a block
+-- `x => a`: with a body in braces or with a comma, with a comma alone, and with nothing after a block
 marked_arm : Ends ends_word (walk even false (arm Marked false false (name (codes "a"))) plain)
 unfolding tables
 marked_arm = refl

@@ -202,7 +202,7 @@ slash_first : goes_behind_point 47 ≡ false
 unfolding unicode_ident starts_word
 slash_first = refl
 
--- a last gap doesn't begin with what may stand behind a point
+-- a last gap doesn't begin with what may follow a point
 gap_first : (x : List ℕ) → IsTrue (is_last_gap x) → begins goes_behind_point x ≡ false
 unfolding gap_step
 gap_first [] h = refl
@@ -271,7 +271,7 @@ lit_one true false e ix iy w h u = refl
 lit_one true true false ix iy w h u = cc
 lit_one true true true ix iy w h u = let f = u refl in rw f refl
 
--- what a piece asks of the character behind it and the one after that
+-- what a piece asks of the character after it and the one after that
 follow_one : (k : Kind) (piece : List ℕ) (c : ℕ) (x y : List ℕ) → may_precede k piece (c ∷ x) ≡ true
     → begins goes_behind_point x ≡ false → (c ≡ 95 → begins in_word y ≡ false) → may_precede k piece (c ∷ y) ≡ true
 unfolding may_precede
@@ -364,7 +364,7 @@ token at p joint = record {
   len = size p.piece;
 }
 
--- the tokens of parts before other parts: the last one's mark is by what stands behind it
+-- the tokens of parts before other parts: the last one's mark is by what follows it
 abbrev pub tokens_before : ℕ → List Part → List Part → List Token
 tokens_before at [] qs = []
 tokens_before at (p ∷ ps) qs = token at p (is_joint p (ps ++ qs)) ∷ tokens_before (at + size p.gap + size p.piece) ps qs
@@ -404,7 +404,7 @@ tokens-append at (p ∷ ps) qs =
     (tokens-append (at + size p.gap + size p.piece) ps qs
     ∙ ap (λ n. tokens_before (at + size p.gap + size p.piece) ps qs ++ tokens_from n qs) sum)
 
--- behind a gap more, the tokens are moved by it
+-- after a gap more, the tokens are moved by it
 tokens_behind : (at : ℕ) (g : List ℕ) (qs : List Part) → tokens_from at (behind_gap g qs) ≡ tokens_from (at + size g) qs
 tokens_behind at g [] = refl
 tokens_behind at g (q ∷ qs) =

@@ -127,7 +127,7 @@ block_encodes inner cs =
     (λ i. (inner || not (begins_encodes (λ c. c == 42 || c == 47) (no_two 42 47 (omega arith) (omega arith)) cs i))
     && same_end (Deep 0) cs i)
 
--- the opening tells nothing of what stands behind it
+-- the opening tells nothing of what follows it
 opened : (inner block : Bool) (x : List ℕ)
     → has_form (Doc inner block) (doc_opening inner block ++ x) ≡ cond block (is_block_doc inner) (is_line_doc inner) x
 unfolding has_form

@@ -307,7 +307,7 @@ behind_token : (s : Seen) (before last : Neighbour) (t : Listed) → Stands s be
 behind_token s before last t k h =
     record { before_is = last_joint_mark (codes ".") s.last last k.last_is; last_is = (refl, h) }
 
--- behind an opener and behind a closer
+-- after an opener and after a closer
 behind_delimiter : (s : Seen) (last : Neighbour) (t : Listed) → is_joint_mark (codes ".") s.before ≡ false
     → LastIs s.last (Single t) → is_joint_neighbour last ≡ false → Stands s last (Single t)
 behind_delimiter s last t b l j = record {
@@ -357,7 +357,7 @@ rest_loose t n m = by (listing.is_joint t) m
 
 -- ---- the groups of a list
 
--- Behind each group that a place is in stands what is lexed as it stands.
+-- After each group that a place is in stands what is lexed as it stands.
 abbrev OuterOk : List Delim → List Grouping → Type 0
 OuterOk [] [] = Unit {0}
 OuterOk [] (g ∷ gs) = ⊥
@@ -368,7 +368,7 @@ record NestedOk (left : List Delim) (before last : Neighbour) (n : Nested) : Typ
   here : (s : Seen) → Stands s before last → LexOk s n.grouping
   outer : OuterOk left n.outer
 
--- a token that fits behind two others, and what its rest tells of it
+-- a token that fits after two others, and what its rest tells of it
 record Fitting (before last : Neighbour) (t : Listed) : Type 0 where
   may : not (is_joint_neighbour last) || may_join last (Single t) ≡ true
   stands : is_had (is_index_place before last) t ≡ true

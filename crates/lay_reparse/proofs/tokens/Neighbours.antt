@@ -167,7 +167,7 @@ plain_left l i k x p d s e = (
       (λ b. b && left_point l) e,
 )
 
--- a point behind no number but an index
+-- a point after no number but an index
 index_front : (x : Text) → is_index x ≡ true → fronts_index x [] ≡ true
 index_front x h = at (begins is_ascii_digit x) (list_all is_ascii_digit x) _ h
   where
@@ -282,7 +282,7 @@ seven_at : (all (λ n. suits n Punct (44 ∷ [])) seven ≡ true) × (all (λ n.
 unfolding tables
 seven_at = (refl, refl, refl, refl, refl, refl, refl, refl, refl)
 
--- a separator behind any left one that is not joint
+-- a separator after any left one that is not joint
 separator_left : (l : Neighbour) (i : Bool) (c : ℕ) → is_joint_neighbour l ≡ false → has_doc_kind l ≡ false
     → all (λ n. suits n Punct (c ∷ [])) seven ≡ true → begins_dot (c ∷ []) ≡ false
     → ((a b : Bool) → Follows (cond a (Solidus ∷ []) [] ++ cond b (Loose ∷ []) []) false Punct (c ∷ []))
@@ -436,7 +436,7 @@ first_of false b h = cc
 abbrev pub Glued : Seen → Neighbour → Type 0
 Glued s r = Follows (left_needs s.last s.place) (left_point s.last) (kind_at r) (text_at r)
 
--- behind the first four rows
+-- after the first four rows
 module _ (s : Seen) (r : Neighbour) (m : mark_ok s.last r ≡ true) (k : Settled s r) where
   doc_free : has_doc_kind s.last ≡ false
   doc_free = no_doc_kind s.last (own_left s.last r m) (or_both _ _ k.no_doc).0
@@ -590,7 +590,7 @@ joint_no_doc (Single u) r m d = elim (cases_Bool (is_joint u)) [
     right (Single (listed.Token k t joint)) p d = cc
     right (Single (listed.Doc inner t)) p d = cc
 
--- a blank and a newline may stand behind the left one
+-- a blank and a newline may stand after the left one
 pub gap_core : (s : Seen) (r : Neighbour) → mark_ok s.last r ≡ true → Way s r SoftBreak
     → all blank_ok (left_needs s.last s.place) && all line_ok (left_needs s.last s.place) ≡ true
 gap_core s r m w =

@@ -139,7 +139,7 @@ dots_joint s r q a (ByTokens k e) = by (glue_of s r e)
         let z : true ≡ false =
         sym (and_from (is_punct_neighbour s.last) _ (mark_punct 46 s.last a) (mark_punct 46 r q)) ∙ n in cc
 
--- one token behind a border
+-- one token after a border
 token_at : (b : Border) (v : Bool) (u : Listed) (p : Bool) → tok_ok p u ≡ true
     → fits_token b.spot (laid_kind u) (laid_text u)
     ≡ fits_token (cond p (At Point) (At Other)) (laid_kind u) (laid_text u)
@@ -200,7 +200,7 @@ token_then z s u r b v n h i x p o k =
       and_from (is_even (turned (kind_of u) even)) _ (ap is_even o) (under-refl z),
     )
 
--- behind a break no joint point stands before
+-- after a break no joint point stands before
 gap_joint : (s : Seen) (r : Neighbour) → mark_ok s.last r ≡ true → Way s r SoftBreak
     → is_joint_neighbour s.last ≡ false
 gap_joint s r m (AtStart h e) = cc
@@ -307,7 +307,7 @@ opening_passes line Bracket X x =
 opening_passes line Brace X x =
     (refl, (plain, inner_end line, refl, x, closing_passes line Brace (ends_behind_point false X)))
 
--- The opener may follow directly, and the border behind it asks for nothing.
+-- The opener may follow directly, and the border after it asks for nothing.
 abbrev pub opens_at : Border → Delim → Type 0
 opens_at b d = (all (λ n. suits n (Opener d) (opening d ∷ [])) b.needs ≡ true) × (extras (opening d ∷ []) b.needs ≡ [])
 
@@ -398,7 +398,7 @@ full_passes o b v d line X f z h p k = (
   subst (λ w. Passes o w f plain z) (inner_point line d v X) k,
 )
 
--- a group behind a border, and what follows it
+-- a group after a border, and what follows it
 pub enclosed_passes : (o : Option (List Delim)) (b : Border) (v : Bool) (d : Delim) (i : Grouping) (line : Bool)
     (X f : Form) (z : Border) → opens_at b d → Passes even false X plain (inner_end line) → Passes o false f plain z
     → Passes o v (enclosed_form d i line X f) b z

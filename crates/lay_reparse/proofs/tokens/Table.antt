@@ -11,11 +11,11 @@ abbrev behind : Rows → Rows
 behind [] = []
 behind (r ∷ rs) = rs
 
--- behind the first four rows, which speak of documentation, of joint tokens and of nothing
+-- after the first four rows, which speak of documentation, of joint tokens and of nothing
 abbrev later_rows : Seen → Neighbour → Rows
 later_rows s r = behind (behind (behind (behind (rows s r))))
 
--- behind the seven first ones: each of these leaves no break
+-- after the seven first ones: each of these leaves no break
 abbrev pub last_rows : Seen → Neighbour → Rows
 last_rows s r = behind (behind (behind (later_rows s r)))
 
@@ -64,7 +64,7 @@ any_row (r ∷ rs) h = by r.0 refl h (λ k. any_row rs k)
     by true e h f = inl e
     by false e h f = inr (f h)
 
--- how a row behind the first four leaves no break
+-- how a row after the first four leaves no break
 pub data Glue (s : Seen) (r : Neighbour) : Type 0 where
   BySeparator : is_mark (codes ",") r || is_mark (codes ";") r ≡ true → Glue s r
   ByRow : is_punct_neighbour s.last && is_punct_neighbour r ≡ false

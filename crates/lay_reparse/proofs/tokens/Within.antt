@@ -18,7 +18,7 @@ use Rattle.lay_reparse.proofs.forms.Rules.{On, simple, simple_led}
 use Rattle.lay_reparse.proofs.tokens.Lexed.{lex_ok}
 use Rattle.lay_reparse.proofs.tokens.Rows.{opens_at, enclosed_passes, all_passes, list_end, list_passes}
 
--- a token list behind a piece that ends in no point, and what follows the list
+-- a token list after a piece that ends in no point, and what follows the list
 pub listed : {o : Option (List Delim)} {p : List Bit} {f : Form} {b c : Border} (ts : List Listed)
     → is_token_list ts ≡ true → simple b p ≡ true → ((v : Bool) → bits_end_in_point v p ≡ false)
     → under (beyond b p) plain ≡ true → On (bits_open o p) (list_end (ends_in_line ts)) f c
