@@ -31,7 +31,7 @@ use Rattle.lay_depth.specs.Parts.{arm_form, block_if, branch_form, expr_if, link
 
 -- ---- blocks
 
--- the form of a statement, without what may stand behind it in a block
+-- the form of a statement, without what may follow it in a block
 abbrev pub stmt_told : Stmt → Form
 stmt_told s = (about_stmt s).form
 

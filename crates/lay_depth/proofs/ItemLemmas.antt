@@ -112,7 +112,7 @@ end_is _ = refl
 
 -- ---- kinds
 
--- It needs what its head does and what stands behind that.
+-- It needs what its head does and what follows that.
 of_kind : (kind y : ItemKind) (facts : KindFacts) → kind ≡ y → told_of_kind y ≡ facts
     → kind_need kind ≡ max (head_if facts.head) (least_depth facts.tail)
 of_kind kind y facts is told =

@@ -12,7 +12,7 @@ use Rattle.lay_code.specs.declared.exprs.Step.{Step}
 use Rattle.lay_code.specs.declared.item.ItemKind.{ItemKind}
 use Rattle.lay_code.specs.declared.operators.Op.{Op}
 
--- the form of an operand behind its operator, of a target before one, and of a step
+-- the form of an operand after its operator, of a target before one, and of a step
 abbrev pub operand_form : Op × Expr → Form
 operand_form x = (about_expr x.1).form
 
@@ -42,7 +42,7 @@ link_form l = (about_link l).form
 abbrev pub branch_form : Branch → Form
 branch_form b = Part (about_branch b).condition (about_branch b).soft
 
--- what the head of an item needs, if it has one, and what stands behind it
+-- what the head of an item needs, if it has one, and what follows it
 abbrev pub head_if : Option Form → ℕ
 head_if None = 0
 head_if (Some head) = least_depth head

@@ -34,7 +34,7 @@ pub(crate) fn block_or_none_depth(block: &Option<Block>) -> u32
     }
 }
 
-/// The depth of a statement. The block behind an `else` stands one level deeper.
+/// The depth of a statement. The block after an `else` stands one level deeper.
 #[cycle(code)]
 fn stmt_depth(stmt: &Stmt) -> u32
     ensures { result ≡ counted (least_depth (about_stmt stmt.now).form) }

@@ -113,7 +113,7 @@ pub(crate) fn operand_depth(operand: &Option<Boxed<Expr>>) -> u32
     }
 }
 
-/// The depth of the deepest operand behind an operator.
+/// The depth of the deepest operand after an operator.
 #[cycle(code)]
 fn operands_depth(operands: &[(Op, Boxed<Expr>)]) -> u32
     ensures { result ≡ counted (greatest (map operand_form operands.now)) }
@@ -177,7 +177,7 @@ fn base_depth(base: &Option<Option<Boxed<Expr>>>) -> u32
     }
 }
 
-/// The depth of the deepest of the steps behind an expression.
+/// The depth of the deepest of the steps after an expression.
 #[cycle(code)]
 fn steps_depth(steps: &[Step]) -> u32
     ensures { result ≡ counted (greatest (map step_form steps.now)) }

@@ -182,7 +182,7 @@ fn same_fields(fields: &[FieldPat], others: &[FieldPat]) -> bool
     true
 }
 
-/// Whether the patterns behind two names are equal.
+/// Whether the patterns after two names are equal.
 #[cycle(patterns)]
 fn same_bound(pattern: &Option<Boxed<Pat>>, other: &Option<Boxed<Pat>>) -> bool
     ensures { IsTrue result ↔ pattern.now ≡ other.now }

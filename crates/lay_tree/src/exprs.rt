@@ -340,7 +340,7 @@ fn same_operands<X: Enclose>(operands: &[(Op, Boxed<Expr>)], others: &[(Op, Boxe
     true
 }
 
-/// Whether a struct literal's other base is what this one becomes, behind a `..` where there is one.
+/// Whether a struct literal's other base is what this one becomes, after a `..` where there is one.
 #[cycle(code)]
 fn same_base<X: Enclose>(
     base: &Option<Option<Boxed<Expr>>>,

@@ -163,7 +163,7 @@ alias_is x =
     let o = default_is x.ty in
     let p = before_semicolon_is x.wheres in omega (arith, m, n, o, p)
 
--- the fields of a struct: before its where clause or behind it
+-- the fields of a struct: before its where clause or after it
 struct_fields_are : (wheres : Wheres) (fs : Fields)
     → max (least_depth (head_fields fs)) (least_depth (struct_tail wheres fs))
     ≡ max (least_depth (fields_form true fs)) (greatest (map predicate_form wheres.predicates))

@@ -26,6 +26,6 @@ abbrev pub type_if : Option Ty → ℕ
 type_if None = 0
 type_if (Some x) = least_depth (about_type x).told.form
 
--- what the head of an item and what stands behind it need
+-- what the head of an item and what follows it need
 abbrev pub head_depth : HeadFacts → ℕ
 head_depth x = max (least_depth x.head) (least_depth x.tail)
