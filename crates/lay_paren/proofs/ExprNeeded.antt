@@ -100,7 +100,7 @@ targets_sure p first (y ∷ ys) =
     (λ z zs h. let c = and_parts _ _ h in (any (about_expr z) place (and_parts _ _ c.0).1, c.1))
     (made_of y.0.0 place Any) (targets_made p false (made_targets ys)) y.0.0 (targets_of ys) (y.0.1.needed place Any tt) (targets_sure p false ys)
 
--- ---- operands behind operators
+-- ---- operands after operators
 
 -- The operators stay, and an operand doesn't stand.
 abbrev Broken : Place → ℕ → List (Op × Placed) → List (Op × Expr) → Bool
@@ -182,7 +182,7 @@ break_apt : (p : Place) (label : Option Lifetime) → Apt p (break_slot label)
 break_apt p None = tt
 break_apt p (Some label) = tt
 
--- a block behind an `else`, if there is one
+-- a block after an `else`, if there is one
 abbrev pub else_block : Option Block → Bool
 else_block b = may_be_good (option_map about_block b)
 

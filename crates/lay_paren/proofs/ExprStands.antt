@@ -86,7 +86,7 @@ nodes_stand {N = N} Is loose made about was is each (y ∷ ys) h =
     and_from (is (about (made y.0).result)) (list_all is (map about (all (map made (map (λ (y : (x : N) × Is x). y.0) ys))).result))
     (each y.0 y.1 c.0) (nodes_stand Is loose made about was is each ys c.1)
 
--- operands behind operators
+-- operands after operators
 abbrev pub operands_of : List (Op × KeptExpr) → List (Op × Expr)
 operands_of ys = map (λ (y : Op × KeptExpr). (y.0, y.1.0)) ys
 

@@ -80,7 +80,7 @@ stmt_pieces y =
 
 -- ---- blocks
 
--- what may stand behind a statement is no token of the tree
+-- what may follow a statement is no token of the tree
 stmt_form_pieces : (s : StmtFacts) → are_pieces (stmt_form s) ≡ (are_pieces s.form && true)
 stmt_form_pieces s = by s.unended
   where
@@ -243,7 +243,7 @@ whole v F = kind_form v F.head F.tail
 abbrev foreign_head : Bool → Option Literal → Form
 foreign_head is_unsafe abi = unsafe_form is_unsafe (Piece (keyword (codes "extern") ∷ []) (foreign_abi abi))
 
--- what is behind a head
+-- what follows a head
 abbrev behind : Vis → Form → Bool → Bool
 behind v head tail = (are_pieces (vis_form v) && are_pieces head) && tail
 

@@ -1,4 +1,4 @@
--- Loops that put one item after the other: those before are put, and those behind are as they were.
+-- Loops that put one item after the other: those before are put, and those after are as they were.
 use Rattle.std.proofs.Common.{◌≡◌, ℕ, zero, suc, ◌+◌, ◌<◌, ◌≤◌, ◌⊎◌, inl, inr, Bool, true, false, Some, None, List, [], ◌∷◌, ◌++◌, map, length, take, drop, slice_set, slice_index_or, refl, sym, ap, ap₂, ◌∙◌, arith}
 use Rattle.std.proofs.lemmas.Bool.{cases_lt, eq-eqb, le-ltb, lt-ltb, ne_eqb}
 use Rattle.std.specs.Prelude.{eqb, ltb}
@@ -66,7 +66,7 @@ pub turn_at : {A : Type 0} (f : ℕ → A → A) (xs ys : List A) (i : ℕ) (new
 turn_at f xs ys i new d so_far within is =
     rw (is, so_far, next i) (ap (λ x. slice_set (turned f i xs) i (f i x)) (index_kept f i xs d) ∙ set_turned f i xs d within)
 
--- all are put behind the last
+-- all are put after the last
 past : {A : Type 0} (f : ℕ → A → A) (i : ℕ) (xs : List A) → length xs ≤ i → turned f i xs ≡ turned f (length xs) xs
 past f zero [] h = refl
 past f (suc i) [] h = refl
@@ -139,7 +139,7 @@ target_put p first i x = (least_in x.0 (before_op 1 p.no_struct (first_at first 
 abbrev pub target_with : Expr → Op → Expr × Op
 target_with x op = (x, op)
 
--- behind any target the flag doesn't hold
+-- after any target the flag doesn't hold
 pub later_at : (first : Bool) (i : ℕ) → false ≡ first_at first (i + 1)
 later_at first i = sym (ap (first_at first) (next i))
 

@@ -55,7 +55,7 @@ abbrev pub base_written : Option (Option Expr) → Bool
 base_written (Some (Some x)) = written FREE Any x
 base_written _ = true
 
--- operands behind operators of this level
+-- operands after operators of this level
 abbrev pub others_written : Place → ℕ → List (Op × Expr) → Bool
 others_written p level [] = true
 others_written p level (x ∷ more) = written (operand_at p level more) Any x.1 && others_written p level more

@@ -64,7 +64,7 @@ base_least x = option_map (operand_least FREE Any) x
 abbrev pub first_place : Place → List (Op × Expr) → Place
 first_place p rest = before_op (suc (level_by rest)) p.no_struct (begins p.start) (angle_next rest)
 
--- the place of an operand behind an operator of this level, before a further operator or without one
+-- the place of an operand after an operator of this level, before a further operator or without one
 abbrev pub operand_before : Place → ℕ → Option Op → Place
 operand_before p level None = as_node p (suc level)
 operand_before p level (Some o) = before_op (suc level) p.no_struct false (is_angle_op o)
@@ -123,7 +123,7 @@ abbrev pub row : {A B C : Type 0} → (A → B → C) → (Bool → A → List A
 row put part first [] = []
 row put part first (x ∷ more) = put x (part first x more) ∷ row put part false more
 
--- as it is, of a row by what stands behind it
+-- as it is, of a row by what follows it
 abbrev pub placing : Ways Same
 placing = record as_is { row = λ put part first xs. row put part first xs }
 
@@ -147,7 +147,7 @@ least_parts = record {
   item = λ x. item_least x;
 }
 
--- the operands behind operators of this level
+-- the operands after operators of this level
 abbrev pub operands_least : Place → ℕ → List (Op × Expr) → List (Op × Expr)
 operands_least place level xs = operands_of placing least_parts place level xs
 

@@ -41,7 +41,7 @@ fn place_each_link(alloc: Global, links: &mut [Link]) -> Result<(), NoMemory>
     Ok(())
 }
 
-/// The same of a link, which is a condition by itself, or has a further one behind it, if it is said.
+/// The same of a link, which is a condition by itself, or has a further one after it, if it is said.
 #[cycle(code)]
 #[tactic(auto, using(crate::proofs::Becoming::link_becomes))]
 fn place_link(alloc: Global, link: &mut Link, alone: bool, more: bool) -> Result<(), NoMemory>

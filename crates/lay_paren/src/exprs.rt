@@ -199,7 +199,7 @@ pub(crate) fn place_operand(
     }
 }
 
-/// The same of the operands behind operators of this level.
+/// The same of the operands after operators of this level.
 #[cycle(code)]
 #[tactic(auto, using(crate::proofs::Turning::refill))]
 fn place_operands(

@@ -32,7 +32,7 @@ pub(crate) fn as_node(place: Place, level: u8) -> Place
     }
 }
 
-/// The level of the operators of a chain, of which these are the operands behind the first.
+/// The level of the operators of a chain, of which these are the operands after the first.
 #[tactic(auto, using(crate::proofs::Levels::level_is, crate::proofs::Levels::level_low))]
 pub(crate) fn level_by(rest: &[(Op, Boxed<Expr>)]) -> u8
     ensures level { result ≡ parts.level_by rest.now }
@@ -49,7 +49,7 @@ pub(crate) fn first_place(rest: &[(Op, Boxed<Expr>)], place: Place) -> Place
     before_op(level_by(rest) + 1, place.no_struct, first, angle_next(rest))
 }
 
-/// The place of an operand behind an operator of this level, before a further operator or without one.
+/// The place of an operand after an operator of this level, before a further operator or without one.
 pub(crate) fn operand_place(next: Option<Op>, level: u8, place: Place) -> Place
     requires { level ≤ 10 }
     ensures { result ≡ operand_before place level next }

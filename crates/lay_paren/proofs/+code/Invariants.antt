@@ -6,7 +6,7 @@ use Rattle.lay_paren.specs.InPlace.{arm_least, branch_least, exprs_least, field_
 use Rattle.lay_paren.proofs.Turning.{first_at, link_put, operand_put, target_put, turned}
 use Rattle.lay_paren.proofs.+code.Given as goal
 
--- ---- each item by itself: those before are put, and those behind are as they were
+-- ---- each item by itself: those before are put, and those after are as they were
 
 abbrev pub invariant-exprs::place_each_expr-loop-expr : goal.invariant-exprs::place_each_expr-loop-expr
 invariant-exprs::place_each_expr-loop-expr l =

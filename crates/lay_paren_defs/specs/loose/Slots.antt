@@ -13,7 +13,7 @@ pub data Slot : Type 0 where
   Optional : Slot
   -- the operand of a `break` without a label
   Unlabelled : Slot
-  -- a value with an `else` behind it
+  -- a value with an `else` after it
   BeforeElse : Slot
   -- what stands directly before the index of a tuple
   BeforeIndex : Slot
