@@ -1,4 +1,4 @@
--- What stands behind the first token, by how many tokens stand before it.
+-- What follows the first token, by how many tokens stand before it.
 use Rattle.std.proofs.Common.{◌≡◌, ◌&&◌, ◌||◌, [], ◌∷◌, codes, drop, refl}
 use Rattle.lay_node.specs.Ahead.{Tokens, first, is_keyword, is_mark, tail}
 use Rattle.lay_code.specs.Operands.{begins_closure}

@@ -106,7 +106,7 @@ sheds_is x no_struct = ap (λ k. sheds k no_struct) (kind_is x) ∙ sheds_by (vi
 
 -- ---- statements
 
--- another statement may stand behind it
+-- another statement may stand after it
 abbrev pub ends_in : StmtNode → Bool
 ends_in (Stmt-F.Stmt::Expr attrs x ended) = ended || (about_expr x).block_like
 ends_in _ = true

@@ -1,4 +1,4 @@
--- What stands at the front, and the operator there, told from the first character.
+-- What comes next, and the operator there, told from the first character.
 use Rattle.std.proofs.Common.{◌≡◌, ◌⊎◌, inl, inr, ℕ, zero, suc, Bool, true, false, ◌&&◌, ◌||◌, cond, List, [], ◌∷◌, ◌<◌, ◌≤◌, drop, get_or, length, Option, Some, None, refl, sym, ap, ◌∙◌, arith}
 use Rattle.std.specs.Prelude.{◌==◌, slice_get, option_and_then}
 use Rattle.std.specs.List.{filter, list_all}
@@ -14,7 +14,7 @@ use Rattle.lay_code.specs.Operators.{all_ops, binary, named, op_text}
 use Rattle.lay_code.specs.declared.operators.Op.{Op}
 use Rattle.lay_ops.specs.Leads.{begins, led_by}
 
--- What is found at a place is what is at the front behind as many tokens.
+-- What is found at a place is what is at the beginning after as many tokens.
 pub first_behind : (p : Token → Bool) (ts : Tokens) (n : ℕ) (t : Token) → Some t ≡ slice_get ts n → p t ≡ first p (drop n ts)
 first_behind p [] n t h = absurd (cc)
 first_behind p (u ∷ ts) zero t h = let e : t ≡ u = cc in ap p e
@@ -99,7 +99,7 @@ led_binary : (t : Token) (ts : Tokens) (c : ℕ) (more : List ℕ) → t.text �
 unfolding binary
 led_binary t ts c more e = elim (at_led t ts c more e) [ inl f ↦ rw f refl | inr f ↦ rw f.1 (named_led all_ops c f.0) ]
 
--- ---- the operator at the front
+-- ---- the operator at the beginning
 
 -- no token
 pub none_ahead : (ts : Tokens) → length ts ≤ 0 → None ≡ binary ts
@@ -124,7 +124,7 @@ by_first (u ∷ ts) t (c ∷ cs) h e l =
 
 -- ---- what begins an expression
 
--- The token at the front tells what the tokens begin.
+-- The token at the beginning tells what the tokens begin.
 pub lead_there : (ts : Tokens) (t : Token) → Some t ≡ slice_get ts 0 → expr_lead_by t.kind t.text ts ≡ expr_lead_at ts
 unfolding expr_lead_at
 lead_there [] t h = absurd (cc)

@@ -32,7 +32,7 @@ IfPart _ p = Unit {0}
 abbrev pub dotted_first : List Step → Bool
 dotted_first steps = first_step is_dotted (map about_step steps)
 
--- None of the operands behind operators, and none of the targets of an assignment, holds a struct literal outside delimiters.
+-- None of the operands after operators, and none of the targets of an assignment, holds a struct literal outside delimiters.
 abbrev pub is_structless_operand : Op × Expr → Bool
 is_structless_operand x = (about_expr x.1).structless
 

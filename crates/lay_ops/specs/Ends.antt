@@ -20,7 +20,7 @@ abbrev pub IfIn : TypeEnd → (Ty → Type 0) → Type 0
 IfIn (end.In ty) p = p ty.now
 IfIn _ p = Unit {0}
 
--- An expression that ends so takes the operators behind it, or ends in a type that lacks generic arguments.
+-- An expression that ends so takes the operators after it, or ends in a type that lacks generic arguments.
 abbrev pub is_open_end : ExprEnd → Bool
 is_open_end expr_end.Open = true
 is_open_end (expr_end.In x) = is_open (about_expr x.now).tail

@@ -31,6 +31,6 @@ told lead.Return = operands.ByReturn
 told lead.BlockWord = operands.ByBlockWord
 told lead.Closure = operands.ByClosure
 
--- the words that begin an expression that holds a block, whatever stands behind them
+-- the words that begin an expression that holds a block, whatever follows them
 abbrev pub block_words : List (List ℕ)
 block_words = codes "for" ∷ codes "if" ∷ codes "loop" ∷ codes "match" ∷ codes "unsafe" ∷ codes "while" ∷ []

@@ -1,4 +1,4 @@
-//! Operators and operands at the front of what a reader has ahead.
+//! Operators and operands at the beginning of what a reader has ahead.
 ghost use Rattle.std.specs.Prelude.{◌≡◌, None, option_map};
 ghost use Rattle.lay_code.specs.Operands as operands;
 ghost use Rattle.lay_code.specs.Operators as operators;
@@ -11,7 +11,7 @@ use lay_read_tokens::Ahead;
 use lay_read_tokens::front::{is_at_keyword, is_at_opened};
 use lay_token::Delim;
 
-/// The operator between operands at the front, if there is one.
+/// The operator between operands at the beginning, if there is one.
 pub fn binary(at: &Ahead<'_>) -> Option<Op>
     ensures { result ≡ operators.binary at.now }
 {
@@ -19,7 +19,7 @@ pub fn binary(at: &Ahead<'_>) -> Option<Op>
     crate::operators::binary(&cursor)
 }
 
-/// The operator before an operand at the front, if there is one.
+/// The operator before an operand at the beginning, if there is one.
 pub fn prefix(at: &Ahead<'_>) -> Option<Prefix>
     ensures { result ≡ operators.prefix at.now }
 {
@@ -35,28 +35,28 @@ pub fn expr_lead_at(at: &Ahead<'_>) -> Option<ExprLead>
     crate::operands::expr_lead_at(&cursor)
 }
 
-/// Whether an operand begins at the front, where no struct literal may stand or where one may.
+/// Whether an operand comes next, where no struct literal may stand or where one may.
 pub fn begins_operand(at: &Ahead<'_>, no_struct: bool) -> bool
     ensures { result ≡ operands.begins_operand no_struct at.now }
 {
     is_operand_lead(expr_lead_at(at), no_struct)
 }
 
-/// Whether `.` or `?` stands at the front, which go on with an expression even where nothing else does.
+/// Whether `.` or `?` comes next, which go on with an expression even where nothing else does.
 pub fn is_dot_or_try(at: &Ahead<'_>) -> bool
     ensures { result ≡ operators.is_dot_or_try at.now }
 {
     at.op_is(b".") || at.op_is(b"?")
 }
 
-/// Whether a postfix step begins at the front.
+/// Whether a postfix step comes next.
 pub fn begins_step(at: &Ahead<'_>) -> bool
     ensures { result ≡ operators.begins_step at.now }
 {
     is_dot_or_try(at) || is_at_opened(at, Delim::Paren) || is_at_opened(at, Delim::Bracket)
 }
 
-/// Whether `<` or `<<` stands at the front, which would open the generic arguments of a type before it.
+/// Whether `<` or `<<` comes next, which would open the generic arguments of a type before it.
 pub fn is_angle(at: &Ahead<'_>) -> bool
     ensures { result ≡ operators.is_angle at.now }
 {
@@ -75,7 +75,7 @@ pub fn strength(at: &Ahead<'_>) -> u8
     }
 }
 
-/// The same where no operator stands at the front.
+/// The same where no operator comes next.
 fn strength_without_op(at: &Ahead<'_>) -> u8
     ensures { result ≡ operators.strength_by None at.now }
 {

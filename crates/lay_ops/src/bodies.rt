@@ -9,7 +9,7 @@ use crate::roots::{is_block_like, is_macro};
 use crate::structs::is_structless;
 use lay_code::{Attr, Block, Expr, Item, ItemKind, Lifetime, Stmt};
 
-/// Whether another statement may stand behind it.
+/// Whether another statement may stand after it.
 #[tactic(auto, using(crate::proofs::BodyFacts::ends_is))]
 pub fn ends(stmt: &Stmt) -> bool
     ensures { result ≡ (about_stmt stmt.now).ends }

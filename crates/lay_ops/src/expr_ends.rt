@@ -14,7 +14,7 @@ use lay_code::Expr;
 enum ExprEnd<'a> {
     /// What may stand before each operator.
     Shut,
-    /// What takes the operators behind it, or lacks an operand.
+    /// What takes the operators after it, or lacks an operand.
     Open,
     /// A type that lacks generic arguments at its end.
     Typed,
@@ -22,7 +22,7 @@ enum ExprEnd<'a> {
     In(&'a Expr),
 }
 
-/// Whether an operator may stand behind an expression, if one does, and `<` or `<<`, if that does.
+/// Whether an operator may stand after an expression, if one does, and `<` or `<<`, if that does.
 pub fn may_precede(expr: &Expr, op: bool, angle: bool) -> bool
     ensures { result ≡ (not (op && is_open (about_expr expr.now).tail)
         && not (angle && is_typed (about_expr expr.now).tail)) }

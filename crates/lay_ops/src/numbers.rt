@@ -21,7 +21,7 @@ pub enum Reading {
     Hex,
     /// Digits of a float.
     Whole,
-    /// Digits behind a point.
+    /// Digits after a point.
     Fraction,
     /// The letter of an exponent.
     Exponent,

@@ -37,7 +37,7 @@ pub enum ExprLead {
     Closure,
 }
 
-/// Whether an operand begins at the front, at this place.
+/// Whether an operand comes next, at this place.
 pub fn begins_operand(at: &Cursor<'_>, place: Place) -> bool
     ensures { result ≡ operands.begins_operand place.no_struct at.now }
 {
@@ -120,7 +120,7 @@ fn async_lead(at: &Cursor<'_>) -> ExprLead
     }
 }
 
-/// Whether a `|` stands behind the first token, or `move` and a `|`.
+/// Whether a `|` stands after the first token, or `move` and a `|`.
 #[tactic(auto, using(crate::proofs::Behind::closure_behind))]
 fn is_before_closure(at: &Cursor<'_>) -> bool
     ensures { result ≡ operands.begins_closure (tail at.now) }
@@ -128,7 +128,7 @@ fn is_before_closure(at: &Cursor<'_>) -> bool
     is_bar_behind(at, 1) || is_word(at, 1, b"move") && is_bar_behind(at, 2)
 }
 
-/// Whether a `|` stands behind this many tokens.
+/// Whether a `|` stands after this many tokens.
 fn is_bar_behind(at: &Cursor<'_>, others: usize) -> bool
     ensures { result ≡ first (is_mark (codes "|")) (drop others at.now) }
 {
@@ -152,7 +152,7 @@ fn is_block_word(word: &[u8], at: &Cursor<'_>) -> bool
     holds_block(word) || word == b"const".as_slice() && is_before_brace(at)
 }
 
-/// Whether the word begins an expression that holds a block, whatever stands behind it.
+/// Whether the word begins an expression that holds a block, whatever follows it.
 fn holds_block(word: &[u8]) -> bool
     ensures { result ≡ operands.is_of block_words word.now }
 {
@@ -164,7 +164,7 @@ fn holds_block(word: &[u8]) -> bool
         || word == b"while".as_slice()
 }
 
-/// Whether a `{` stands behind the first token.
+/// Whether a `{` stands after the first token.
 fn is_before_brace(at: &Cursor<'_>) -> bool
     ensures { result ≡ first (opens Brace) (tail at.now) }
 {

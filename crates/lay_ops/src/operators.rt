@@ -1,4 +1,4 @@
-//! The operators at the front of tokens.
+//! The operators at the beginning of tokens.
 ghost use Rattle.std.specs.Prelude.{◌≡◌, ◌∷◌, [], drop, option_and_then};
 ghost use Rattle.lay_token.specs.Operators.{op_at};
 ghost use Rattle.lay_node.specs.Ahead as ahead;
@@ -30,7 +30,7 @@ pub(crate) fn op_level(op: Op) -> u8
     }
 }
 
-/// The operator between operands at the front, if there is one. The first character tells which it can be.
+/// The operator between operands at the beginning, if there is one. The first character tells which it can be.
 pub fn binary(at: &Cursor<'_>) -> Option<Op>
     ensures { result ≡ operators.binary at.now }
 {
@@ -65,7 +65,7 @@ fn led_by(character: u8) -> &'static [Op]
     }
 }
 
-/// The first of the operators that is at the front.
+/// The first of the operators that is at the beginning.
 fn first_of(at: &Cursor<'_>, ops: &[Op]) -> Option<Op>
     ensures { result ≡ option_and_then (operators.named ops.now) (op_at at.now) }
 {
@@ -79,7 +79,7 @@ fn first_of(at: &Cursor<'_>, ops: &[Op]) -> Option<Op>
     None
 }
 
-/// Whether the keyword stands behind this many other tokens.
+/// Whether the keyword stands after this many other tokens.
 pub(crate) fn is_word(at: &Cursor<'_>, others: usize, word: &[u8]) -> bool
     ensures { result ≡ first (ahead.is_keyword word.now) (drop others at.now) }
 {
@@ -89,7 +89,7 @@ pub(crate) fn is_word(at: &Cursor<'_>, others: usize, word: &[u8]) -> bool
     }
 }
 
-/// The operator before an operand at the front, if there is one.
+/// The operator before an operand at the beginning, if there is one.
 #[tactic(auto, unfolding(lay_code::specs::Operators::prefix))]
 pub fn prefix(at: &Cursor<'_>) -> Option<Prefix>
     ensures { result ≡ operators.prefix at.now }
@@ -106,7 +106,7 @@ pub fn prefix(at: &Cursor<'_>) -> Option<Prefix>
     }
 }
 
-/// The operator that the `&` at the front begins.
+/// The operator that the `&` at the beginning begins.
 fn reference(at: &Cursor<'_>) -> Prefix
     ensures { result ≡ operators.amp_by (drop 1 at.now) }
 {

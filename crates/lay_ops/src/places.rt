@@ -54,7 +54,7 @@ pub fn before_op(level: u8, no_struct: bool, first: bool, angle: bool) -> Place
     }
 }
 
-/// A link of a condition with a `let`, behind which a further link follows if it is said.
+/// A link of a condition with a `let`, after which a further link follows if it is said.
 pub fn link_place(more: bool) -> Place
     ensures { result ≡ places.link_place more }
 {

@@ -32,7 +32,7 @@ pub fn level(expr: &Expr) -> u8
     }
 }
 
-/// The level of the operators of a chain, of which these are the operands behind the first.
+/// The level of the operators of a chain, of which these are the operands after the first.
 pub fn first_level(rest: &[(Op, Boxed<Expr>)]) -> u8
     ensures { result ≡ first_level rest.now }
 {
@@ -124,7 +124,7 @@ pub fn is_macro(expr: &Expr) -> bool
     matches!(expr, Expr::Call { .. })
 }
 
-/// Whether the comma of an arm may be left out behind it.
+/// Whether the comma of an arm may be left out after it.
 pub fn is_free(expr: &Expr) -> bool
     ensures { result ≡ is_free (about_expr expr.now) }
 {

@@ -31,7 +31,7 @@ pub(crate) fn is_structless(expr: &Expr) -> bool
     }
 }
 
-/// Whether none of the operands behind operators holds one.
+/// Whether none of the operands after operators holds one.
 #[cycle(structless)]
 fn are_operands_structless(operands: &[(Op, Boxed<Expr>)]) -> bool
     ensures { result ≡ structless_operands operands.now }

@@ -63,7 +63,7 @@ block_ends b lead =
 branch_soft : (b : Branch) → Ends (about_branch b).soft true
 branch_soft b = subst (λ (F : BranchFacts). Ends F.soft true) (sym (branch_is b)) (soft_ends b.body)
 
--- further branches and an `else`, behind what ends so
+-- further branches and an `else`, after what ends so
 more_end : (bs : List Branch) (o : Option Block) (before : Bool) → before ≡ true
     → brace_behind before (more_branches (map about_branch bs) (else_branch_form (option_map about_block o))) ≡ true
 more_end [] None before h = h
@@ -162,7 +162,7 @@ unseen_ends Bare f before = refl
 unseen_ends Unseen f before = refl
 unseen_ends Marked f before = refl
 
--- What stands behind the parameters of a closure ends it.
+-- What follows the parameters of a closure ends it.
 closure_ends : (is_async moves : Bool) (params : List ClosureParam) (f : Form) → ends_in_brace (closure_head is_async moves params f) ≡ ends_in_brace f
 closure_ends true true params f =
     ap (λ b. brace_behind b f) (list_ends true bar bar (map closure_param params) (λ b. refl) (λ b. refl) _)

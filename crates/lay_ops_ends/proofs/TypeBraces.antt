@@ -162,7 +162,7 @@ bound_in (Bound-F.Meets true maybe binder path) = false
 bound_in (Bound-F.Meets false maybe binder path) = ends_in_brace (about_path path Kind).form
 bound_in (Bound-F.Captures captured) = false
 
--- A path behind a `?` and a binder ends as it does by itself.
+-- A path after a `?` and a binder ends as it does by itself.
 meets_ends : (maybe : Bool) (binder : Option Binder) (path : Form) → ends_in_brace (meets_form maybe binder path) ≡ ends_in_brace path
 meets_ends true None path = refl
 meets_ends false None path = refl
@@ -235,7 +235,7 @@ func_ends : (params : List Facts) (variadic : Bool) (output : Option Ty)
 func_ends params variadic None before = rounded (not variadic) (forms params ++ dots variadic) _
 func_ends params variadic (Some x) before = refl
 
--- the same behind a binder, `unsafe` and an ABI
+-- the same after a binder, `unsafe` and an ABI
 whole_ends : (binder : Option Binder) (is_unsafe : Bool) (abi : Option Abi) (params : List Facts) (variadic : Bool) (output : Option Ty)
     → Ends (binder_form binder (when is_unsafe (keyword (codes "unsafe") ∷ Blank ∷ []) (abi_form abi
     (Piece (keyword (codes "fn") ∷ []) (Part (params_form params variadic) (output_form (option_map about_type output))))))) (output_ends output)

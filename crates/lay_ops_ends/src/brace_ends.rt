@@ -1,4 +1,4 @@
-//! Where an `else` may stand behind a value: it ends neither in a `}` nor in a closure, which is found along its right edge.
+//! Where an `else` may stand after a value: it ends neither in a `}` nor in a closure, which is found along its right edge.
 ghost use Rattle.std.specs.Prelude.{◌≡◌, ◌<◌};
 ghost use Rattle.lay_node.specs.nodes.Types.{about_args, about_bound, about_path, about_type};
 ghost use Rattle.lay_node.specs.declared.types.Args.{size-Args};
@@ -48,7 +48,7 @@ enum ClosureEdge<'a> {
     In(&'a Expr),
 }
 
-/// Whether an `else` may stand behind a value.
+/// Whether an `else` may stand after a value.
 pub fn may_precede_else(expr: &Expr) -> bool
     ensures { result ≡ nodes.may_precede_else (about_expr expr.now) }
 {

@@ -1,4 +1,4 @@
-//! What an expression ends in, where an `else` is to stand behind it, and the braces around the bodies of arms and of closures that
+//! What an expression ends in, where an `else` is to stand after it, and the braces around the bodies of arms and of closures that
 //! aren't in the tree.
 #![tactic(auto)]
 

@@ -85,7 +85,7 @@ step : {A B C : Type 0} (o : Option A) (f : A → Option C) (g : A → Option B)
 step None f g h e = refl
 step (Some x) f g h e = e x
 
--- Behind a body the needs are the same.
+-- After a body the needs are the same.
 behind_body : (make : List Attr → List Item → ItemKind) (f g : ℕ → ℕ) (o : Read (List Attr × List Item)) → ((n : ℕ) → f n ≡ g n)
     → (o >>= (λ b. let k : Read ItemKind = Some ((make b.0.0.0 b.0.0.1, f b.0.1), b.1) in k))
     ≡ (o >>= (λ b. Some ((make b.0.0.0 b.0.0.1, g b.0.1), b.1)))

@@ -33,7 +33,7 @@ pub enum ItemLead {
     Call,
 }
 
-/// What the item at the front begins with. Without a word that leads one it is a macro call.
+/// What the item at the beginning begins with. Without a word that leads one it is a macro call.
 pub fn item_lead(at: &Ahead<'_>) -> ItemLead
     ensures { told result ≡ reader.item_lead at.now }
 {
@@ -46,7 +46,7 @@ pub fn item_lead(at: &Ahead<'_>) -> ItemLead
     }
 }
 
-/// What the word leads that stands at the front. What stands behind it is looked at where it may lead a function alone.
+/// What the word leads that comes next. What follows it is looked at where it may lead a function alone.
 fn lead_of_word(word: &[u8], at: &Ahead<'_>) -> ItemLead
     ensures { told result ≡ lead_of_word word.now at.now }
 {
@@ -69,7 +69,7 @@ fn may_lead_function(word: &[u8]) -> bool
         || word == b"extern".as_slice()
 }
 
-/// Whether a function begins at the front: `fn`, behind words that may stand before it.
+/// Whether a function comes next: `fn`, after words that may stand before it.
 fn begins_function(at: &Ahead<'_>) -> bool
     ensures { result ≡ reader.begins_function at.now }
 {
@@ -90,7 +90,7 @@ fn pass_safety(at: &mut Ahead<'_>)
     }
 }
 
-/// Passes an ABI, if one stands at the front.
+/// Passes an ABI, if one comes next.
 fn pass_abi(at: &mut Ahead<'_>)
     ensures { at.new ≡ functions.behind_abi at.old }
 {
@@ -99,7 +99,7 @@ fn pass_abi(at: &mut Ahead<'_>)
     }
 }
 
-/// Whether a string stands at the front.
+/// Whether a string comes next.
 fn is_at_string(at: &Ahead<'_>) -> bool
     ensures { result ≡ first (λ token. functions.is_string_kind token.kind) at.now }
 {
@@ -109,7 +109,7 @@ fn is_at_string(at: &Ahead<'_>) -> bool
     }
 }
 
-/// What the word at the front leads, if it is no function.
+/// What the word at the beginning leads, if it is no function.
 fn led_by(word: &[u8], at: &Ahead<'_>) -> ItemLead
     ensures { told result ≡ led_by word.now at.now }
 {
@@ -188,7 +188,7 @@ fn in_module(site: Site) -> bool
     matches!(site, Site::Module)
 }
 
-/// Whether an item with this lead may stand at the site. Of a function, an alias and a value what is behind the lead
+/// Whether an item with this lead may stand at the site. Of a function, an alias and a value what follows the lead
 /// decides.
 pub fn may_stand(site: Site, lead: ItemLead) -> bool
     ensures { result ≡ may_stand site (told lead) }

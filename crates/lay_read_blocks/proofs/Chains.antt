@@ -44,7 +44,7 @@ let_in attrs head (Ok behind) depth le less = omega (arith, le, less)
 let_in attrs head (Err none) depth le less = tt
 
 module _ (within : ExprWithin) (ts : Tokens) where
-  -- ---- `let`: what stands up to its type, and then what stands behind that
+  -- ---- `let`: what stands up to its type, and then what follows that
 
   abbrev let_made : List Attr → (Pat × Option Ty) × ℕ → ((Option Expr × Option Block) × ℕ) × Tokens → Read Stmt
   let_made attrs h b = Some ((stmt.Let attrs h.0.0 h.0.1 b.0.0.0 b.0.0.1, max h.1 b.0.1), b.1)

@@ -1,4 +1,4 @@
--- What was found behind something else, which is kept beside it.
+-- What was found after something else, which is kept beside it.
 use Rattle.std.proofs.Common.{◌≡◌, ℕ, ◌≤◌, Some, Result, Ok, Err, IfErr, IfOk, MatchResult, ap}
 use Rattle.lay_node.specs.Ahead.{Tokens}
 use Rattle.lay_node.specs.reader.Loops.{Got, Read}
@@ -32,7 +32,7 @@ second_within {A} {B} first depth (Ok x) a b m h =
     rw same h
 second_within first depth (Err e) a b m h = absurd (cc)
 
--- What was read one by one behind it is some list.
+-- What was read one by one after it is some list.
 pub second_held : {A B C : Type 0} (Holds : C → B → Type 0) (read : Got C) (first : A) (rest : Tokens) (r : Result B ReadNone) (a : A) (b : B)
     → MatchResult r (λ x. ◌≡◌ {A = Result (A × B) ReadNone} (Ok (a, b)) (Ok (first, x))) (λ e. ◌≡◌ {A = Result (A × B) ReadNone} (Ok (a, b)) (Err e))
     → IsHeld Holds read r rest → (c : C) × (read ≡ Some (c, rest))

@@ -36,7 +36,7 @@ use Rattle.lay_read_tokens.specs.Answers.{IsFound}
 use Rattle.lay_read_tokens.specs.declared.found.Found.{Found}
 use Rattle.lay_read_tokens.specs.declared.stop.ReadNone.{ReadNone}
 
--- These functions read expressions, blocks behind an `else`, and items at this depth, and the depth one above is a number.
+-- These functions read expressions, blocks after an `else`, and items at this depth, and the depth one above is a number.
 pub record AreCode (depth : ℕ)
     (may_read_expr : Global → MutBor Tokens → Place → ℕ → Type 0)
     (reads_expr : Global → MutBor Tokens → Place → ℕ → Result (Found Expr) ReadNone → MutBor Tokens → Type 0)
@@ -73,14 +73,14 @@ fits budget read = do x ← read; if nat_le x.0.1 budget then Some x else None
 
 -- ---- statements
 
--- the pattern behind `let`, and its type if it has one
+-- the pattern after `let`, and its type if it has one
 abbrev pub let_head : ExprWithin → Tokens → Read (Pat × Option Ty)
 let_head within ts = do
   p ← within.pats Single ts
   t ← if_read (is_op (codes ":") p.1) (λ us. within.kinds.types Bounds (drop 1 us)) p.1
   Some (((p.0.0, t.0.0), max p.0.1 t.0.1), t.1)
 
--- what stands behind these: a value and a block behind an `else`, if they stand there, and a `;`
+-- what follows these: a value and a block after an `else`, if they stand there, and a `;`
 abbrev pub let_behind : ExprWithin → Tokens → Read (Option Expr × Option Block)
 let_behind within ts = do
   x ← if_read (is_op (codes "=") ts) (λ us. within.exprs FREE (drop 1 us)) ts
@@ -100,7 +100,7 @@ body_if within ts = fn_body within ts
 
 -- ---- arms
 
--- what stands behind the pattern of an arm, and its guard if it has one, up to its comma, and whether it may lack that
+-- what follows the pattern of an arm, and its guard if it has one, up to its comma, and whether it may lack that
 abbrev pub arm_behind : ExprWithin → List Attr → Pat × ℕ → Option Expr × ℕ → Tokens → Read (Arm × Bool)
 arm_behind within attrs p g ts = do
   x ← (if is_op (codes "=>") ts then body_begun within (drop 2 ts) else None)
@@ -108,7 +108,7 @@ arm_behind within attrs p g ts = do
 
 -- ---- closures
 
--- what stands behind the parameters of a closure, from its `->` on
+-- what follows the parameters of a closure, from its `->` on
 abbrev pub typed_closure : ExprWithin → Bool → Bool → List ClosureParam → ℕ → Tokens → Read Expr
 typed_closure within is_async moves params need ts = do
   t ← within.kinds.types NoBounds (drop 2 ts)

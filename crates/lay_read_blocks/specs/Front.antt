@@ -4,11 +4,11 @@ use Rattle.lay_piece.specs.declared.kind.Delim.TheVariants.{Brace}
 use Rattle.lay_node.specs.Ahead.{Tokens, first, tail, is_keyword, opens}
 use Rattle.lay_code.specs.reader.Blocks.{begins_with}
 
--- `const` or `unsafe`, and no `{` behind it
+-- `const` or `unsafe`, and no `{` after it
 abbrev pub begins_const_item : Tokens → Bool
 begins_const_item ts = begins_with (codes "const" ∷ codes "unsafe" ∷ []) ts && not (first (opens Brace) (tail ts))
 
--- `async`, and what goes on with a function behind it
+-- `async`, and what goes on with a function after it
 abbrev pub begins_async_fn : Tokens → Bool
 begins_async_fn ts =
     first (is_keyword (codes "async")) ts && begins_with (codes "fn" ∷ codes "unsafe" ∷ codes "extern" ∷ []) (tail ts)

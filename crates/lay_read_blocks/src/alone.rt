@@ -25,7 +25,7 @@ impl<
     B: Fn(Global, &mut Ahead<'_>, u32) -> Result<Found<Block>, ReadNone>,
     I: Fn(Global, &mut Ahead<'_>, Site, u32) -> Result<Found<Item>, ReadNone>,
 > BlockRules<P, B, I> {
-    /// A statement that ends by itself, or behind which no token stands. It stands one level deeper than what is around it.
+    /// A statement that ends by itself, or after which no token stands. It stands one level deeper than what is around it.
     pub fn deeper_stmt(&self, at: &mut Ahead<'_>) -> Result<Found<Stmt>, ReadNone>
         requires { AreCode self.now.depth (P.pre self.now.exprs) (P.post self.now.exprs)
             (B.pre self.now.blocks) (B.post self.now.blocks) (I.pre self.now.items)

@@ -33,7 +33,7 @@ use lay_read_tokens::{Ahead, Found, ReadNone};
 use lay_token::{Delim, List};
 use std::alloc::Global;
 
-/// Arms, as parts that stand one behind another.
+/// Arms, as parts that stand one after another.
 pub struct Arms;
 
 impl Part<Arm, u32> for Arms {
@@ -70,7 +70,7 @@ impl<
     B: Fn(Global, &mut Ahead<'_>, u32) -> Result<Found<Block>, ReadNone>,
     I: Fn(Global, &mut Ahead<'_>, Site, u32) -> Result<Found<Item>, ReadNone>,
 > BlockRules<P, B, I> {
-    /// What stands behind an `=>`, and whether the arm may lack its comma by that.
+    /// What follows an `=>`, and whether the arm may lack its comma by that.
     #[inline(never)]
     fn body_begun(&self, at: &mut Ahead<'_>) -> Result<Found<(Boxed<Expr>, bool)>, ReadNone>
         requires { AreCode self.now.depth (P.pre self.now.exprs) (P.post self.now.exprs)
@@ -148,7 +148,7 @@ impl<
         self.arm_behind(at, attrs, pat, guard)
     }
 
-    /// What stands behind the pattern of an arm, and its guard if it has one.
+    /// What follows the pattern of an arm, and its guard if it has one.
     #[inline(never)]
     fn arm_behind(
         &self,
@@ -186,7 +186,7 @@ impl<
         })
     }
 
-    /// What stands behind `match`, unless it is deeper than may be.
+    /// What follows `match`, unless it is deeper than may be.
     #[tactic(auto, unfolding(lay_code::specs::reader::Exprs::match_expr), using(lay_read_shared::proofs::Left::arm_leaves))]
     #[inline(never)]
     pub fn match_expr(&self, at: &mut Ahead<'_>) -> Result<Found<Boxed<Expr>>, ReadNone>

@@ -21,7 +21,7 @@ use lay_read_tokens::{Ahead, Found, ReadNone};
 use lay_token::{Delim, List};
 use std::alloc::Global;
 
-/// Statements of a block, as parts that stand one behind another.
+/// Statements of a block, as parts that stand one after another.
 pub struct Stmts;
 
 impl Part<Stmt, ()> for Stmts {
@@ -125,7 +125,7 @@ impl<
         )
     }
 
-    /// A statement of a block, and the `;` behind it. One that doesn't end by itself is the last.
+    /// A statement of a block, and the `;` after it. One that doesn't end by itself is the last.
     #[inline(never)]
     fn stmt_in_block(&self, at: &mut Ahead<'_>, _place: ()) -> Result<Found<Stmt>, ReadNone>
         requires { AreCode self.now.depth (P.pre self.now.exprs) (P.post self.now.exprs)

@@ -86,7 +86,7 @@ impl<
         })
     }
 
-    /// Parameters, and the `|` behind them.
+    /// Parameters, and the `|` after them.
     #[tactic(auto, using(lay_read_shared::proofs::Left::param_leaves))]
     #[inline(never)]
     fn params(&self, at: &mut Ahead<'_>) -> Result<Found<List<ClosureParam>>, ReadNone>
@@ -132,7 +132,7 @@ impl<
         self.closure_body(at, no_struct, is_async, moves, params)
     }
 
-    /// What stands behind the parameters of a closure, unless they are too deep together.
+    /// What follows the parameters of a closure, unless they are too deep together.
     #[inline(never)]
     fn closure_body(
         &self,
@@ -170,7 +170,7 @@ impl<
         )
     }
 
-    /// What stands behind the parameters of a closure, from its `->` on.
+    /// What follows the parameters of a closure, from its `->` on.
     #[inline(never)]
     fn typed_closure(
         &self,

@@ -21,7 +21,7 @@ pub(crate) fn pass_semicolons(at: &mut Ahead<'_>)
     }
 }
 
-/// Whether a word that begins an item wherever it stands is at the front.
+/// Whether a word that begins an item wherever it stands is at the beginning.
 fn is_at_item_word(at: &Ahead<'_>) -> bool
     ensures { result ≡ reader.begins_with reader.item_words at.now }
 {
@@ -38,7 +38,7 @@ fn is_at_item_word(at: &Ahead<'_>) -> bool
         || is_at_keyword(at, b"extern")
 }
 
-/// Whether `const` or `unsafe` stands at the front, and no `{` behind it.
+/// Whether `const` or `unsafe` comes next, and no `{` after it.
 fn begins_const_item(at: &Ahead<'_>) -> bool
     ensures { result ≡ begins_const_item at.now }
 {
@@ -48,7 +48,7 @@ fn begins_const_item(at: &Ahead<'_>) -> bool
         && !is_at_opened(&behind, Delim::Brace)
 }
 
-/// Whether `async` stands at the front, and what goes on with a function behind it.
+/// Whether `async` comes next, and what goes on with a function after it.
 fn begins_async_fn(at: &Ahead<'_>) -> bool
     ensures { result ≡ begins_async_fn at.now }
 {
@@ -60,7 +60,7 @@ fn begins_async_fn(at: &Ahead<'_>) -> bool
             || is_at_keyword(&behind, b"extern"))
 }
 
-/// Whether an item begins at the front, and no expression. A macro call is an expression.
+/// Whether an item comes next, and no expression. A macro call is an expression.
 pub fn begins_item(at: &Ahead<'_>) -> bool
     ensures { result ≡ reader.begins_item at.now }
 {
@@ -71,7 +71,7 @@ pub fn begins_item(at: &Ahead<'_>) -> bool
         || begins_rules(at)
 }
 
-/// Whether a union begins at the front: `union` before a name.
+/// Whether a union comes next: `union` before a name.
 pub fn begins_union(at: &Ahead<'_>) -> bool
     ensures { result ≡ leads.begins_union at.now }
 {
@@ -79,7 +79,7 @@ pub fn begins_union(at: &Ahead<'_>) -> bool
     takes_keyword(&mut behind, b"union") && is_at_name(&behind)
 }
 
-/// Whether a macro is declared at the front: `macro_rules` before a `!` and a name.
+/// Whether a macro is declared at the beginning: `macro_rules` before a `!` and a name.
 pub fn begins_rules(at: &Ahead<'_>) -> bool
     ensures { result ≡ leads.begins_rules at.now }
 {

@@ -14,7 +14,7 @@ use lay_read_tokens::{Ahead, Found, ReadNone};
 use std::alloc::Global;
 
 /// The rules of blocks of a level, over the readers of what is one level deeper: of expressions, at a place, of blocks
-/// behind an `else`, and of items, at a site.
+/// after an `else`, and of items, at a site.
 #[derive(Drop)]
 pub struct BlockRules<P, B, I> {
     pub alloc: Global,
@@ -42,7 +42,7 @@ impl<
         (self.exprs)(self.alloc, at, place, self.depth)
     }
 
-    /// A value behind an `=`, if one stands there.
+    /// A value after an `=`, if one stands there.
     pub fn value_if(&self, at: &mut Ahead<'_>) -> Result<Found<Option<Boxed<Expr>>>, ReadNone>
         requires { AreCode self.now.depth (P.pre self.now.exprs) (P.post self.now.exprs)
             (B.pre self.now.blocks) (B.post self.now.blocks) (I.pre self.now.items)

@@ -26,7 +26,7 @@ use lay_read_tokens::{Ahead, Found, ReadNone};
 use lay_token::List;
 use std::alloc::Global;
 
-/// Whether an `else` may stand behind this value, if one stands there.
+/// Whether an `else` may stand after this value, if one stands there.
 fn else_stands(value: &Option<Boxed<Expr>>, otherwise: bool) -> bool
     ensures { result ≡ reader.else_stands value.now otherwise }
 {
@@ -39,7 +39,7 @@ fn else_stands(value: &Option<Boxed<Expr>>, otherwise: bool) -> bool
     }
 }
 
-/// The pattern behind `let`, and its type if it has one.
+/// The pattern after `let`, and its type if it has one.
 #[inline(never)]
 fn let_head(
     alloc: Global,
@@ -57,7 +57,7 @@ fn let_head(
     })
 }
 
-/// A `let` of what was read up to its type and behind that. They are put together in a call of its own, so that no room for the
+/// A `let` of what was read up to its type and after that. They are put together in a call of its own, so that no room for the
 /// moves is held while the value is read.
 #[inline(never)]
 fn let_of(
@@ -153,7 +153,7 @@ impl<
         })
     }
 
-    /// What stands behind `let`.
+    /// What follows `let`.
     #[tactic(auto, unfolding(lay_code::specs::reader::Blocks::let_stmt))]
     #[inline(never)]
     fn let_stmt(&self, at: &mut Ahead<'_>, attrs: List<Attr>) -> Result<Found<Stmt>, ReadNone>
@@ -173,7 +173,7 @@ impl<
         }
     }
 
-    /// What stands behind the pattern of a `let`, and its type if it has one: a value and a block behind an `else`, if they
+    /// What follows the pattern of a `let`, and its type if it has one: a value and a block after an `else`, if they
     /// stand there, and a `;`.
     #[inline(never)]
     fn let_behind(
@@ -197,7 +197,7 @@ impl<
         })
     }
 
-    /// The block behind an `else`, if one stands there.
+    /// The block after an `else`, if one stands there.
     #[inline(never)]
     fn else_if(&self, at: &mut Ahead<'_>) -> Result<Found<Option<Block>>, ReadNone>
         requires { AreCode self.now.depth (P.pre self.now.exprs) (P.post self.now.exprs)

@@ -46,7 +46,7 @@ module _ (within : ExprWithin) (ts : Tokens) where
   branches_read one mid (Err none) left (Err other) e h k =
       rw k (lost (repeat begins_else_if (λ us. branch_by within (drop 2 us)) mid) (branches within ts) none h (λ n. rw (e, n) refl))
 
-  -- ---- `if`: the branches, and then the block behind an `else`
+  -- ---- `if`: the branches, and then the block after an `else`
 
   abbrev if_further : (List Branch × ℕ) × Tokens → Read Expr
   if_further xs = if_read (first (is_keyword (codes "else")) xs.1) (λ us. block_by within (tail us)) xs.1
@@ -70,7 +70,7 @@ module _ (within : ExprWithin) (ts : Tokens) where
   unfolding label_expr
   label_is x left h o = rw (h, o) refl
 
-  -- the expression that a branch is behind `while`
+  -- the expression that a branch is after `while`
   abbrev loop_of : Option Lifetime → (Branch × ℕ) × Tokens → Read Expr
   loop_of label b = Some ((expr.While label b.0.0.condition b.0.0.body, suc b.0.1), b.1)
 

@@ -19,7 +19,7 @@ use Rattle.lay_read_tokens.specs.declared.stop.ReadNone.TheVariants.{NoMemory}
 
 -- ---- conditions
 
--- an operand that the link of an expression is, behind its `&&`
+-- an operand that the link of an expression is, after its `&&`
 abbrev pub and_operand : ReadLink → Op × Expr
 and_operand l = (op.AndAnd, l.1)
 
@@ -47,14 +47,14 @@ IsAlone (Err none) (Err other) = other ≡ none
 
 -- ---- branches
 
--- what stands behind an `if`, and the branches behind `else if`
+-- what follows an `if`, and the branches after `else if`
 abbrev pub branches : ExprWithin → Tokens → Read (List Branch)
 branches within ts = do
   b ← branch_by within ts
   more ← repeat begins_else_if (λ us. branch_by within (drop 2 us)) b.1
   Some ((b.0.0 ∷ nodes more.0, max b.0.1 (deepest more.0)), more.1)
 
--- A branch and those behind it were put into one list, or memory ran out.
+-- A branch and those after it were put into one list, or memory ran out.
 abbrev pub AreBranches : Found Branch → Result (Found (List Branch)) ReadNone → Result (Found (List Branch)) ReadNone → Type 0
 AreBranches one (Ok more) (Ok all) = (all.node ≡ one.node ∷ more.node) × (all.need ≡ max one.need more.need)
 AreBranches one (Ok more) (Err none) = none ≡ NoMemory
@@ -63,7 +63,7 @@ AreBranches one (Err none) (Err other) = other ≡ none
 
 -- ---- what begins an expression
 
--- a block behind its `unsafe`, `const` or `async`
+-- a block after its `unsafe`, `const` or `async`
 abbrev pub worded_block : ExprWithin → Tokens → Read Expr
 worded_block within ts =
     if first (is_keyword (codes "unsafe")) ts then block_expr within expr.Unsafe (tail ts)

@@ -24,14 +24,14 @@ use lay_read_tokens::{Ahead, Found, ReadNone};
 use lay_token::List;
 use std::alloc::Global;
 
-/// Branches behind `else if`, as parts that stand one behind another.
+/// Branches after `else if`, as parts that stand one after another.
 pub struct Branches;
 
 impl Part<Branch, ()> for Branches {
     ghost reads = { λ depth place ts. reader.branch_by (code_within depth) (drop 2 ts) };
 }
 
-/// A branch and those behind it, in one list. They are put together in a call of its own, so that no room for the moves is held
+/// A branch and those after it, in one list. They are put together in a call of its own, so that no room for the moves is held
 /// while branches are read.
 #[inline(never)]
 fn branches_of(
@@ -51,7 +51,7 @@ impl<
     B: Fn(Global, &mut Ahead<'_>, u32) -> Result<Found<Block>, ReadNone>,
     I: Fn(Global, &mut Ahead<'_>, Site, u32) -> Result<Found<Item>, ReadNone>,
 > BranchRules<P, B, I> {
-    /// What stands behind an `if`.
+    /// What follows an `if`.
     #[tactic(auto, unfolding(lay_code::specs::reader::Blocks::branch_by))]
     #[inline(never)]
     pub fn branch_by(&self, at: &mut Ahead<'_>) -> Result<Found<Branch>, ReadNone>
@@ -74,7 +74,7 @@ impl<
         })
     }
 
-    /// A branch behind its `else if`.
+    /// A branch after its `else if`.
     #[inline(never)]
     fn else_branch(&self, at: &mut Ahead<'_>, _place: ()) -> Result<Found<Branch>, ReadNone>
         requires { AreCode self.now.rules.depth (P.pre self.now.rules.exprs)
@@ -89,7 +89,7 @@ impl<
         self.branch_by(at)
     }
 
-    /// The block behind an `else`, if one stands there. It is as deep as those of the branches.
+    /// The block after an `else`, if one stands there. It is as deep as those of the branches.
     #[inline(never)]
     fn otherwise(&self, at: &mut Ahead<'_>) -> Result<Found<Option<Block>>, ReadNone>
         requires { AreCode self.now.rules.depth (P.pre self.now.rules.exprs)
@@ -113,7 +113,7 @@ impl<
         })
     }
 
-    /// What stands behind an `if`, and the branches behind `else if`.
+    /// What follows an `if`, and the branches after `else if`.
     #[inline(never)]
     fn branches(&self, at: &mut Ahead<'_>) -> Result<Found<List<Branch>>, ReadNone>
         requires { AreCode self.now.rules.depth (P.pre self.now.rules.exprs)
@@ -132,7 +132,7 @@ impl<
         }
     }
 
-    /// The branches behind `else if`, as long as one begins.
+    /// The branches after `else if`, as long as one begins.
     #[tactic(auto, using(lay_read_shared::proofs::Left::branch_leaves))]
     #[inline(never)]
     fn else_branches(&self, at: &mut Ahead<'_>) -> Result<Found<List<Branch>>, ReadNone>
@@ -156,7 +156,7 @@ impl<
         )
     }
 
-    /// What stands behind an `if`, with all its branches.
+    /// What follows an `if`, with all its branches.
     #[tactic(auto, using(crate::proofs::Chains::if_is))]
     #[inline(never)]
     pub fn if_expr(&self, at: &mut Ahead<'_>) -> Result<Found<Boxed<Expr>>, ReadNone>
@@ -180,7 +180,7 @@ impl<
         )
     }
 
-    /// What stands behind `while`.
+    /// What follows `while`.
     #[tactic(auto, unfolding(lay_code::specs::reader::Exprs::while_expr))]
     #[inline(never)]
     pub fn while_expr(
@@ -210,7 +210,7 @@ impl<
         )
     }
 
-    /// What stands behind `for`.
+    /// What follows `for`.
     #[tactic(auto, unfolding(lay_code::specs::reader::Exprs::for_expr))]
     #[inline(never)]
     pub fn for_expr(

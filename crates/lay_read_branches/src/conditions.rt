@@ -1,7 +1,7 @@
 //! Conditions: links with `&&` between them.
 //!
 //! Links are read one by one. Where none of them is a `let`, they are the first operands of an expression, and the operators
-//! behind them are read from their level on.
+//! after them are read from their level on.
 ghost use Rattle.std.specs.Prelude.{◌≡◌, ◌==◌, ◌+◌, ◌^◌, ◌<◌, ◌≤◌, ◌∷◌, if◌then◌else◌, drop, map, max, true, IfErr, IfOk};
 ghost use Rattle.std.specs.List.{list_any};
 ghost use Rattle.lay_node.specs.Follow as follow;
@@ -32,14 +32,14 @@ use lay_read_tokens::{Ahead, Found, ReadNone};
 use lay_token::List;
 use std::alloc::Global;
 
-/// Links behind an `&&`, as parts that stand one behind another.
+/// Links after an `&&`, as parts that stand one after another.
 pub struct Links;
 
 impl Part<(Option<Pat>, Boxed<Expr>), ()> for Links {
     ghost reads = { λ depth place ts. reader.one_link (code_within depth) (drop 2 ts) };
 }
 
-/// Whether a range without a start begins at the front.
+/// Whether a range without a start comes next.
 fn begins_dots(at: &Ahead<'_>) -> bool
     ensures { result ≡ follow.begins_dots at.now }
 {
@@ -66,7 +66,7 @@ fn has_let(links: &[(Option<Pat>, Boxed<Expr>)]) -> bool
     false
 }
 
-/// A link of the pattern behind its `let`, if it has one, and of its expression.
+/// A link of the pattern after its `let`, if it has one, and of its expression.
 fn linked(read: (Option<Pat>, Boxed<Expr>)) -> Link
     ensures { result ≡ reader.linked read }
 {
@@ -159,7 +159,7 @@ impl<
     B: Fn(Global, &mut Ahead<'_>, u32) -> Result<Found<Block>, ReadNone>,
     I: Fn(Global, &mut Ahead<'_>, Site, u32) -> Result<Found<Item>, ReadNone>,
 > BranchRules<P, B, I> {
-    /// What stands behind the `let` of a link.
+    /// What follows the `let` of a link.
     #[tactic(auto, unfolding(lay_code::specs::reader::Conditions::let_link))]
     #[inline(never)]
     fn let_link(&self, at: &mut Ahead<'_>) -> Result<Found<(Option<Pat>, Boxed<Expr>)>, ReadNone>
@@ -246,7 +246,7 @@ impl<
         self.one_link(at)
     }
 
-    /// The links that follow the first one, each behind an `&&`.
+    /// The links that follow the first one, each after an `&&`.
     #[tactic(auto, unfolding(lay_code::specs::reader::Conditions::further_links), using(lay_read_shared::proofs::Left::link_leaves))]
     #[inline(never)]
     fn further_links(

@@ -49,7 +49,7 @@ impl<
         }
     }
 
-    /// A block or a loop behind its label.
+    /// A block or a loop after its label.
     #[tactic(auto, unfolding(lay_code::specs::reader::Exprs::label_expr))]
     #[inline(never)]
     fn label_expr(&self, at: &mut Ahead<'_>) -> Result<Found<Boxed<Expr>>, ReadNone>
@@ -68,7 +68,7 @@ impl<
         self.labelled_expr(at, Some(label))
     }
 
-    /// A block or a loop, behind its label if it has one.
+    /// A block or a loop, after its label if it has one.
     #[inline(never)]
     fn labelled_expr(
         &self,
@@ -135,7 +135,7 @@ impl<
         self.worded(at)
     }
 
-    /// A block behind its `unsafe`, `const` or `async`.
+    /// A block after its `unsafe`, `const` or `async`.
     #[inline(never)]
     fn worded_block(&self, at: &mut Ahead<'_>) -> Result<Found<Boxed<Expr>>, ReadNone>
         requires { AreCode self.now.rules.depth (P.pre self.now.rules.exprs)

@@ -1,4 +1,4 @@
--- What stands at the front at a depth, an expression or what stands by itself, stands there at each greater one.
+-- What stands at the beginning at a depth, an expression or what stands by itself, stands there at each greater one.
 use Rattle.std.proofs.Common.{ℕ, ◌≤◌, drop}
 use Rattle.lay_form.specs.Form.{Deeper, Done}
 use Rattle.lay_form.proofs.FormLaws.{deeper}

@@ -29,7 +29,7 @@ use Rattle.lay_read_tokens.proofs.Lexed.{lexed_in_text, lexed_texts}
 
 module _ (depth : ℕ) (tokens : List Token) (l : AreLexed tokens) (attrs : List Attr) (items : List Item) (left : List Token)
     (e : front depth tokens ≡ ((attrs, items), left)) where
-  -- The run that is read is spelled, as a file that can be written behind any good shebang.
+  -- The run that is read is spelled, as a file that can be written after any good shebang.
   front_spelled : (shebang : Option (List ℕ)) → IsTrue (is_good_shebang shebang)
       → (let file : File = record { shebang = shebang; attrs = attrs; items = items } in Written file × Spells (form_of_file file) depth tokens left)
   front_spelled shebang good =
@@ -49,13 +49,13 @@ module _ (depth : ℕ) (tokens : List Token) (l : AreLexed tokens) (attrs : List
       let least = front_longest depth file.0 tokens (drop more tokens) (lexed_in_text tokens l) file.2 file.1.normal in
       omega (arith, least, f.0, length-drop more tokens, ap (λ (run : (List Attr × List Item) × List Token). length run.1) e)
 
--- Where nothing is left behind the run, it is a file.
+-- Where nothing is left after the run, it is a file.
 pub file_spelled : (depth : ℕ) (tokens : List Token) (shebang : Option (List ℕ)) (attrs : List Attr) (items : List Item)
     → AreLexed tokens → IsTrue (is_good_shebang shebang)
     → front depth tokens ≡ ((attrs, items), []) → SpellsFile depth (record { shebang = shebang; attrs = attrs; items = items }) tokens
 file_spelled depth tokens shebang attrs items l good e = front_spelled depth tokens l attrs items [] e shebang good
 
--- Where a token is left behind it, no item begins there.
+-- Where a token is left after it, no item begins there.
 pub no_item : (depth : ℕ) (tokens : List Token) (attrs : List Attr) (items : List Item) (token : Token) (rest : List Token)
     → AreLexed tokens → front depth tokens ≡ ((attrs, items), token ∷ rest) → NoItemAt depth tokens token.at
 no_item depth tokens attrs items token rest l e =
@@ -81,7 +81,7 @@ no_item depth tokens attrs items token rest l e =
 parted : (before ts after : List Token) (n : ℕ) → before ++ take n ts ++ drop n ts ++ after ≡ before ++ ts ++ after
 parted before ts after n = rw (append_assoc before (take n ts) (drop n ts), take-append-drop n ts) refl
 
--- What stands behind tokens of a text stands in it too.
+-- What follows tokens of a text stands in it too.
 lexed_behind : (n : ℕ) (ts : List Token) → AreLexed ts → AreLexed (drop n ts)
 lexed_behind n ts l = record {
   bytes = l.bytes;
@@ -97,7 +97,7 @@ lexed_behind n ts l = record {
 abbrev AttrFront : Attr → Tokens → ℕ → ℕ → Type 0
 AttrFront attr = Front (about_attr true attr)
 
--- The tokens behind an attribute stand in a row too.
+-- The tokens after an attribute stand in a row too.
 pub lexed_attr : (ts rest : Tokens) (attr : Attr) → AreLexed ts → StandsBefore AttrFront 0 ts attr rest → AreLexed rest
 lexed_attr ts rest attr l s = subst AreLexed (sym s.1) (lexed_behind s.0 ts l)
 

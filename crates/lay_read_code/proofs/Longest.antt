@@ -57,7 +57,7 @@ pub next_none : {A : Type 0} (got : Got A) (o : Option A) (ahead left : Tokens) 
     → (got ≡ None) × (left ≡ ahead)
 next_none got o ahead left h e = let there : (got ≡ None) × (left ≡ ahead) = rw e at h in there
 
--- both runs, one behind the other
+-- both runs, one after the other
 pub front_is : (depth : ℕ) (ts mid rest : Tokens) (attrs : List Attr) (items : List Item) → longest (attribute true) ts ≡ (attrs, mid)
     → longest (file_item depth) mid ≡ (items, rest) → front depth ts ≡ ((attrs, items), rest)
 unfolding front

@@ -13,7 +13,7 @@ use lay_read_tokens::{Ahead, ReadNone, read_attr};
 use lay_token::{FormatError, List, NoMemory, Refusal, Text};
 use std::alloc::Global;
 
-/// The one file that the tokens spell behind this shebang, or the refusal where they spell none: at the token before
+/// The one file that the tokens spell after this shebang, or the refusal where they spell none: at the token before
 /// which the longest run of inner attributes and then items ends.
 ///
 /// The items of the file stand at the depth, and those within another item one lower; at 0 none is read. So no more of the
@@ -74,7 +74,7 @@ fn inner_attrs(alloc: Global, at: &mut Cursor<'_>) -> Result<List<Attr>, NoMemor
     Ok(attrs)
 }
 
-/// The inner attribute at the front, or none. Where there is none the cursor stays.
+/// The inner attribute at the beginning, or none. Where there is none the cursor stays.
 fn next_attr(alloc: Global, at: &mut Cursor<'_>) -> Result<Option<Attr>, NoMemory>
     requires { AreLexed at.old }
     ensures next { IsNext (attribute true at.old) result at.old at.new }
@@ -98,7 +98,7 @@ fn top_items(alloc: Global, at: &mut Ahead<'_>, depth: u32) -> Result<List<Item>
     Ok(items)
 }
 
-/// The item of a file at the front, or none. Where there is none the place stays.
+/// The item of a file at the beginning, or none. Where there is none the place stays.
 fn next_item(alloc: Global, at: &mut Ahead<'_>, depth: u32) -> Result<Option<Item>, NoMemory>
     ensures { IsNext (file_item depth at.old) result at.old at.new }
 {

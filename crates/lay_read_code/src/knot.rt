@@ -57,7 +57,7 @@ pub fn expr_ahead(
     Climber { rules, heads }.expr_by(at, place)
 }
 
-/// A block behind an `else`, within a depth. It stands one level deeper than what is around it.
+/// A block after an `else`, within a depth. It stands one level deeper than what is around it.
 #[cycle(code)]
 #[inline(never)]
 pub fn block_ahead(alloc: Global, at: &mut Ahead<'_>, depth: u32) -> Result<Found<Block>, ReadNone>
@@ -258,7 +258,7 @@ fn read_block_if(
     rules.fn_body(at)
 }
 
-/// The value of a constant or a static, if it has one, and the `;` behind it. The value stands within the depth.
+/// The value of a constant or a static, if it has one, and the `;` after it. The value stands within the depth.
 #[cycle(code)]
 #[inline(never)]
 fn read_value_if(

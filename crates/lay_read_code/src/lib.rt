@@ -1,7 +1,7 @@
 //! From nested tokens to expressions, blocks and items, and to the tree of a file.
 //!
 //! [`read_file`] answers the one file that the tokens spell, or refuses them where they spell none, [`read_item`] the item
-//! at the front, at its site, [`read_expr`] the expression at the front, at its place, and [`read_block`], [`read_stmt`]
+//! at the beginning, at its site, [`read_expr`] the expression at the beginning, at its place, and [`read_block`], [`read_stmt`]
 //! and [`read_arm`] what their names say. Each reader is proved equal to a
 //! function of the tokens ahead that `lay_code` defines, and that function reads what is spelled and nothing else.
 //!

@@ -1,4 +1,4 @@
-//! What stands at the front of the tokens of a text.
+//! What stands at the beginning of the tokens of a text.
 ghost use Rattle.lay_node.specs.nodes.Facts.{Front};
 ghost use Rattle.lay_code.specs.nodes.Code.{about_expr, about_item};
 ghost use Rattle.lay_code.specs.nodes.Exprs.{ExprFront};
@@ -16,7 +16,7 @@ use lay_read_blocks::BlockRules;
 use lay_read_tokens::{Ahead, Found, ReadNone};
 use std::alloc::Global;
 
-/// The expression at the front, at its place and within the depth. Where there is none the cursor stays.
+/// The expression at the beginning, at its place and within the depth. Where there is none the cursor stays.
 pub fn read_expr(
     alloc: Global,
     at: &mut Cursor<'_>,
@@ -33,7 +33,7 @@ pub fn read_expr(
     Ok(found.node.into_inner())
 }
 
-/// The item at the front, at its site and within the depth. Where there is none the cursor stays.
+/// The item at the beginning, at its site and within the depth. Where there is none the cursor stays.
 pub fn read_item(
     alloc: Global,
     at: &mut Cursor<'_>,
@@ -49,7 +49,7 @@ pub fn read_item(
     Ok(found.node)
 }
 
-/// The block at the front, within the depth. What is within it stands one level deeper. Where there is none the cursor
+/// The block at the beginning, within the depth. What is within it stands one level deeper. Where there is none the cursor
 /// stays.
 pub fn read_block(alloc: Global, at: &mut Cursor<'_>, depth: u32) -> Result<Block, ReadNone>
     requires { AreLexed at.old }
@@ -61,7 +61,7 @@ pub fn read_block(alloc: Global, at: &mut Cursor<'_>, depth: u32) -> Result<Bloc
     Ok(found.node)
 }
 
-/// The statement at the front, within the depth. What is within it stands one level deeper. An expression without a `;` that
+/// The statement at the beginning, within the depth. What is within it stands one level deeper. An expression without a `;` that
 /// neither is block-like nor a macro call in braces is one only where no token follows. Where there is none the cursor stays.
 pub fn read_stmt(alloc: Global, at: &mut Cursor<'_>, depth: u32) -> Result<Stmt, ReadNone>
     requires { AreLexed at.old }
@@ -73,7 +73,7 @@ pub fn read_stmt(alloc: Global, at: &mut Cursor<'_>, depth: u32) -> Result<Stmt,
     Ok(found.node)
 }
 
-/// The arm of a match at the front, within the depth. What is within it stands one level deeper. A comma behind it is its own;
+/// The arm of a match at the beginning, within the depth. What is within it stands one level deeper. A comma after it is its own;
 /// it may lack that where its body lets it, and where no token follows. Where there is none the cursor stays.
 pub fn read_arm(alloc: Global, at: &mut Cursor<'_>, depth: u32) -> Result<Arm, ReadNone>
     requires { AreLexed at.old }

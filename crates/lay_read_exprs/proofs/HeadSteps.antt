@@ -15,7 +15,7 @@ use Rattle.lay_read_operators.specs.Answers.{climbed}
 use Rattle.lay_read_operators.proofs.Climbing.{NeedsAt, accepted_none, climb_needs, needs_if}
 
 module _ (deeper : ExprWithin) (budget : ℕ) (place : Place) where
-  -- an expression with what stands behind what begins it
+  -- an expression with what follows what begins it
   abbrev from_head : Read Expr → Read Expr
   from_head o = o >>= (λ h. r.climb_by deeper place h.0 h.1 >>= (λ x. accepted budget place x.0 x.1))
 

@@ -16,7 +16,7 @@ use Rattle.lay_ops.specs.declared.operands.ExprLead.TheVariants as lead
 
 -- ---- in delimiters
 
--- what stands behind a `[` and an expression, where it is no `;`
+-- what follows a `[` and an expression, where it is no `;`
 abbrev pub array_by : ExprWithin → Expr × ℕ → Tokens → Read Expr
 array_by within x ts =
     if first (closes Bracket) ts then Some ((expr.Array (x.0 ∷ []), suc x.1), tail ts)
@@ -27,11 +27,11 @@ array_by within x ts =
 
 -- ---- what begins with a path
 
--- a field behind its number and the `:`
+-- a field after its number and the `:`
 abbrev pub numbered_field : ExprWithin → List Attr → List ℕ → Tokens → Read FieldExpr
 numbered_field within attrs index ts = field_by within attrs (Some (index, ts)) ts
 
--- what stands behind the fields of a struct literal, of which it is known whether they ended
+-- what follows the fields of a struct literal, of which it is known whether they ended
 abbrev pub struct_by : ExprWithin → Path × ℕ → (List FieldExpr × Bool) × ℕ → Tokens → Read Expr
 struct_by within p fields ts = do
   b ← base within fields.0.1 ts
@@ -44,7 +44,7 @@ path_or_call within no_struct ts = if begins_call ts then call_expr ts else path
 
 -- ---- what begins an expression
 
--- an expression behind the token that begins it
+-- an expression after the token that begins it
 abbrev pub marked : ExprWithin → Bool → ExprLead → Tokens → Read Expr
 marked within no_struct lead.Underscore ts = Some ((expr.Underscore, 1), ts)
 marked within no_struct lead.Paren ts = paren_expr within ts

@@ -1,4 +1,4 @@
-//! Expressions: what begins one, and the operators behind it.
+//! Expressions: what begins one, and the operators after it.
 ghost use Rattle.std.specs.Prelude.{◌≡◌, ◌+◌, ◌≤◌, IfOk};
 ghost use Rattle.lay_code.specs.reader.Exprs as reader;
 ghost use Rattle.lay_read_tokens.specs.Answers.{IsFound};

@@ -18,7 +18,7 @@ use lay_read_tokens::{Ahead, Found, ReadNone};
 use lay_token::{Delim, List};
 use std::alloc::Global;
 
-/// How often an expression stands in an array, behind the `;`.
+/// How often an expression stands in an array, after the `;`.
 fn repeat_by(
     alloc: Global,
     at: &mut Ahead<'_>,
@@ -46,7 +46,7 @@ impl<P: Fn(Global, &mut Ahead<'_>, Place, u32) -> Result<Found<Boxed<Expr>>, Rea
     P,
     H,
 > {
-    /// What stands behind a `(`.
+    /// What follows a `(`.
     #[tactic(auto, unfolding(lay_code::specs::reader::Exprs::paren_expr))]
     #[inline(never)]
     pub fn paren_expr(&self, at: &mut Ahead<'_>) -> Result<Found<Boxed<Expr>>, ReadNone>
@@ -69,7 +69,7 @@ impl<P: Fn(Global, &mut Ahead<'_>, Place, u32) -> Result<Found<Boxed<Expr>>, Rea
         self.paren_by(at, first)
     }
 
-    /// What stands behind a `(` and an expression.
+    /// What follows a `(` and an expression.
     #[inline(never)]
     fn paren_by(
         &self,
@@ -102,7 +102,7 @@ impl<P: Fn(Global, &mut Ahead<'_>, Place, u32) -> Result<Found<Boxed<Expr>>, Rea
         )
     }
 
-    /// What stands behind a `[`.
+    /// What follows a `[`.
     #[tactic(auto, unfolding(lay_code::specs::reader::Exprs::bracket_expr))]
     #[inline(never)]
     pub fn bracket_expr(&self, at: &mut Ahead<'_>) -> Result<Found<Boxed<Expr>>, ReadNone>
@@ -129,7 +129,7 @@ impl<P: Fn(Global, &mut Ahead<'_>, Place, u32) -> Result<Found<Boxed<Expr>>, Rea
         }
     }
 
-    /// What stands behind a `[` and an expression, where it is no `;`.
+    /// What follows a `[` and an expression, where it is no `;`.
     #[inline(never)]
     fn array_by(
         &self,

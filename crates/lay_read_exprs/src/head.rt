@@ -35,7 +35,7 @@ impl<
     P: Fn(Global, &mut Ahead<'_>, Place, u32) -> Result<Found<Boxed<Expr>>, ReadNone>,
     H: BlockHeads,
 > Climber<P, H> {
-    /// What begins an expression, without the operators behind it, unless it is deeper than may be.
+    /// What begins an expression, without the operators after it, unless it is deeper than may be.
     #[inline(never)]
     pub fn head(&self, at: &mut Ahead<'_>, no_struct: bool) -> Result<Found<Boxed<Expr>>, ReadNone>
         requires deeper { AreExprs self.now.rules.depth (P.pre self.now.rules.exprs)

@@ -1,6 +1,6 @@
-//! From nested tokens to expressions: what begins one, with the operators behind it.
+//! From nested tokens to expressions: what begins one, with the operators after it.
 //!
-//! What begins an expression is read, and then the operators behind it that its place allows, by
+//! What begins an expression is read, and then the operators after it that its place allows, by
 //! precedence climbing. Each rule stands over a function that reads expressions one level deeper,
 //! and over what reads those that begin with a block. It is proved equal to a function of the
 //! tokens ahead that `lay_code` defines, and that function reads what is spelled and nothing else.

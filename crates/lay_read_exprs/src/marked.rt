@@ -17,7 +17,7 @@ impl<P: Fn(Global, &mut Ahead<'_>, Place, u32) -> Result<Found<Boxed<Expr>>, Rea
     P,
     H,
 > {
-    /// What begins an expression, behind its first token.
+    /// What begins an expression, after its first token.
     #[inline(never)]
     pub fn marked(
         &self,

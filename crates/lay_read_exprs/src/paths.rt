@@ -51,7 +51,7 @@ impl<P: Fn(Global, &mut Ahead<'_>, Place, u32) -> Result<Found<Boxed<Expr>>, Rea
         }
     }
 
-    /// A path, and what stands behind it.
+    /// A path, and what follows it.
     #[tactic(auto, unfolding(lay_code::specs::reader::Exprs::path_expr))]
     #[inline(never)]
     fn path_expr(&self, at: &mut Ahead<'_>, no_struct: bool) -> Result<Found<Boxed<Expr>>, ReadNone>

@@ -32,7 +32,7 @@ impl<P: Fn(Global, &mut Ahead<'_>, Place, u32) -> Result<Found<Boxed<Expr>>, Rea
     P,
     H,
 > {
-    /// Fields in braces, behind a path and the `{`.
+    /// Fields in braces, after a path and the `{`.
     #[tactic(auto, unfolding(lay_code::specs::reader::Exprs::struct_expr), using(lay_read_shared::proofs::Left::field_leaves))]
     #[inline(never)]
     pub fn struct_expr(
@@ -62,7 +62,7 @@ impl<P: Fn(Global, &mut Ahead<'_>, Place, u32) -> Result<Found<Boxed<Expr>>, Rea
         self.struct_by(at, path, found)
     }
 
-    /// What stands behind the fields, of which it is known whether they ended.
+    /// What follows the fields, of which it is known whether they ended.
     #[inline(never)]
     fn struct_by(
         &self,
@@ -95,7 +95,7 @@ impl<P: Fn(Global, &mut Ahead<'_>, Place, u32) -> Result<Found<Boxed<Expr>>, Rea
         )
     }
 
-    /// A base, if the fields ended and a `..` stands behind them.
+    /// A base, if the fields ended and a `..` stands after them.
     #[tactic(auto, unfolding(lay_code::specs::reader::Exprs::base))]
     #[inline(never)]
     fn base(
@@ -147,7 +147,7 @@ impl<P: Fn(Global, &mut Ahead<'_>, Place, u32) -> Result<Found<Boxed<Expr>>, Rea
         }
     }
 
-    /// A field behind its number and the `:`.
+    /// A field after its number and the `:`.
     #[inline(never)]
     fn numbered_field(
         &self,
@@ -172,7 +172,7 @@ impl<P: Fn(Global, &mut Ahead<'_>, Place, u32) -> Result<Found<Boxed<Expr>>, Rea
         })
     }
 
-    /// A field that is called by its name, behind its attributes.
+    /// A field that is called by its name, after its attributes.
     #[inline(never)]
     fn worded_field(
         &self,
@@ -189,7 +189,7 @@ impl<P: Fn(Global, &mut Ahead<'_>, Place, u32) -> Result<Found<Boxed<Expr>>, Rea
         self.named_field(at, attrs, name)
     }
 
-    /// A field behind its name.
+    /// A field after its name.
     #[inline(never)]
     fn named_field(
         &self,

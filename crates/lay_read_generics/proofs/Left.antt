@@ -1,4 +1,4 @@
--- What reading of generic parameters and where clauses leaves: the tokens behind those that are read.
+-- What reading of generic parameters and where clauses leaves: the tokens after those that are read.
 use Rattle.std.proofs.Common.{ℕ, false, List, drop, codes, arith}
 use Rattle.lay_token.specs.Operators.{is_op}
 use Rattle.lay_node.specs.Ahead.{Tokens, first, tail, is_keyword, is_lifetime, is_mark}

@@ -32,7 +32,7 @@ impl Part<GenericParam, ()> for Params {
 }
 
 impl Level {
-    /// Bounds behind a `:`, none where none begins.
+    /// Bounds after a `:`, none where none begins.
     pub fn met(&self, at: &mut Ahead<'_>) -> Result<Found<List<Bound>>, ReadNone>
         ensures read { IsFound (reader.met (within self.now.depth) at.old) result at.new }
         ensures within { IfOk result (λ found. found.need ≤ self.now.depth) }
@@ -81,7 +81,7 @@ impl Level {
         })
     }
 
-    /// A parameter that is a type, behind its attributes.
+    /// A parameter that is a type, after its attributes.
     #[tactic(auto, unfolding(lay_node::specs::reader::Generics::type_param))]
     fn type_param(
         &self,
@@ -107,7 +107,7 @@ impl Level {
         })
     }
 
-    /// A parameter that is a constant, behind its keyword.
+    /// A parameter that is a constant, after its keyword.
     #[tactic(auto, unfolding(lay_node::specs::reader::Generics::const_param))]
     fn const_param(
         &self,
@@ -158,7 +158,7 @@ impl Level {
         }
     }
 
-    /// Generic parameters behind a `<`, and the `>` behind them.
+    /// Generic parameters after a `<`, and the `>` after them.
     #[tactic(auto, using(crate::proofs::Left::one_param_leaves))]
     fn params(&self, at: &mut Ahead<'_>) -> Result<Found<List<GenericParam>>, ReadNone>
         ensures read { IsFound (gathered (elements (is_mark (codes ">"))

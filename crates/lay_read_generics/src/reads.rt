@@ -1,4 +1,4 @@
-//! What stands at the front of the tokens of a text.
+//! What stands at the beginning of the tokens of a text.
 ghost use Rattle.lay_node.specs.nodes.Generics.{GenericsFront};
 ghost use Rattle.lay_node.specs.nodes.Where.{WheresFront};
 ghost use Rattle.lay_read_tokens.specs.Answers.{AreLexed};
@@ -10,7 +10,7 @@ use lay_node::{Generics, Wheres};
 use lay_read_tokens::{Ahead, ReadNone};
 use std::alloc::Global;
 
-/// The generic parameters at the front, within the depth. What is within stands one level deeper. Where there is
+/// The generic parameters at the beginning, within the depth. What is within stands one level deeper. Where there is
 /// none the cursor stays.
 pub fn read_generics(alloc: Global, at: &mut Cursor<'_>, depth: u32) -> Result<Generics, ReadNone>
     requires { AreLexed at.old }
@@ -25,7 +25,7 @@ pub fn read_generics(alloc: Global, at: &mut Cursor<'_>, depth: u32) -> Result<G
     Ok(found.node.0)
 }
 
-/// The where clause at the front, within the depth. What is within stands one level deeper. Where there is none the
+/// The where clause at the beginning, within the depth. What is within stands one level deeper. Where there is none the
 /// cursor stays.
 pub fn read_wheres(alloc: Global, at: &mut Cursor<'_>, depth: u32) -> Result<Wheres, ReadNone>
     requires { AreLexed at.old }

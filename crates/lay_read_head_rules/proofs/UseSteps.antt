@@ -11,9 +11,9 @@ use Rattle.lay_node.specs.declared.use_tree.UseEnd.{UseEnd}
 use Rattle.lay_node.specs.declared.use_tree.UseEnd.TheVariants as use_end
 use Rattle.lay_node.specs.declared.use_tree.UseTree.{UseTree}
 
--- ---- the front
+-- ---- the beginning
 
--- what is read behind the `::`, if one stands at the front
+-- what is read after the `::`, if one comes next
 behind_colons : {A : Type 0} (f : Bool → Tokens → A) (b : Bool) (ts : Tokens) (flag : Bool) (mid : Tokens)
     → flag ≡ b → mid ≡ (if flag then drop 2 ts else ts)
     → (let pair : Bool × Tokens = if b then (true, drop 2 ts) else (false, ts) in f pair.0 pair.1) ≡ f flag mid
@@ -36,7 +36,7 @@ module _ (within : Tokens → Read UseTree) (ts : Tokens) where
 pub deeper : {X : Type 0} (f : ℕ → X) (n : ℕ) → 0 < n → f n ≡ f (suc (n - 1))
 deeper f n some = let e : n ≡ suc (n - 1) = omega arith in ap f e
 
--- what a use tree is, behind the `::` that it may begin with
+-- what a use tree is, after the `::` that it may begin with
 abbrev use_behind : (Tokens → Read UseTree) → Bool → Tokens → Read UseTree
 use_behind within flag mid =
     path_words mid >>= (λ p. use_end_by within p.1 >>= (λ end. ended

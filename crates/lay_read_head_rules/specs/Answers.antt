@@ -26,26 +26,26 @@ use Rattle.lay_node.specs.declared.vis.Vis.{Vis}
 use Rattle.lay_node.specs.declared.vis.Vis.TheVariants as vis
 use Rattle.lay_read_head_rules.specs.declared.functions.Qualifiers.{Qualifiers}
 
--- what stands behind `pub`, where it is no word in parentheses
+-- what follows `pub`, where it is no word in parentheses
 abbrev pub vis_in : Tokens → Got Vis
 vis_in ts = if restricts_in ts then vis_path (drop 2 ts) else Some (vis.Public, ts)
 
 abbrev pub none_receives : List Param → Bool
 none_receives ps = list_all (λ (p : Param). not (is_receiver p.kind)) ps
 
--- parameters, if they stand in order, and the `)` behind them
+-- parameters, if they stand in order, and the `)` after them
 abbrev pub closed_params : (List Param × Bool) × ℕ → Tokens → Read (List Param)
 closed_params ps ts = do
   rest ← passed (closes Paren) ts
   if are_in_order ps.0.0 ps.0.1 then Some ((ps.0.0, ps.1), rest) else None
 
--- a struct whose fields have names, behind its name and its where clause
+-- a struct whose fields have names, after its name and its where clause
 abbrev pub named_struct : Within → (Name × Generics) × ℕ → (Wheres × Bool) × ℕ → Tokens → Read Struct
 named_struct within c w ts = do
   fs ← named_fields within ts
   Some ((record { name = c.0.0; generics = c.0.1; fields = fields.Named fs.0.0; wheres = w.0.0 }, max c.1 (max w.1 fs.0.1)), fs.1)
 
--- what stands before `fn`, behind what is said of safety, and `fn` itself
+-- what stands before `fn`, after what is said of safety, and `fn` itself
 abbrev pub with_abi : Bool → Bool → Option Safety → Tokens → Got Qualifiers
 with_abi is_const is_async safety ts = do
   a ← if_there (first (is_keyword (codes "extern")) ts) abi ts
@@ -56,7 +56,7 @@ with_abi is_const is_async safety ts = do
 abbrev pub qualifiers : Tokens → Got Qualifiers
 qualifiers ts = with_abi (const_flag ts).0 (async_flag (const_flag ts).1).0 (safety_behind ts).0 (safety_behind ts).1
 
--- the head of a function, behind its `fn`
+-- the head of a function, after its `fn`
 abbrev pub named_fn : Site → PatWithin → Qualifiers → Tokens → Read FnHead
 named_fn site within q ts = do
   n ← name ts

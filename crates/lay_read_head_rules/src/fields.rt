@@ -49,7 +49,7 @@ fn tuple_field(level: &Level, at: &mut Ahead<'_>, _place: ()) -> Result<Found<Tu
     })
 }
 
-/// Fields without names, behind a `(`, and the `)` behind them.
+/// Fields without names, after a `(`, and the `)` after them.
 #[tactic(auto, using(lay_read_shared::proofs::HeadPartsLeft::tuple_field_leaves))]
 fn tuple_field_list(
     alloc: Global,
@@ -120,7 +120,7 @@ fn field(level: &Level, at: &mut Ahead<'_>, _place: ()) -> Result<Found<Field>, 
     })
 }
 
-/// Fields with names, behind a `{`, and the `}` behind them.
+/// Fields with names, after a `{`, and the `}` after them.
 #[tactic(auto, using(lay_read_shared::proofs::HeadPartsLeft::field_leaves))]
 fn named_field_list(
     alloc: Global,
@@ -236,7 +236,7 @@ fn variant(level: &Level, at: &mut Ahead<'_>, _place: ()) -> Result<Found<Varian
     })
 }
 
-/// Variants, behind a `{`, and the `}` behind them.
+/// Variants, after a `{`, and the `}` after them.
 #[tactic(auto, using(lay_read_shared::proofs::HeadPartsLeft::variant_leaves))]
 fn variant_list(
     alloc: Global,

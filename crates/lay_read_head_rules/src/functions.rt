@@ -31,14 +31,14 @@ use lay_read_types::type_ahead;
 use lay_token::{Delim, List};
 use std::alloc::Global;
 
-/// Whether a parameter ends at the front.
+/// Whether a parameter ends at the beginning.
 fn ends_param(at: &Ahead<'_>) -> bool
     ensures { result ≡ reader.ends_param at.now }
 {
     is_at_mark(at, b",") || is_at_closer(at, Delim::Paren)
 }
 
-/// Passes a lifetime, if one stands at the front.
+/// Passes a lifetime, if one comes next.
 fn pass_lifetime(at: &mut Ahead<'_>)
     ensures { at.new ≡ reader.behind_lifetime at.old }
 {
@@ -47,7 +47,7 @@ fn pass_lifetime(at: &mut Ahead<'_>)
     }
 }
 
-/// Whether `self` stands at the front as a receiver behind a `&` does.
+/// Whether `self` comes next as a receiver after a `&` does.
 fn is_self_by_ref(at: &Ahead<'_>) -> bool
     ensures { result ≡ reader.is_self_by_ref at.now }
 {
@@ -55,7 +55,7 @@ fn is_self_by_ref(at: &Ahead<'_>) -> bool
     takes_keyword(&mut behind, b"self") && ends_param(&behind)
 }
 
-/// Whether `self` stands at the front as a receiver by itself does.
+/// Whether `self` comes next as a receiver by itself does.
 fn is_self_by_itself(at: &Ahead<'_>) -> bool
     ensures { result ≡ reader.is_self_by_itself at.now }
 {
@@ -63,7 +63,7 @@ fn is_self_by_itself(at: &Ahead<'_>) -> bool
     takes_keyword(&mut behind, b"self") && (ends_param(&behind) || behind.op_is(b":"))
 }
 
-/// Whether a receiver with a `&` begins at the front.
+/// Whether a receiver with a `&` comes next.
 fn begins_ref_self(at: &Ahead<'_>) -> bool
     ensures { result ≡ reader.begins_ref_self at.now }
 {
@@ -76,7 +76,7 @@ fn begins_ref_self(at: &Ahead<'_>) -> bool
     is_self_by_ref(&behind)
 }
 
-/// Whether a receiver without a `&` begins at the front.
+/// Whether a receiver without a `&` comes next.
 fn begins_own_self(at: &Ahead<'_>) -> bool
     ensures { result ≡ reader.begins_own_self at.now }
 {
@@ -85,7 +85,7 @@ fn begins_own_self(at: &Ahead<'_>) -> bool
     is_self_by_itself(&behind)
 }
 
-/// A receiver, behind its `&`.
+/// A receiver, after its `&`.
 #[tactic(auto, unfolding(lay_node::specs::reader::Functions::ref_self))]
 fn ref_self(alloc: Global, at: &mut Ahead<'_>) -> Result<ParamKind, ReadNone>
     ensures { IsGot (reader.ref_self at.old) result at.new }
@@ -114,7 +114,7 @@ fn own_self(alloc: Global, at: &mut Ahead<'_>, depth: u32) -> Result<Found<Param
     })
 }
 
-/// Passes `...`, if it stands at the front.
+/// Passes `...`, if it comes next.
 fn takes_dots(at: &mut Ahead<'_>) -> bool
     ensures found { result ≡ is_op (codes "...") at.old }
     ensures passed { at.new ≡ (if result then drop 3 at.old else at.old) }
@@ -127,7 +127,7 @@ fn takes_dots(at: &mut Ahead<'_>) -> bool
     found
 }
 
-/// What stands behind a pattern and its `:`.
+/// What follows a pattern and its `:`.
 fn typed_by(
     alloc: Global,
     at: &mut Ahead<'_>,
@@ -167,7 +167,7 @@ fn typed(alloc: Global, at: &mut Ahead<'_>, depth: u32) -> Result<Found<ParamKin
     typed_by(alloc, at, pat, depth)
 }
 
-/// What a parameter is, behind its attributes.
+/// What a parameter is, after its attributes.
 #[tactic(auto, unfolding(lay_node::specs::reader::Functions::param_kind))]
 fn param_kind(alloc: Global, at: &mut Ahead<'_>, depth: u32) -> Result<Found<ParamKind>, ReadNone>
     ensures read { IsFound (reader.param_kind (insides depth) at.old) result at.new }
@@ -213,7 +213,7 @@ fn fn_param(level: &Level, at: &mut Ahead<'_>, _place: ()) -> Result<Found<Param
     })
 }
 
-/// Parameters as long as one begins, and whether a comma stands behind the last of them, or there is none.
+/// Parameters as long as one begins, and whether a comma stands after the last of them, or there is none.
 #[tactic(auto, using(lay_read_shared::proofs::HeadPartsLeft::fn_param_leaves))]
 fn open_params(
     alloc: Global,
@@ -302,14 +302,14 @@ fn varies_last(params: &[Param]) -> bool
     true
 }
 
-/// Whether parameters stand in order, and no comma behind one that takes further arguments.
+/// Whether parameters stand in order, and no comma after one that takes further arguments.
 fn are_in_order(params: &[Param], comma: bool) -> bool
     ensures { result ≡ reader.are_in_order params.now comma }
 {
     receives_first(params) && varies_last(params) && !(ends_variadic(params) && comma)
 }
 
-/// Parameters, if they stand in order, and the `)` behind them.
+/// Parameters, if they stand in order, and the `)` after them.
 fn closed_params(
     at: &mut Ahead<'_>,
     found: Found<(List<Param>, bool)>,
@@ -384,7 +384,7 @@ struct Qualifiers {
     abi: Option<Abi>,
 }
 
-/// The head of a function, behind its `fn`.
+/// The head of a function, after its `fn`.
 fn named_fn(
     alloc: Global,
     at: &mut Ahead<'_>,
@@ -418,7 +418,7 @@ fn named_fn(
     )
 }
 
-/// What stands before `fn`, behind what is said of safety, and `fn` itself.
+/// What stands before `fn`, after what is said of safety, and `fn` itself.
 fn with_abi(
     alloc: Global,
     at: &mut Ahead<'_>,

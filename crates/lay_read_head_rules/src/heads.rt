@@ -29,7 +29,7 @@ use lay_read_types::{path_ahead, type_ahead};
 use lay_token::Delim;
 use std::alloc::Global;
 
-/// A keyword and a name, with generic parameters behind it.
+/// A keyword and a name, with generic parameters after it.
 fn called(
     alloc: Global,
     at: &mut Ahead<'_>,
@@ -135,7 +135,7 @@ pub fn struct_ahead(
     }
 }
 
-/// A struct whose fields have no names, behind its name.
+/// A struct whose fields have no names, after its name.
 fn tuple_struct(
     alloc: Global,
     at: &mut Ahead<'_>,
@@ -166,7 +166,7 @@ fn tuple_struct(
     )
 }
 
-/// Another struct, behind its name.
+/// Another struct, after its name.
 fn other_struct(
     alloc: Global,
     at: &mut Ahead<'_>,
@@ -197,7 +197,7 @@ fn other_struct(
     )
 }
 
-/// A struct whose fields have names, behind its where clause.
+/// A struct whose fields have names, after its where clause.
 fn named_struct(
     alloc: Global,
     at: &mut Ahead<'_>,
@@ -265,7 +265,7 @@ pub fn enum_ahead(alloc: Global, at: &mut Ahead<'_>, depth: u32) -> Result<Found
     })
 }
 
-/// The head of a constant, behind its keyword.
+/// The head of a constant, after its keyword.
 fn const_head(alloc: Global, at: &mut Ahead<'_>, depth: u32) -> Result<Found<ValueHead>, ReadNone>
     ensures read { IsFound (reader.const_head (within depth) at.old) result at.new }
     ensures within { IfOk result (λ found. found.need ≤ depth) }
@@ -281,7 +281,7 @@ fn const_head(alloc: Global, at: &mut Ahead<'_>, depth: u32) -> Result<Found<Val
     })
 }
 
-/// The head of a static, behind its keyword.
+/// The head of a static, after its keyword.
 fn static_head(alloc: Global, at: &mut Ahead<'_>, depth: u32) -> Result<Found<ValueHead>, ReadNone>
     ensures read { IsFound (reader.static_head (within depth) at.old) result at.new }
     ensures within { IfOk result (λ found. found.need ≤ depth) }
@@ -322,7 +322,7 @@ pub fn value_head_ahead(
 }
 
 /// The head of a trait, with what is within it within the depth; whether `<` and `>` are spelled; and whether a `:`
-/// stands behind them.
+/// stands after them.
 #[tactic(auto, unfolding(lay_node::specs::reader::Heads::trait_head))]
 pub fn trait_head_ahead(
     alloc: Global,
@@ -355,7 +355,7 @@ pub fn trait_head_ahead(
     })
 }
 
-/// The trait that is implemented and the `for` behind it, if they stand there. A type may begin as they do.
+/// The trait that is implemented and the `for` after it, if they stand there. A type may begin as they do.
 #[tactic(auto, unfolding(lay_node::specs::reader::Heads::trait_ref))]
 fn trait_ref(
     alloc: Global,
@@ -386,14 +386,14 @@ fn trait_ref(
     }
 }
 
-/// Whether a head of an implementation ends at the front.
+/// Whether a head of an implementation ends at the beginning.
 fn ends_head(at: &Ahead<'_>) -> bool
     ensures { result ≡ nodes.ends_head at.now }
 {
     is_at_keyword(at, b"where") || is_at_opened(at, Delim::Brace)
 }
 
-/// Whether generic parameters are there, or no `<` stands at the front, which would open some.
+/// Whether generic parameters are there, or no `<` comes next, which would open some.
 fn tells_generics(at: &Ahead<'_>, generics: &Generics) -> bool
     ensures { result ≡ (is_there generics.now.params || not (first (is_mark (codes "<")) at.now)) }
 {

@@ -31,7 +31,7 @@ pub fn kept_if<T: Drop>(found: T, keeps: bool) -> Result<T, ReadNone>
     }
 }
 
-/// Passes the keyword, if it stands at the front, and tells whether it did.
+/// Passes the keyword, if it comes next, and tells whether it did.
 pub fn takes_flag(at: &mut Ahead<'_>, word: &[u8]) -> bool
     ensures found { result ≡ (flag (is_keyword word.now) at.old).0 }
     ensures passed { at.new ≡ (flag (is_keyword word.now) at.old).1 }

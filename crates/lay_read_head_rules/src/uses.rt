@@ -42,7 +42,7 @@ pub fn use_ahead(alloc: Global, at: &mut Ahead<'_>, depth: u32) -> Result<Found<
     })
 }
 
-/// What stands behind the path of a use tree. The trees within it stand within the depth.
+/// What follows the path of a use tree. The trees within it stand within the depth.
 #[cycle(use_trees)]
 fn read_use_end(alloc: Global, at: &mut Ahead<'_>, depth: u32) -> Result<Found<UseEnd>, ReadNone>
     ensures read { IsFound (reader.use_end_by (reader.use_at depth) at.old) result at.new }
@@ -60,7 +60,7 @@ fn read_use_end(alloc: Global, at: &mut Ahead<'_>, depth: u32) -> Result<Found<U
     }
 }
 
-/// The use trees of a group, which stand within the depth, and the `}` behind them.
+/// The use trees of a group, which stand within the depth, and the `}` after them.
 #[cycle(use_trees)]
 fn read_group(alloc: Global, at: &mut Ahead<'_>, depth: u32) -> Result<Found<UseEnd>, ReadNone>
     ensures read { IsFound (reader.use_group (reader.use_at depth) at.old) result at.new }

@@ -1,4 +1,4 @@
--- What stands at the front, as what an item is.
+-- What comes next, as what an item is.
 use Rattle.std.proofs.Common.{◌≡◌, ℕ, zero, suc, ◌-◌, ◌<◌, inl, inr, true, false, [], ◌∷◌, codes, Some, None, Ok, Err, Result, refl, ap, ◌∙◌, arith}
 use Rattle.std.proofs.lemmas.Bool.{and_parts}
 use Rattle.lay_token.specs.declared.token.Token.{Token}

@@ -1,4 +1,4 @@
--- Heads by themselves at the front at a depth, from what is read of them one level deeper.
+-- Heads by themselves at the beginning at a depth, from what is read of them one level deeper.
 use Rattle.std.proofs.Common.{◌≡◌, ℕ, suc, ◌-◌, ◌<◌, ◌≤◌, Bool, Some, None, Ok, Err, refl, ap, ◌∙◌, arith}
 use Rattle.lay_node.specs.Ahead.{Tokens}
 use Rattle.lay_node.specs.nodes.Facts.{Told, ToldFront, by_itself}
@@ -31,7 +31,7 @@ module _ {A : Type 0} (one : PatWithin → Tokens → Read A) (depth : ℕ) (ts 
       → head_at one depth ts ≡ Some ((x, suc need), rest)
   found some x need rest h = deeper_one some ∙ rw h refl
 
--- ---- at the front
+-- ---- at the beginning
 
 module _ {A : Type 0} (about : A → Told) (one : PatWithin → Tokens → Read A)
     (exact : Exact (head_at one) (λ x. ToldFront (by_itself (about x)))) (depth : ℕ) (ts : Tokens) (l : AreLexed ts) where

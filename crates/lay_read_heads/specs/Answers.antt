@@ -1,4 +1,4 @@
--- What stands at the front, as what an item is.
+-- What comes next, as what an item is.
 use Rattle.std.specs.Prelude.{ℕ, ◌≡◌, ◌⊎◌}
 use Rattle.lay_node.specs.Ahead.{Tokens}
 use Rattle.lay_node.specs.nodes.Facts.{Told, ToldFront, by_itself}

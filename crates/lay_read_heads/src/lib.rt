@@ -1,7 +1,7 @@
 //! From nested tokens to the heads of items: visibilities, use trees, the heads of functions, of constants, traits and
 //! impls, and the items that are heads alone.
 //!
-//! Each call reads exactly what stands at the front of the tokens, by the rules of `lay_read_head_rules`.
+//! Each call reads exactly what stands at the beginning of the tokens, by the rules of `lay_read_head_rules`.
 #![tactic(auto)]
 
 mod kinds;

@@ -1,4 +1,4 @@
-//! What stands at the front of the tokens of a text.
+//! What stands at the beginning of the tokens of a text.
 ghost use Rattle.lay_node.specs.nodes.Facts.{Front, ToldFront, by_itself};
 ghost use Rattle.lay_node.specs.nodes.Functions.{about_fn_head};
 ghost use Rattle.lay_node.specs.nodes.Heads.{TraitHeadFront, about_impl_head, about_value_head};
@@ -21,7 +21,7 @@ use lay_read_head_rules::vis::vis_ahead;
 use lay_read_tokens::{Ahead, ReadNone};
 use std::alloc::Global;
 
-/// The visibility at the front, which may be nothing. Where it can't be read the cursor stays.
+/// The visibility at the beginning, which may be nothing. Where it can't be read the cursor stays.
 pub fn read_vis(alloc: Global, at: &mut Cursor<'_>) -> Result<Vis, ReadNone>
     requires { AreLexed at.old }
     ensures { IsRead (λ (x : VisValue). ToldFront (about_vis x)) at.old result at.new }
@@ -32,7 +32,7 @@ pub fn read_vis(alloc: Global, at: &mut Cursor<'_>) -> Result<Vis, ReadNone>
     Ok(vis)
 }
 
-/// The head of a function at the front, as it stands at its site, within the depth. What is within stands one level
+/// The head of a function at the beginning, as it stands at its site, within the depth. What is within stands one level
 /// deeper. Where there is none the cursor stays.
 pub fn read_fn_head(
     alloc: Global,
@@ -53,7 +53,7 @@ pub fn read_fn_head(
     Ok(found.node)
 }
 
-/// The head of a constant or of a static at the front, within the depth. What is within stands one level deeper. Where
+/// The head of a constant or of a static at the beginning, within the depth. What is within stands one level deeper. Where
 /// there is none the cursor stays.
 pub fn read_value_head(
     alloc: Global,
@@ -73,7 +73,7 @@ pub fn read_value_head(
     Ok(found.node)
 }
 
-/// The head of a trait at the front, within the depth. What is within stands one level deeper. Where there is none the
+/// The head of a trait at the beginning, within the depth. What is within stands one level deeper. Where there is none the
 /// cursor stays.
 pub fn read_trait_head(
     alloc: Global,
@@ -92,7 +92,7 @@ pub fn read_trait_head(
     Ok(found.node.0)
 }
 
-/// The head of an implementation at the front, within the depth. What is within stands one level deeper. Where there is
+/// The head of an implementation at the beginning, within the depth. What is within stands one level deeper. Where there is
 /// none the cursor stays.
 pub fn read_impl_head(alloc: Global, at: &mut Cursor<'_>, depth: u32) -> Result<ImplHead, ReadNone>
     requires { AreLexed at.old }
@@ -108,7 +108,7 @@ pub fn read_impl_head(alloc: Global, at: &mut Cursor<'_>, depth: u32) -> Result<
     Ok(found.node)
 }
 
-/// The use tree at the front, within the depth. Where there is none the cursor stays.
+/// The use tree at the beginning, within the depth. Where there is none the cursor stays.
 pub fn read_use(alloc: Global, at: &mut Cursor<'_>, depth: u32) -> Result<UseTree, ReadNone>
     requires { AreLexed at.old }
     ensures { IsReadAt depth (λ (x : UseTreeValue). Front (about_use x)) at.old result at.new }

@@ -134,7 +134,7 @@ module _ (deeper : ExprWithin) where
       no_turn place level lhs ts (no_level place level ts h)
       ∙ climb_ends place level lhs ts (λ e. let more = h e in omega (arith, more))
 
-  -- Levels above that of the operator at the front are passed over.
+  -- Levels above that of the operator at the beginning are passed over.
   climb_from : (place : Place) (n level : ℕ) (lhs : Expr × ℕ) (ts : Tokens) → strength ts ≡ suc level → place.level ≤ level
       → suc level ≤ n → climb deeper place n lhs ts ≡ from_level place level lhs ts
   climb_from place zero level lhs ts s p l = absurd (omega (arith, l))

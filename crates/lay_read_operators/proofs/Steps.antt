@@ -19,7 +19,7 @@ tail_is (t ∷ ts) = refl
 pub tail_dropped : (n : ℕ) (ts : Tokens) → tail (drop n ts) ≡ drop (n + 1) ts
 tail_dropped n ts = tail_is (drop n ts) ∙ drop-drop 1 n ts
 
--- ---- operators behind an operand
+-- ---- operators after an operand
 
 module _ (deeper : ExprWithin) (level : ℕ) (no_struct : Bool) (ts : Tokens) (o : Op) (mid : Tokens) (x : Expr) (n : ℕ)
     (rest : Tokens) (b : binary ts ≡ Some o) (d : mid ≡ drop (length (op_text o)) ts)

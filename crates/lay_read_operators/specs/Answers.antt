@@ -37,15 +37,15 @@ pub record AreExprs (depth : ℕ) (may_read : Global → MutBor Tokens → Place
 abbrev pub bracket_step : ExprWithin → Tokens → Read Step
 bracket_step within ts = do behind ← passed (opens Bracket) ts; index_step within behind
 
--- generic arguments behind a `::`
+-- generic arguments after a `::`
 abbrev pub late_args : Within → Tokens → Read (List Arg)
 late_args within ts = gathered (angled (one_arg within) (drop 2 ts))
 
--- a method behind its name, where generic arguments stand behind that
+-- a method after its name, where generic arguments stand after that
 abbrev pub generic_method : ExprWithin → Name → Tokens → Read Step
 generic_method within n ts = generics_by within n (drop 2 ts)
 
--- ---- operators behind an operand
+-- ---- operators after an operand
 
 -- What an operator of the level makes of the expression before it, where that may stand there and isn't so deep that what
 -- is made exceeds the budget.

@@ -40,7 +40,7 @@ fn split(
 impl<P: Fn(Global, &mut Ahead<'_>, Place, u32) -> Result<Found<Boxed<Expr>>, ReadNone>> ExprRules<
     P,
 > {
-    /// An expression with assignments behind it.
+    /// An expression with assignments after it.
     #[tactic(auto, unfolding(lay_code::specs::reader::Exprs::assign_expr))]
     #[inline(never)]
     pub fn assign_expr(

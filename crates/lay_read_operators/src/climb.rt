@@ -1,4 +1,4 @@
-//! The operators behind an expression, from the strongest on.
+//! The operators after an expression, from the strongest on.
 ghost use Rattle.std.specs.Prelude.{◌≡◌, ◌+◌, ◌<◌, ◌≤◌, nat_le, nat_lt, ◌&&◌, IfOk};
 ghost use Rattle.lay_code.specs.Operators as operators;
 ghost use Rattle.lay_code.specs.nodes.Exprs as nodes;
@@ -41,7 +41,7 @@ fn left_place(at: &Ahead<'_>, place: Place, level: u8) -> Place
     before_op(level + 1, place.no_struct, first, is_angle(at))
 }
 
-/// Whether nothing but `.` and `?` goes on with an expression, and neither stands at the front.
+/// Whether nothing but `.` and `?` goes on with an expression, and neither comes next.
 pub fn is_ended(at: &Ahead<'_>, place: Place, expr: &Expr) -> bool
     ensures { result ≡ reader.is_ended place (about_expr expr.now) at.now }
 {
@@ -88,7 +88,7 @@ fn goes_on(at: &Ahead<'_>, place: Place, reached: u8) -> bool
 impl<P: Fn(Global, &mut Ahead<'_>, Place, u32) -> Result<Found<Boxed<Expr>>, ReadNone>> ExprRules<
     P,
 > {
-    /// The operators behind an expression that the place allows, from the strongest on, below a level that is reached.
+    /// The operators after an expression that the place allows, from the strongest on, below a level that is reached.
     #[inline(never)]
     pub fn climb(
         &self,
@@ -112,7 +112,7 @@ impl<P: Fn(Global, &mut Ahead<'_>, Place, u32) -> Result<Found<Boxed<Expr>>, Rea
         accepted(at, place, lhs, self.depth + 1)
     }
 
-    /// What the operator of the level at the front makes of the expression before it, if that may stand there, and what
+    /// What the operator of the level at the beginning makes of the expression before it, if that may stand there, and what
     /// is made needn't be deeper than may be.
     #[inline(never)]
     fn climb_once(

@@ -26,7 +26,7 @@ impl Part<Boxed<Expr>, Place> for Elements {
 impl<P: Fn(Global, &mut Ahead<'_>, Place, u32) -> Result<Found<Boxed<Expr>>, ReadNone>> ExprRules<
     P,
 > {
-    /// Expressions with commas, and the closing delimiter behind them, each in its box.
+    /// Expressions with commas, and the closing delimiter after them, each in its box.
     #[tactic(auto, using(lay_read_shared::proofs::Left::exprs_leave))]
     #[inline(never)]
     pub fn boxed_elements(
@@ -50,7 +50,7 @@ impl<P: Fn(Global, &mut Ahead<'_>, Place, u32) -> Result<Found<Boxed<Expr>>, Rea
         )
     }
 
-    /// Expressions with commas, and the closing delimiter behind them.
+    /// Expressions with commas, and the closing delimiter after them.
     #[inline(never)]
     pub fn free_elements(
         &self,

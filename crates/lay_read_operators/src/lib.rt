@@ -1,4 +1,4 @@
-//! From nested tokens to the operators behind an expression, by precedence climbing: each rule by
+//! From nested tokens to the operators after an expression, by precedence climbing: each rule by
 //! itself, over a function that reads expressions one level deeper.
 //!
 //! Each rule is proved equal to a function of the tokens ahead that `lay_code` defines, and that

@@ -10,7 +10,7 @@ use lay_read_tokens::Ahead;
 use lay_read_tokens::front::takes_op;
 use lay_token::Kind;
 
-/// Whether the index of a tuple stands at the front.
+/// Whether the index of a tuple comes next.
 pub fn is_at_tuple_index(at: &Ahead<'_>) -> bool
     ensures { result ≡ first reader.is_index_token at.now }
 {
@@ -20,7 +20,7 @@ pub fn is_at_tuple_index(at: &Ahead<'_>) -> bool
     }
 }
 
-/// Whether a `.` and the index of a tuple stand at the front.
+/// Whether a `.` and the index of a tuple come next.
 pub fn begins_tuple_index(at: &Ahead<'_>) -> bool
     ensures { result ≡ reader.begins_tuple_index at.now }
 {

@@ -1,4 +1,4 @@
-//! Operators of one level, and the operands behind them.
+//! Operators of one level, and the operands after them.
 ghost use Rattle.std.specs.Prelude.{◌≡◌, ◌+◌, ◌<◌, ◌≤◌, drop, IfOk};
 ghost use Rattle.lay_code.specs.nodes.Code.{about_expr};
 ghost use Rattle.lay_code.specs.nodes.Places as places;
@@ -22,7 +22,7 @@ use lay_read_tokens::{Ahead, Found, ReadNone};
 use lay_token::List;
 use std::alloc::Global;
 
-/// Operators and their operands, as parts that stand one behind another.
+/// Operators and their operands, as parts that stand one after another.
 pub struct Operands;
 
 impl Part<(Op, Boxed<Expr>), (u8, bool)> for Operands {
@@ -140,7 +140,7 @@ impl<P: Fn(Global, &mut Ahead<'_>, Place, u32) -> Result<Found<Boxed<Expr>>, Rea
         })
     }
 
-    /// An expression with operators of a level behind it.
+    /// An expression with operators of a level after it.
     #[tactic(auto, unfolding(lay_code::specs::reader::Exprs::chain_expr))]
     #[inline(never)]
     pub fn chain_expr(

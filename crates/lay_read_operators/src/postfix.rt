@@ -26,14 +26,14 @@ use lay_read_types::args_ahead;
 use lay_token::{Delim, List};
 use std::alloc::Global;
 
-/// Postfix steps, as parts that stand one behind another.
+/// Postfix steps, as parts that stand one after another.
 pub struct Steps;
 
 impl Part<Step, ()> for Steps {
     ghost reads = { λ depth place ts. reader.one_step (code_within depth) ts };
 }
 
-/// The generic arguments behind a `::`.
+/// The generic arguments after a `::`.
 #[tactic(auto, unfolding(lay_node::specs::reader::Types::args_by, lay_node::specs::reader::Types::angle))]
 fn read_late_args(
     alloc: Global,
@@ -55,7 +55,7 @@ fn read_late_args(
 impl<P: Fn(Global, &mut Ahead<'_>, Place, u32) -> Result<Found<Boxed<Expr>>, ReadNone>> ExprRules<
     P,
 > {
-    /// An expression with postfix steps behind it. A tuple index doesn't stand directly behind a number without suffix.
+    /// An expression with postfix steps after it. A tuple index doesn't stand directly after a number without suffix.
     #[tactic(auto, unfolding(lay_code::specs::reader::Exprs::postfix_expr), using(lay_read_shared::proofs::Left::step_leaves))]
     #[inline(never)]
     pub fn postfix_expr(
@@ -140,7 +140,7 @@ impl<P: Fn(Global, &mut Ahead<'_>, Place, u32) -> Result<Found<Boxed<Expr>>, Rea
         })
     }
 
-    /// What stands behind a `.`.
+    /// What follows a `.`.
     #[tactic(auto, unfolding(lay_code::specs::reader::Exprs::dot_step), using(lay_read_parts::proofs::Steps::literal_is))]
     #[inline(never)]
     fn dot_step(&self, at: &mut Ahead<'_>) -> Result<Found<Step>, ReadNone>
@@ -165,7 +165,7 @@ impl<P: Fn(Global, &mut Ahead<'_>, Place, u32) -> Result<Found<Boxed<Expr>>, Rea
         self.member(at, name)
     }
 
-    /// What stands behind a `.` and a name.
+    /// What follows a `.` and a name.
     #[inline(never)]
     fn member(&self, at: &mut Ahead<'_>, name: Name) -> Result<Found<Step>, ReadNone>
         requires { AreExprs self.now.depth (P.pre self.now.exprs) (P.post self.now.exprs) }
@@ -191,7 +191,7 @@ impl<P: Fn(Global, &mut Ahead<'_>, Place, u32) -> Result<Found<Boxed<Expr>>, Rea
         }
     }
 
-    /// A method behind its name, where generic arguments stand behind that.
+    /// A method after its name, where generic arguments stand after that.
     #[inline(never)]
     fn generic_method(&self, at: &mut Ahead<'_>, name: Name) -> Result<Found<Step>, ReadNone>
         requires deeper { AreExprs self.now.depth (P.pre self.now.exprs) (P.post self.now.exprs) }
@@ -208,7 +208,7 @@ impl<P: Fn(Global, &mut Ahead<'_>, Place, u32) -> Result<Found<Boxed<Expr>>, Rea
         self.method(at, name, generics)
     }
 
-    /// The arguments of a method, behind its name and its generic arguments.
+    /// The arguments of a method, after its name and its generic arguments.
     #[inline(never)]
     fn method(
         &self,

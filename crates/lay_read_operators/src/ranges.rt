@@ -40,7 +40,7 @@ impl<P: Fn(Global, &mut Ahead<'_>, Place, u32) -> Result<Found<Boxed<Expr>>, Rea
         self.range_by(at, no_struct, start, inclusive)
     }
 
-    /// What stands behind the operator of a range.
+    /// What follows the operator of a range.
     #[inline(never)]
     fn range_by(
         &self,

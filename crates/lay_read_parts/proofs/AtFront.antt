@@ -1,4 +1,4 @@
--- What is read at the front at a depth, and nothing else.
+-- What is read at the beginning at a depth, and nothing else.
 use Rattle.std.proofs.Common.{◌≡◌, ℕ, suc, ◌-◌, ◌<◌, ◌≤◌, Bool, drop, Some, None, Ok, Err, refl, sym, ap, ◌∙◌, arith}
 use Rattle.lay_form.specs.Form.{Form}
 use Rattle.lay_form.specs.Spelled as spelled
@@ -14,7 +14,7 @@ use Rattle.lay_read_tokens.proofs.Lexed.{lexed_in_text}
 use Rattle.lay_read_tokens.proofs.Lists.{some_is}
 use Rattle.lay_read_parts.specs.Answers.{IsReadAt}
 
--- What stands at the front at a depth stands there at each greater one.
+-- What stands at the beginning at a depth stands there at each greater one.
 pub front_deeper : (form : Form) (good : Bool) (follows : Tokens → Bool) (ts : Tokens) (n m depth : ℕ) → m ≤ depth
     → spelled.Front form good follows ts n m → spelled.Front form good follows ts n depth
 front_deeper form good follows ts n m depth le f = (f.0, deeper form m depth ts (drop n ts) le f.1, f.2, f.3)

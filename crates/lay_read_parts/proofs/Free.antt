@@ -64,7 +64,7 @@ module _ {A : Type 0} (one : Tokens → Got A) where
       (elements_from closing one n) (elements_from closing (needless one 0) n) found _
       (λ fs rest. elements_free closing n fs rest)
 
--- what is read behind the first part of a chain
+-- what is read after the first part of a chain
 abbrev others : {A : Type 0} → A → Got (List A) → Got (List A)
 others x got = got >>= (λ more. Some (x ∷ more.0, more.1))
 
@@ -107,7 +107,7 @@ pub some_lifetimes : (ts : Tokens) (read : List (Lifetime × ℕ)) (rest : Token
     → chain (codes "+") (needless lifetime 0) ts ≡ Some (read, rest) → nodes read ≡ xs → lifetimes ts ≡ Some (xs, rest)
 some_lifetimes ts read rest xs h e n = rw (h, ← n) (chain_free lifetime (codes "+") ts ∙ rw e refl)
 
--- what stands behind `for` and `<`
+-- what follows `for` and `<`
 abbrev pub params_behind : Tokens → Got (List LifetimeParam)
 params_behind ts = elements (is_mark (codes ">")) lifetime_param ts
 
@@ -120,7 +120,7 @@ pub some_params : (ts : Tokens) (read : List (LifetimeParam × ℕ)) (rest : Tok
     → params_behind ts ≡ Some (xs, rest)
 some_params ts read rest xs e n = rw (← n) (all_free lifetime_param (is_mark (codes ">")) ts ∙ rw e refl)
 
--- what stands behind `use` and `<`
+-- what follows `use` and `<`
 abbrev pub captured_behind : Tokens → Got (List Capture)
 captured_behind ts = elements (is_mark (codes ">")) one_capture ts
 

@@ -1,4 +1,4 @@
--- What reading of lifetimes, literals, binders, constants and lists leaves: the tokens behind those that are read.
+-- What reading of lifetimes, literals, binders, constants and lists leaves: the tokens after those that are read.
 use Rattle.std.proofs.Common.{◌≡◌, ℕ, zero, suc, ◌<◌, Bool, true, false, List, [], ◌∷◌, length, drop, codes, Some, None, if◌then◌else◌, ap, arith}
 use Rattle.lay_token.specs.Operators.{is_op}
 use Rattle.lay_piece.specs.declared.kind.Delim.TheVariants.{Brace}
@@ -162,7 +162,7 @@ abi_left ts = chain_passed 1 1 0 ts (passed (is_keyword (codes "extern")) ts) _ 
 
 -- ---- what is left, where something is read
 
--- behind a part and a comma
+-- after a part and a comma
 pub behind_shorter : {A : Type 0} (ts : Tokens) (got : Got A) (x : A) (mid rest : Tokens) → Leaves 1 ts got
     → got ≡ Some (x, mid) → first (is_mark (codes ",")) mid ≡ true → rest ≡ tail mid → length rest < length ts
 behind_shorter ts got x mid rest a e c k =

@@ -9,7 +9,7 @@ use Rattle.lay_read_tokens.proofs.Turns.{Turn, Held, repeat-start, repeat-end, r
 
 -- ---- parts with an operator between them
 
--- The first part was read, and so many others behind it.
+-- The first part was read, and so many others after it.
 pub record Chained {A : Type 0} (op : List ℕ) (one : Tokens → Read A) (whole : Tokens) (held : List A) (need : ℕ)
     (ts : Tokens) : Type 0 where
   pub head : A × ℕ

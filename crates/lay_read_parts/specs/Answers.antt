@@ -50,7 +50,7 @@ begins_part opening.Predicate ts = begins_predicate ts
 begins_part opening.Field ts = begins_field ts
 begins_part opening.FnParam ts = begins_fn_param ts
 
--- These nodes were read as long as one began, and whether a comma stands behind them, and this is the greatest need.
+-- These nodes were read as long as one began, and whether a comma stands after them, and this is the greatest need.
 abbrev pub AreFoundOpen : {A : Type 0} → List (A × ℕ) × Bool → Found (List A × Bool) → Type 0
 AreFoundOpen read found = (nodes read.0 ≡ found.node.0) × (read.1 ≡ found.node.1) × (deepest read.0 ≡ found.need)
 
@@ -71,9 +71,9 @@ gathered got = do xs ← got; Some ((nodes xs.0, deepest xs.0), xs.1)
 abbrev pub gathered_open : {A : Type 0} → Got (List (A × ℕ) × Bool) → Read (List A × Bool)
 gathered_open got = do xs ← got; Some (((nodes xs.0.0, xs.0.1), deepest xs.0.0), xs.1)
 
--- ---- what stands at the front
+-- ---- what comes next
 
--- What a reader of a node answers. Where it reads one, the node stands at the front at this depth, no other does, and the
+-- What a reader of a node answers. Where it reads one, the node stands at the beginning at this depth, no other does, and the
 -- cursor moves past it; where it doesn't, none stands there, or memory ran out, and the cursor stays.
 abbrev pub IsReadAt : {A : Type 0} → ℕ → (A → Tokens → ℕ → ℕ → Type 0) → Tokens → Result A ReadNone → Tokens → Type 0
 IsReadAt depth Front ahead (Ok node) left = StandsBefore Front depth ahead node left × IsSole (StandsBefore Front depth ahead) node left

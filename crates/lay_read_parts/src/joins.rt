@@ -4,7 +4,7 @@ ghost use Rattle.std.specs.Prelude.{◌≡◌, ◌∷◌, IfErr, IfOk, MatchResu
 use lay_read_tokens::ReadNone;
 use lay_token::List;
 
-/// What was read, and what was read behind it.
+/// What was read, and what was read after it.
 pub fn both<A: Drop, B>(first: A, second: Result<B, ReadNone>) -> Result<(A, B), ReadNone>
     ensures { MatchResult second (λ b. result ≡ Ok (first, b)) (λ none. result ≡ Err none) }
 {
@@ -28,7 +28,7 @@ pub fn none_of<A: Drop, B>(_other: A) -> Option<B>
     None
 }
 
-/// A list with one more item at its front.
+/// A list with one more item at its beginning.
 pub fn prepended<T: Drop>(first: T, others: List<T>) -> Result<List<T>, ReadNone>
     ensures ok { IfOk result (λ list. list ≡ first ∷ others) }
     ensures err { IfErr result (λ none. none ≡ ReadNone.NoMemory) }

@@ -88,7 +88,7 @@ fn lead_of_punct(character: &[u8], at: &Ahead<'_>) -> Option<Lead>
     }
 }
 
-/// Whether a lifetime stands at the front.
+/// Whether a lifetime comes next.
 pub fn is_at_lifetime(at: &Ahead<'_>) -> bool
     ensures { result ≡ first ahead.is_lifetime at.now }
 {
@@ -98,7 +98,7 @@ pub fn is_at_lifetime(at: &Ahead<'_>) -> bool
     }
 }
 
-/// Whether a bound begins at the front.
+/// Whether a bound comes next.
 pub fn begins_bound(at: &Ahead<'_>) -> bool
     ensures { result ≡ begins.begins_bound at.now }
 {
@@ -110,42 +110,42 @@ pub fn begins_bound(at: &Ahead<'_>) -> bool
         || matches!(lead_at(at), Some(Lead::Path))
 }
 
-/// Whether a predicate of a where clause begins at the front.
+/// Whether a predicate of a where clause comes next.
 pub(crate) fn begins_predicate(at: &Ahead<'_>) -> bool
     ensures { result ≡ begins.begins_predicate at.now }
 {
     is_at_lifetime(at) || lead_at(at).is_some()
 }
 
-/// Whether a parameter of a function type begins at the front.
+/// Whether a parameter of a function type comes next.
 pub(crate) fn begins_param(at: &Ahead<'_>) -> bool
     ensures { result ≡ reader.begins_param at.now }
 {
     !(is_at_closer(at, Delim::Paren) || at.op_is(b"..."))
 }
 
-/// Whether a parameter of a function begins at the front.
+/// Whether a parameter of a function comes next.
 pub(crate) fn begins_fn_param(at: &Ahead<'_>) -> bool
     ensures { result ≡ functions.begins_fn_param at.now }
 {
     !is_at_closer(at, Delim::Paren)
 }
 
-/// Whether a field in the pattern of a struct begins at the front.
+/// Whether a field in the pattern of a struct comes next.
 pub(crate) fn begins_field(at: &Ahead<'_>) -> bool
     ensures { result ≡ patterns.begins_field at.now }
 {
     !(is_at_closer(at, Delim::Brace) || at.op_is(b".."))
 }
 
-/// Whether generic arguments open at the front.
+/// Whether generic arguments open at the beginning.
 pub fn opens_args(at: &Ahead<'_>) -> bool
     ensures { result ≡ ahead.opens_args at.now }
 {
     at.op_is(b"<") || at.op_is(b"<<") || at.op_is(b"<-")
 }
 
-/// Whether generic arguments open behind a `::` at the front.
+/// Whether generic arguments open after a `::` at the beginning.
 pub fn opens_args_late(at: &Ahead<'_>) -> bool
     ensures { result ≡ ahead.opens_args_late at.now }
 {
@@ -174,7 +174,7 @@ fn is_literal(token: &Token) -> bool
     }
 }
 
-/// Whether a literal stands at the front.
+/// Whether a literal comes next.
 pub fn is_at_literal(at: &Ahead<'_>) -> bool
     ensures { result ≡ first is_literal_token at.now }
 {
@@ -184,7 +184,7 @@ pub fn is_at_literal(at: &Ahead<'_>) -> bool
     }
 }
 
-/// Whether a number stands at the front.
+/// Whether a number comes next.
 pub fn is_at_number(at: &Ahead<'_>) -> bool
     ensures { result ≡ first (λ token. words.is_number token.kind) at.now }
 {
@@ -194,7 +194,7 @@ pub fn is_at_number(at: &Ahead<'_>) -> bool
     }
 }
 
-/// Whether a generic argument that is a constant begins at the front.
+/// Whether a generic argument that is a constant comes next.
 pub fn begins_const(at: &Ahead<'_>) -> bool
     ensures { result ≡ reader.begins_const at.now }
 {

@@ -56,7 +56,7 @@ pub trait Part<T, X> {
     ghost reads: { ℕ → X → Tokens → Read T };
 }
 
-/// Whether what closes the list stands at the front.
+/// Whether what closes the list comes next.
 fn is_at_end(at: &Ahead<'_>, closer: Closer) -> bool
     ensures { result ≡ first (closed_by closer) at.now }
 {
@@ -67,7 +67,7 @@ fn is_at_end(at: &Ahead<'_>, closer: Closer) -> bool
     }
 }
 
-/// Passes what closes the list, if it stands at the front.
+/// Passes what closes the list, if it comes next.
 fn takes_end(at: &mut Ahead<'_>, closer: Closer) -> bool
     ensures found { result ≡ first (closed_by closer) at.old }
     ensures passed { at.new ≡ (if result then tail at.old else at.old) }
@@ -79,14 +79,14 @@ fn takes_end(at: &mut Ahead<'_>, closer: Closer) -> bool
     }
 }
 
-/// Behind an element a `,` is passed, and where there is none what closes the list stands.
+/// After an element a `,` is passed, and where there is none what closes the list stands.
 fn takes_element_end(at: &mut Ahead<'_>, closer: Closer) -> bool
     ensures { (if result then Some at.new else None) ≡ element_end (closed_by closer) at.old }
 {
     takes_mark(at, b",") || is_at_end(at, closer)
 }
 
-/// Passes what stands between two parts, if it stands at the front.
+/// Passes what stands between two parts, if it comes next.
 fn takes_joint(at: &mut Ahead<'_>, joint: Joint) -> bool
     ensures found { result ≡ is_op (joined_by joint) at.old }
     ensures passed { at.new ≡ (if result then drop (length (joined_by joint)) at.old else at.old) }
@@ -164,7 +164,7 @@ pub fn read_chain<
     Ok(Found { node: nodes, need })
 }
 
-/// Whether a part that goes on begins at the front.
+/// Whether a part that goes on comes next.
 fn goes_on(at: &Ahead<'_>, opening: Opening) -> bool
     ensures { result ≡ begins_part opening at.now }
 {
@@ -176,7 +176,7 @@ fn goes_on(at: &Ahead<'_>, opening: Opening) -> bool
     }
 }
 
-/// Elements with commas as long as one begins; and whether a comma stands behind the last of them, or there is none.
+/// Elements with commas as long as one begins; and whether a comma stands after the last of them, or there is none.
 pub fn read_open_elements<
     P: Part<T, X>,
     R,

@@ -41,7 +41,7 @@ pub fn read_lifetime(alloc: Global, at: &mut Ahead<'_>) -> Result<Lifetime, Read
     Ok(Lifetime { text })
 }
 
-/// A lifetime, if one stands at the front.
+/// A lifetime, if one comes next.
 pub fn read_lifetime_if(alloc: Global, at: &mut Ahead<'_>) -> Result<Option<Lifetime>, ReadNone>
     ensures { IsGot (reader.if_there (first is_lifetime at.old) reader.lifetime at.old) result
         at.new }
@@ -73,7 +73,7 @@ fn free_lifetime(
     Ok(Found { node, need: 0 })
 }
 
-/// Lifetimes behind a `:`.
+/// Lifetimes after a `:`.
 #[tactic(auto, using(crate::proofs::Left::lifetime_free))]
 pub fn read_lifetimes(alloc: Global, at: &mut Ahead<'_>) -> Result<List<Lifetime>, ReadNone>
     ensures { IsGot (reader.lifetimes at.old) result at.new }
@@ -104,7 +104,7 @@ fn read_outlived(alloc: Global, at: &mut Ahead<'_>) -> Result<List<Lifetime>, Re
     }
 }
 
-/// A lifetime that is a parameter, behind its attributes.
+/// A lifetime that is a parameter, after its attributes.
 #[tactic(auto, unfolding(lay_node::specs::reader::Types::lifetime_behind))]
 pub fn read_lifetime_behind(
     alloc: Global,
@@ -150,7 +150,7 @@ fn free_param(
     Ok(Found { node, need: 0 })
 }
 
-/// The parameters of a binder, behind its `<`.
+/// The parameters of a binder, after its `<`.
 #[tactic(auto, using(crate::proofs::Left::param_free))]
 fn read_params(alloc: Global, at: &mut Ahead<'_>) -> Result<List<LifetimeParam>, ReadNone>
     ensures { IsGot (elements (is_mark (codes ">")) reader.lifetime_param at.old) result at.new }
@@ -167,7 +167,7 @@ fn read_params(alloc: Global, at: &mut Ahead<'_>) -> Result<List<LifetimeParam>,
     Ok(found.node)
 }
 
-/// A binder, if one stands at the front.
+/// A binder, if one comes next.
 #[tactic(auto, unfolding(lay_node::specs::reader::Types::binder))]
 pub fn read_binder_if(alloc: Global, at: &mut Ahead<'_>) -> Result<Option<Binder>, ReadNone>
     ensures { IsGot (reader.binder_if at.old) result at.new }
@@ -222,7 +222,7 @@ fn free_capture(alloc: &Global, at: &mut Ahead<'_>, _place: ()) -> Result<Found<
     Ok(Found { node, need: 0 })
 }
 
-/// What is captured, behind its `<`.
+/// What is captured, after its `<`.
 #[tactic(auto, using(crate::proofs::Left::capture_free))]
 fn read_captured(alloc: Global, at: &mut Ahead<'_>) -> Result<List<Capture>, ReadNone>
     ensures { IsGot (elements (is_mark (codes ">")) reader.one_capture at.old) result at.new }
@@ -239,7 +239,7 @@ fn read_captured(alloc: Global, at: &mut Ahead<'_>) -> Result<List<Capture>, Rea
     Ok(found.node)
 }
 
-/// What is captured, behind `use`.
+/// What is captured, after `use`.
 pub fn read_captures(alloc: Global, at: &mut Ahead<'_>) -> Result<List<Capture>, ReadNone>
     ensures { IsGot (reader.angled reader.one_capture at.old) result at.new }
 {
@@ -283,7 +283,7 @@ pub fn read_const(alloc: Global, at: &mut Ahead<'_>) -> Result<ConstArg, ReadNon
     }
 }
 
-/// A number, behind its `-`.
+/// A number, after its `-`.
 #[tactic(auto, using(crate::proofs::Steps::literal_is))]
 fn read_negative(alloc: Global, at: &mut Ahead<'_>) -> Result<ConstArg, ReadNone>
     ensures { IsGot (reader.negative at.old) result at.new }
@@ -308,7 +308,7 @@ fn read_braces(alloc: Global, at: &mut Ahead<'_>) -> Result<ConstArg, ReadNone>
     }
 }
 
-/// Whether a string without suffix stands at the front.
+/// Whether a string without suffix comes next.
 fn is_at_string(alloc: Global, at: &Ahead<'_>) -> Result<bool, ReadNone>
     ensures { IsMade (first reader.is_string_token at.now) result }
 {
@@ -322,7 +322,7 @@ fn is_at_string(alloc: Global, at: &Ahead<'_>) -> Result<bool, ReadNone>
     }
 }
 
-/// An ABI, behind `extern`.
+/// An ABI, after `extern`.
 #[tactic(auto, using(crate::proofs::Steps::literal_is))]
 fn read_abi_name(alloc: Global, at: &mut Ahead<'_>) -> Result<Option<Literal>, ReadNone>
     ensures { IsGot (reader.if_there (first reader.is_string_token at.old)
@@ -335,7 +335,7 @@ fn read_abi_name(alloc: Global, at: &mut Ahead<'_>) -> Result<Option<Literal>, R
     Ok(Some(name))
 }
 
-/// An ABI, if one stands at the front.
+/// An ABI, if one comes next.
 #[tactic(auto, unfolding(lay_node::specs::reader::Types::abi))]
 pub fn read_abi_if(alloc: Global, at: &mut Ahead<'_>) -> Result<Option<Abi>, ReadNone>
     ensures { IsGot (reader.if_there (first (is_keyword (codes "extern")) at.old) reader.abi at.old)

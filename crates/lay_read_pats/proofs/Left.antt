@@ -1,4 +1,4 @@
--- What reading of patterns leaves: the tokens behind those that are read.
+-- What reading of patterns leaves: the tokens after those that are read.
 use Rattle.std.proofs.Common.{◌≡◌, ℕ, zero, suc, nat_le, ◌&&◌, ◌||◌, Bool, true, false, List, [], ◌∷◌, drop, codes, Option, Some, None, if◌then◌else◌, refl, arith}
 use Rattle.std.proofs.lemmas.List.{length-drop}
 use Rattle.lay_token.specs.Operators.{op_at, is_op}
@@ -71,7 +71,7 @@ rest_left : (b : Bool) (ts : Tokens) → Left 0 ts (if b then drop 2 ts else ts)
 rest_left true ts = dropped 2 ts
 rest_left false ts = unread ts
 
--- behind the dots of a span
+-- after the dots of a span
 dots_read : (ts : Tokens) → begins_dots ts ≡ true → (n : ℕ) → Left 1 ts (drop (suc n) ts)
 unfolding op_at
 dots_read [] h n = absurd (cc)

@@ -75,7 +75,7 @@ tuple_is x (y ∷ more) ts = refl
 
 -- ---- what is told of a pattern
 
--- whether it is a name that is bound with nothing behind it, a span, and `..` alone
+-- whether it is a name that is bound with nothing after it, a span, and `..` alone
 abbrev shape_of : PatFacts → Bool × Bool × Bool
 shape_of x = (x.short, x.span, x.rest)
 
@@ -128,7 +128,7 @@ short_none by_ref mutable name of none h = twice none ∙ ap not (sym h) ∙ sym
 
 -- ---- readers
 
--- behind a `(`, a pattern and a comma
+-- after a `(`, a pattern and a comma
 module _ (deeper : PatWithin) (x : Pat × ℕ) (ts mid : Tokens) (h : first (closes Paren) ts ≡ false)
     (g : first (is_mark (codes ",")) ts ≡ true) (m : mid ≡ tail ts) where
   pub paren_more : (read : List (Pat × ℕ)) (more : List Pat) (need : ℕ) (rest : Tokens)

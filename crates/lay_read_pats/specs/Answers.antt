@@ -42,11 +42,11 @@ IsTried got ahead (Err NoMemory) left = Unit {0}
 
 -- ---- fields
 
--- a field behind its number and the `:`
+-- a field after its number and the `:`
 abbrev pub index_field : PatWithin → List Attr → List ℕ → Tokens → Read FieldPat
 index_field deeper attrs index ts = field_by deeper attrs (Some (index, ts)) ts
 
--- a field behind its name and the `:`
+-- a field after its name and the `:`
 abbrev pub full_field : PatWithin → List Attr → Name → Tokens → Read FieldPat
 full_field deeper attrs name ts = named_field deeper attrs (Some (name, ts)) ts
 

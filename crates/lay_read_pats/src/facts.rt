@@ -8,7 +8,7 @@ ghost use Rattle.lay_node.specs.nodes.Types as types;
 use lay_node::{Args, Pat, Path, PathStart, Word};
 use lay_token::word::{Class, word_class};
 
-/// Whether the pattern is a name that is bound, with nothing behind it.
+/// Whether the pattern is a name that is bound, with nothing after it.
 #[tactic(auto, using(crate::proofs::Steps::short_is))]
 pub(crate) fn is_short(pat: &Pat) -> bool
     ensures { result ≡ (about_pat pat.now).short }

@@ -29,7 +29,7 @@ fn call_pat(alloc: Global, at: &mut Ahead<'_>) -> Result<Found<Pat>, ReadNone>
     })
 }
 
-/// Whether what no pattern is followed by stands at the front.
+/// Whether what no pattern is followed by comes next.
 fn goes_on(at: &Ahead<'_>) -> bool
     ensures { result ≡ follow.goes_on_pattern at.now }
 {

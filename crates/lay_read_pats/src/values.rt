@@ -17,21 +17,21 @@ use lay_read_tokens::{Ahead, Found, ReadNone};
 use lay_read_types::path_ahead;
 use std::alloc::Global;
 
-/// Whether the `..` or `..=` of a span stands at the front.
+/// Whether the `..` or `..=` of a span comes next.
 pub fn begins_dots(at: &Ahead<'_>) -> bool
     ensures { result ≡ follow.begins_dots at.now }
 {
     at.op_is(b"..") || at.op_is(b"..=")
 }
 
-/// Whether a value begins at the front.
+/// Whether a value comes next.
 pub fn begins_value(at: &Ahead<'_>) -> bool
     ensures { result ≡ begins.begins_value at.now }
 {
     is_at_literal(at) || is_at_mark(at, b"-")
 }
 
-/// Whether the end of a span begins at the front.
+/// Whether the end of a span comes next.
 fn begins_span_end(at: &Ahead<'_>) -> bool
     ensures { result ≡ begins.begins_span_end at.now }
 {
@@ -46,7 +46,7 @@ fn pass_three(at: &mut Ahead<'_>)
     pass_two(at);
 }
 
-/// A literal, or a number behind a `-`.
+/// A literal, or a number after a `-`.
 #[tactic(auto, using(crate::proofs::Steps::negative_value, crate::proofs::Steps::plain_value))]
 fn read_value(alloc: Global, at: &mut Ahead<'_>) -> Result<PatValue, ReadNone>
     ensures { IsGot (reader.value at.old) result at.new }
@@ -89,7 +89,7 @@ fn one_end(alloc: Global, at: &mut Ahead<'_>, depth: u32) -> Result<Found<SpanEn
     }
 }
 
-/// A span that ends, behind its `..` or `..=`.
+/// A span that ends, after its `..` or `..=`.
 fn closed_span(
     alloc: Global,
     at: &mut Ahead<'_>,
@@ -117,7 +117,7 @@ fn closed_span(
     })
 }
 
-/// A `..` without an end behind it: a rest, or a span with its first end alone.
+/// A `..` without an end after it: a rest, or a span with its first end alone.
 fn open_span(
     alloc: Global,
     at: &Ahead<'_>,

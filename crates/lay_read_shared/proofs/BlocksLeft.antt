@@ -1,4 +1,4 @@
--- What reading of blocks, statements, arms and closures leaves: the tokens behind those that are read.
+-- What reading of blocks, statements, arms and closures leaves: the tokens after those that are read.
 use Rattle.std.proofs.Common.{ℕ, suc, ◌||◌, Bool, true, false, List, [], ◌∷◌, drop, codes, Option, Some, None, is_some, if◌then◌else◌, arith}
 use Rattle.lay_piece.specs.declared.kind.Delim.TheVariants.{Brace}
 use Rattle.lay_token.specs.Operators.{is_op}
@@ -62,12 +62,12 @@ arm_end_left free ts = by (first (is_mark (codes ",")) ts) (free || first (close
 module _ (deeper : ExprWithin) (l : LeftCode deeper) where
   -- ---- statements
 
-  -- a value behind its `=`
+  -- a value after its `=`
   value_left : (ts : Tokens) → Leaves 0 ts (if_read (is_op (codes "=") ts) (λ us. deeper.exprs FREE (drop 1 us)) ts)
   value_left ts = read_left (is_op (codes "=") ts) (λ us. deeper.exprs FREE (drop 1 us)) ts
       (further 0 0 1 ts (drop 1 ts) (deeper.exprs FREE (drop 1 ts)) (omega arith) (dropped 1 ts) (l.exprs FREE (drop 1 ts)))
 
-  -- a type behind its `:`
+  -- a type after its `:`
   typed_left : (ts : Tokens) → Leaves 0 ts (if_read (is_op (codes ":") ts) (λ us. deeper.kinds.types Bounds (drop 1 us)) ts)
   typed_left ts = read_left (is_op (codes ":") ts) (λ us. deeper.kinds.types Bounds (drop 1 us)) ts
       (further 0 0 1 ts (drop 1 ts) (deeper.kinds.types Bounds (drop 1 ts)) (omega arith) (dropped 1 ts) (l.kinds.types Bounds (drop 1 ts)))
@@ -198,7 +198,7 @@ module _ (deeper : ExprWithin) (l : LeftCode deeper) where
   with_block_left : (make : Block → Expr) (ts : Tokens) → Leaves 1 ts (r.block_expr deeper make ts)
   with_block_left make ts = chain 1 1 0 ts (b.block_by deeper ts) _ (omega arith) (block_left ts) (λ x. unread x.1)
 
-  -- the same behind a word
+  -- the same after a word
   worded_left : {A : Type 0} (ts : Tokens) (o : Got A) → Leaves 1 (tail ts) o → Leaves 1 ts o
   worded_left ts o a = further 1 0 1 ts (tail ts) o (omega arith) (tail_left ts) a
 

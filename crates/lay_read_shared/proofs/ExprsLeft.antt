@@ -1,4 +1,4 @@
--- What reading of expressions leaves: the tokens behind those that are read.
+-- What reading of expressions leaves: the tokens after those that are read.
 use Rattle.std.proofs.Common.{ℕ, zero, suc, ◌==◌, nat_le, ◌&&◌, not, Bool, true, false, List, [], ◌∷◌, drop, length, codes, Option, Some, None, is_some, refl, arith}
 use Rattle.std.proofs.lemmas.List.{length-drop}
 use Rattle.lay_piece.specs.declared.kind.Delim.TheVariants.{Paren, Bracket, Brace}
@@ -41,7 +41,7 @@ use Rattle.lay_read_shared.proofs.HeadPartsLeft.{tail_left}
 
 -- ---- small parts
 
--- behind some tokens, where there is one
+-- after some tokens, where there is one
 behind_left : (n : ℕ) (t : Token) (ts : Tokens) → Left 1 (t ∷ ts) (drop (suc n) (t ∷ ts))
 behind_left n t ts = record { count = suc n; dropped = refl; fewer = omega (arith, length-drop n ts) }
 
@@ -80,7 +80,7 @@ continue_left ts = chain 0 0 0 ts (if_there (first is_lifetime ts) lifetime ts) 
 -- ---- over what is one level deeper
 
 module _ (deeper : ExprWithin) (l : LeftCode deeper) where
-  -- expressions, of which nothing is asked behind them
+  -- expressions, of which nothing is asked after them
   free_left : (closing : Token → Bool) (ts : Tokens) → Leaves 1 ts (r.free_elements deeper closing ts)
   free_left closing ts = chain 1 1 0 ts (elements closing (deeper.exprs FREE) ts) _ (omega arith)
       (elements_left (deeper.exprs FREE) (l.exprs FREE) closing ts) (λ xs. unread xs.1)
@@ -162,7 +162,7 @@ module _ (deeper : ExprWithin) (l : LeftCode deeper) where
   bracket_left ts = choice 0 ts (first (closes Bracket) ts) _ _ (λ h. tail_left ts)
       (chain 0 1 0 ts (deeper.exprs FREE ts) _ (omega arith) (l.exprs FREE ts) (λ x. bracket_by_left x.0 x.1))
 
-  -- ---- behind a word or an operator
+  -- ---- after a word or an operator
 
   operand_if_left : (level : ℕ) (no_struct : Bool) (ts : Tokens) → Leaves 0 ts (r.operand_if deeper level no_struct ts)
   operand_if_left level no_struct ts = read_left (begins_operand no_struct ts) (deeper.exprs (plain level no_struct)) ts
@@ -201,7 +201,7 @@ module _ (deeper : ExprWithin) (l : LeftCode deeper) where
 
   -- ---- what begins an expression
 
-  -- behind the token that begins it
+  -- after the token that begins it
   led : {A : Type 0} (t : Token) (ts : Tokens) (o : Got A) → Leaves 0 ts o → Leaves 1 (t ∷ ts) o
   led t ts o a = further 1 1 0 (t ∷ ts) ts o (omega arith) (one_read t ts) a
 
@@ -278,7 +278,7 @@ module _ (deeper : ExprWithin) (l : LeftCode deeper) where
       (chain 0 0 0 ts (repeat begins_step (r.one_step deeper) ts) _ (omega arith)
       (repeat_left (r.one_step deeper) step_left begins_step ts) (λ steps. unread steps.1))
 
-  -- ---- operators behind an operand
+  -- ---- operators after an operand
 
   pub operand_left : (level : ℕ) (no_struct : Bool) (ts : Tokens) → Leaves 1 ts (r.operand deeper level no_struct ts)
   unfolding r.operand

@@ -1,4 +1,4 @@
--- What reading of the parts of heads leaves: the tokens behind those that are read.
+-- What reading of the parts of heads leaves: the tokens after those that are read.
 use Rattle.std.proofs.Common.{◌≡◌, ℕ, ◌&&◌, Bool, [], ◌∷◌, refl, true, false, drop, codes, None, arith}
 use Rattle.lay_token.specs.Operators.{is_op}
 use Rattle.lay_piece.specs.declared.kind.Delim.TheVariants.{Paren, Brace}

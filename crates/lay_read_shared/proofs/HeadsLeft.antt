@@ -1,4 +1,4 @@
--- What reading of heads leaves: the tokens behind those that are read.
+-- What reading of heads leaves: the tokens after those that are read.
 use Rattle.std.proofs.Common.{ℕ, ◌&&◌, ◌||◌, not, Bool, true, false, List, drop, codes, Option, Some, None, if◌then◌else◌, arith}
 use Rattle.lay_token.specs.Operators.{is_op}
 use Rattle.lay_piece.specs.declared.kind.Delim.TheVariants.{Paren, Brace}

@@ -1,4 +1,4 @@
--- What reading of items leaves: the tokens behind those that are read.
+-- What reading of items leaves: the tokens after those that are read.
 use Rattle.std.proofs.Common.{ℕ, ◌||◌, true, false, None, drop, codes, is_some, arith}
 use Rattle.lay_piece.specs.declared.kind.Delim.TheVariants.{Brace}
 use Rattle.lay_node.specs.Ahead.{Tokens, first, tail, is_keyword, is_mark, opens, closes, more_items}

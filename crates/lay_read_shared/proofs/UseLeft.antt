@@ -1,4 +1,4 @@
--- What reading of use trees leaves: the tokens behind those that are read.
+-- What reading of use trees leaves: the tokens after those that are read.
 use Rattle.std.proofs.Common.{ℕ, zero, suc, None, codes, arith}
 use Rattle.lay_token.specs.Operators.{is_op}
 use Rattle.lay_piece.specs.declared.kind.Delim.TheVariants.{Brace}

@@ -1,4 +1,4 @@
-//! The loop of parts that stand one behind another, over a function that reads one of them.
+//! The loop of parts that stand one after another, over a function that reads one of them.
 ghost use Rattle.std.specs.Prelude.{◌≡◌, ◌≤◌, ◌++◌, ◌∷◌, [], IfErr, IfOk, MatchResult};
 ghost use Rattle.lay_node.specs.reader.Loops.{repeat};
 ghost use Rattle.lay_code.specs.reader.Exprs.{begins_else_if};
@@ -22,15 +22,15 @@ pub enum Going {
     Steps,
     /// Operators of this level and their operands.
     Operands(u8),
-    /// Types behind `as`.
+    /// Types after `as`.
     Types,
     /// What stands within braces.
     Items,
-    /// Branches behind `else if`.
+    /// Branches after `else if`.
     ElseIfs,
 }
 
-/// Whether `else if` stands at the front.
+/// Whether `else if` comes next.
 fn begins_else_if(at: &Ahead<'_>) -> bool
     ensures { result ≡ begins_else_if at.now }
 {
@@ -38,7 +38,7 @@ fn begins_else_if(at: &Ahead<'_>) -> bool
     takes_keyword(&mut behind, b"else") && is_at_keyword(&behind, b"if")
 }
 
-/// Whether one more part begins at the front.
+/// Whether one more part comes next.
 fn goes_on(at: &Ahead<'_>, going: Going) -> bool
     ensures { result ≡ goes_on going at.now }
 {
@@ -51,7 +51,7 @@ fn goes_on(at: &Ahead<'_>, going: Going) -> bool
     }
 }
 
-/// Keeps a part behind those before it, and tells what it needs. It is taken apart in a call of its own, so that the loop holds no
+/// Keeps a part after those before it, and tells what it needs. It is taken apart in a call of its own, so that the loop holds no
 /// room for the moves while a part is read.
 #[inline(never)]
 fn keep_part<T: Drop>(

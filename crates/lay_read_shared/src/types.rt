@@ -11,7 +11,7 @@ use lay_read_tokens::{Ahead, Found, ReadNone};
 use lay_read_types::type_ahead;
 use std::alloc::Global;
 
-/// A type behind an operator of one character, if that stands at the front.
+/// A type after an operator of one character, if that comes next.
 pub fn type_if(
     alloc: Global,
     at: &mut Ahead<'_>,

@@ -1,4 +1,4 @@
--- Attributes in a row at the front, from what reading gives.
+-- Attributes in a row at the beginning, from what reading gives.
 use Rattle.std.proofs.Common.{◌≡◌, ℕ, Bool, List, [], ◌∷◌, Some, None, Ok, Err, refl, sym, ap, subst, ◌∙◌}
 use Rattle.lay_form.specs.Spelled.{Spells}
 use Rattle.lay_node.specs.Ahead.{Tokens}

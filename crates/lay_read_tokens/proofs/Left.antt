@@ -1,4 +1,4 @@
--- What reading leaves: the tokens behind those that are read.
+-- What reading leaves: the tokens after those that are read.
 use Rattle.std.proofs.Common.{◌≡◌, ℕ, zero, suc, ◌+◌, ◌<◌, ◌≤◌, Bool, true, false, List, [], ◌∷◌, length, map, drop, codes, Option, Some, None, refl, sym, ap, ◌∙◌, if◌then◌else◌, arith, length-append}
 use Rattle.std.specs.List.{list_all}
 use Rattle.std.proofs.Math.Seq.{drop-append_seam}
@@ -24,13 +24,13 @@ use Rattle.lay_node.specs.declared.token.Name.{Name}
 use Rattle.lay_node.specs.declared.token.Word.{Word}
 use Rattle.lay_read_tokens.proofs.Lists.{Whole, run_whole}
 
--- The rest stands behind at least n tokens.
+-- The rest stands after at least n tokens.
 pub record Left (n : ℕ) (ts rest : Tokens) : Type 0 where
   pub count : ℕ
   pub dropped : rest ≡ drop count ts
   pub fewer : n + length rest ≤ length ts
 
--- What reading leaves, if it gives anything, stands behind at least n tokens.
+-- What reading leaves, if it gives anything, stands after at least n tokens.
 abbrev pub Leaves : {A : Type 0} → ℕ → Tokens → Got A → Type 0
 Leaves n ts None = Unit {0}
 Leaves n ts (Some got) = Left n ts got.1
@@ -90,7 +90,7 @@ pub choice : {A : Type 0} (n : ℕ) (ts : Tokens) (b : Bool) (x y : Got A) → (
 choice n ts true x y p q = p refl
 choice n ts false x y p q = q
 
--- ---- the front
+-- ---- the beginning
 
 pub first_read : (p : Token → Bool) (ts : Tokens) → first p ts ≡ true → Left 1 ts (tail ts)
 first_read p [] h = absurd (cc)
@@ -332,7 +332,7 @@ no_longer : (ts : Tokens) (o : Option Tokens) (rest : Tokens) → Passes 0 ts o 
 no_longer ts None rest a e = absurd (cc)
 no_longer ts (Some left) rest a e = let same : left ≡ rest = cc in omega (arith, a.fewer, ap length same)
 
--- the same behind an element and what ends it
+-- the same after an element and what ends it
 pub element_shorter : {A : Type 0} (closing : Token → Bool) (ts : Tokens) (got : Got A) (x : A) (mid behind : Tokens)
     → Leaves 1 ts got
     → got ≡ Some (x, mid) → element_end closing mid ≡ Some behind → length behind < length ts

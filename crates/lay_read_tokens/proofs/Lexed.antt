@@ -77,7 +77,7 @@ token_string t h = record {
   raw = λ e. raw_piece t.text (ap (λ k. is_text_of k t.text) (sym e) ∙ h);
 }
 
--- The text of the token at the front is UTF-8.
+-- The text of the token at the beginning is UTF-8.
 pub front_utf8 : (ts : List Token) (o : Option (Bor Token)) → option_copied o ≡ slice_get ts 0 → are_texts ts ≡ true
     → IfSome o (λ t. IsUtf8 t.now.text)
 front_utf8 ts None e h = tt
@@ -87,7 +87,7 @@ front_utf8 (t ∷ ts) (Some u) e h =
     let text = piece_utf8 t.kind t.text (and_parts (is_text_of t.kind t.text) (are_texts ts) h).0 in
     IsUtf8-from_is_utf8 u.now.text (subst (λ (v : Token). is_utf8 v.text ≡ true) same text)
 
--- The token at the front is a piece of its kind, where it is a string.
+-- The token at the beginning is a piece of its kind, where it is a string.
 pub front_string : (ts : List Token) (o : Option (Bor Token)) → option_copied o ≡ slice_get ts 0 → are_texts ts ≡ true
     → IfSome o (λ t. IsString t.now)
 front_string ts None e h = tt

@@ -58,7 +58,7 @@ IsFound read (Err none) left = Stopped read none
 abbrev pub AreFound : {A : Type 0} → List (A × ℕ) → Found (List A) → Type 0
 AreFound read found = (nodes read ≡ found.node) × (deepest read ≡ found.need)
 
--- The node stands at the front at this depth, and this is what follows it.
+-- The node stands at the beginning at this depth, and this is what follows it.
 abbrev pub StandsBefore : {A : Type 0} → (A → Tokens → ℕ → ℕ → Type 0) → ℕ → Tokens → A → Tokens → Type 0
 StandsBefore Front depth ahead node left = (n : ℕ) × (left ≡ drop n ahead) × Front node ahead n depth
 
@@ -66,23 +66,23 @@ StandsBefore Front depth ahead node left = (n : ℕ) × (left ≡ drop n ahead) 
 abbrev pub IsSole : {A : Type 0} → (A → Tokens → Type 0) → A → Tokens → Type 0
 IsSole {A} Stands node left = (other : A) (rest : Tokens) → Stands other rest → (other ≡ node) × (rest ≡ left)
 
--- What a reader of a node answers. Where it reads one, the node stands at the front, no other does, and the cursor moves
+-- What a reader of a node answers. Where it reads one, the node comes next, no other does, and the cursor moves
 -- past it; where it doesn't, none stands there, or memory ran out, and the cursor stays.
 abbrev pub IsRead : {A : Type 0} → (A → Tokens → ℕ → ℕ → Type 0) → Tokens → Result A ReadNone → Tokens → Type 0
 IsRead Front ahead (Ok node) left = StandsBefore Front 0 ahead node left × IsSole (StandsBefore Front 0 ahead) node left
 IsRead {A} Front ahead (Err NoReading) left = (left ≡ ahead) × ((node : A) (n : ℕ) → Front node ahead n 0 → ⊥)
 IsRead Front ahead (Err NoMemory) left = left ≡ ahead
 
--- The nodes stand at the front one behind the other, and this is what follows them.
+-- The nodes come next one after the other, and this is what follows them.
 abbrev pub StandInRow : {A : Type 0} → (A → Tokens → ℕ → ℕ → Type 0) → Tokens → List A → Tokens → Type 0
 StandInRow Front ahead [] left = left ≡ ahead
 StandInRow Front ahead (node ∷ nodes) left = (rest : Tokens) × StandsBefore Front 0 ahead node rest × StandInRow Front rest nodes left
 
--- The same, and none begins behind them.
+-- The same, and none begins after them.
 abbrev pub AreAll : {A : Type 0} → (A → Tokens → ℕ → ℕ → Type 0) → (Tokens → Bool) → Tokens → List A → Tokens → Type 0
 AreAll Front begins ahead nodes left = StandInRow Front ahead nodes left × IsFalse (begins left)
 
--- What a reader of nodes in a row answers. Where it reads them, they stand at the front and none begins behind them, no others
+-- What a reader of nodes in a row answers. Where it reads them, they come next and none begins after them, no others
 -- do, and the cursor moves past them; where it doesn't, no such nodes stand there, or memory ran out, and the cursor stays.
 abbrev pub AreRead : {A : Type 0} → (A → Tokens → ℕ → ℕ → Type 0) → (Tokens → Bool) → Tokens → Result (List A) ReadNone → Tokens → Type 0
 AreRead Front begins ahead (Ok nodes) left = AreAll Front begins ahead nodes left × IsSole (AreAll Front begins ahead) nodes left
@@ -149,7 +149,7 @@ AreAdded before tokens (Err NoMemory) now = Unit {0}
 abbrev pub goes_on : Bool → Tokens → Bool
 goes_on to_comma ts = begins_tree ts && not (to_comma && first (is_mark (codes ",")) ts)
 
--- the delimiter of the opener at the front
+-- the delimiter of the opener at the beginning
 abbrev pub opened_by : Kind → Option Delim
 opened_by (Opener d) = Some d
 opened_by _ = None
@@ -167,7 +167,7 @@ closed inner path got = do given ← got; rest ← passed (closes Bracket) given
 abbrev pub meta_rest : Bool → MetaPath → Tokens → Got Attr
 meta_rest inner path ts = closed inner path (meta_input ts)
 
--- the value that it is given, behind the `=`
+-- the value that it is given, after the `=`
 abbrev pub value_behind : Tokens → Got MetaInput
 value_behind ts = do us ← reader.tokens ts; if is_empty us.0 then None else Some (input.Value us.0, us.1)
 

@@ -50,7 +50,7 @@ impl<'a> Ahead<'a> {
         Ahead { at: self.at.fork() }
     }
 
-    /// The token behind this many others, or `None` where no more than so many are ahead.
+    /// The token after this many others, or `None` where no more than so many are ahead.
     pub fn peek(&self, ahead: usize) -> Option<&'a Token>
         ensures token { option_copied result ≡ slice_get self.now ahead }
         ensures within { MatchOption result (length self.now ≤ ahead)
@@ -59,7 +59,7 @@ impl<'a> Ahead<'a> {
         self.at.peek(ahead)
     }
 
-    /// The token at the front, whose text is UTF-8, and which is a piece of its kind where it is a string.
+    /// The token at the beginning, whose text is UTF-8, and which is a piece of its kind where it is a string.
     pub fn front(&self) -> Option<&'a Token>
         ensures token { option_copied result ≡ slice_get self.now 0 }
         ensures text { IfSome result (λ token. IsUtf8 token.now.text) }
@@ -75,7 +75,7 @@ impl<'a> Ahead<'a> {
         self.at.is_end()
     }
 
-    /// Whether the operator at the front is this one.
+    /// Whether the operator at the beginning is this one.
     pub fn op_is(&self, op: &[u8]) -> bool
         ensures { result ≡ is_op op.now self.now }
     {
@@ -90,7 +90,7 @@ impl<'a> Ahead<'a> {
         self.at.step();
     }
 
-    /// Moves past the group at the front, and gives what is inside its delimiters.
+    /// Moves past the group at the beginning, and gives what is inside its delimiters.
     pub fn group(&mut self) -> Ahead<'a>
         requires { IsTrue (begins_group self.old) }
         ensures { Grouped self.old result self.new }
@@ -100,7 +100,7 @@ impl<'a> Ahead<'a> {
         }
     }
 
-    /// Moves past the token tree at the front, and gives its tokens: one token, or a group with its delimiters.
+    /// Moves past the token tree at the beginning, and gives its tokens: one token, or a group with its delimiters.
     pub(crate) fn tree(&mut self) -> &'a [Token]
         requires { IsTrue (begins_tree self.old) }
         ensures whole { self.old ≡ result.now ++ self.new }

@@ -26,7 +26,7 @@ use lay_node::{Attr, MetaInput, MetaPath};
 use lay_token::{Delim, Kind, List, NoMemory, Text, Token};
 use std::alloc::Global;
 
-/// All the attributes at the front: inner ones, or outer ones. Where one that begins there can't be read the cursor stays.
+/// All the attributes at the beginning: inner ones, or outer ones. Where one that begins there can't be read the cursor stays.
 pub fn read_attrs(alloc: Global, at: &mut Cursor<'_>, inner: bool) -> Result<List<Attr>, ReadNone>
     requires { AreLexed at.old }
     ensures { AreRead (λ (attr : Attr). Front (about_attr inner attr)) (reader.begins_attr inner)
@@ -38,7 +38,7 @@ pub fn read_attrs(alloc: Global, at: &mut Cursor<'_>, inner: bool) -> Result<Lis
     Ok(attrs)
 }
 
-/// The attribute at the front, an inner one or an outer one. Where there is none the cursor stays.
+/// The attribute at the beginning, an inner one or an outer one. Where there is none the cursor stays.
 pub fn read_attr(alloc: Global, at: &mut Cursor<'_>, inner: bool) -> Result<Attr, ReadNone>
     requires { AreLexed at.old }
     ensures { IsRead (λ (attr : Attr). Front (about_attr inner attr)) at.old result at.new }
@@ -49,7 +49,7 @@ pub fn read_attr(alloc: Global, at: &mut Cursor<'_>, inner: bool) -> Result<Attr
     Ok(attr)
 }
 
-/// The attributes at the front. Where one can't be read the cursor may stand anywhere.
+/// The attributes at the beginning. Where one can't be read the cursor may stand anywhere.
 pub fn attrs_ahead(alloc: Global, at: &mut Ahead<'_>, inner: bool) -> Result<List<Attr>, ReadNone>
     ensures { IsGot (reader.attributes inner at.old) result at.new }
 {
@@ -61,7 +61,7 @@ pub fn attrs_ahead(alloc: Global, at: &mut Ahead<'_>, inner: bool) -> Result<Lis
     Ok(attrs)
 }
 
-/// Whether an attribute begins at the front.
+/// Whether an attribute comes next.
 fn begins_attr(at: &Ahead<'_>, inner: bool) -> bool
     ensures { result ≡ reader.begins_attr inner at.now }
 {
@@ -79,7 +79,7 @@ fn begins_attr(at: &Ahead<'_>, inner: bool) -> bool
     is_at_mark(&behind, b"!")
 }
 
-/// The attribute at the front. Where there is none the cursor may stand anywhere.
+/// The attribute at the beginning. Where there is none the cursor may stand anywhere.
 #[tactic(auto, unfolding(lay_node::specs::reader::Attr::attribute))]
 fn attr_ahead(alloc: Global, at: &mut Ahead<'_>, inner: bool) -> Result<Attr, ReadNone>
     ensures { IsGot (reader.attribute inner at.old) result at.new }
@@ -91,7 +91,7 @@ fn attr_ahead(alloc: Global, at: &mut Ahead<'_>, inner: bool) -> Result<Attr, Re
     }
 }
 
-/// Whether documentation stands at the front.
+/// Whether documentation comes next.
 fn is_at_doc(at: &Ahead<'_>, inner: bool) -> bool
     ensures { result ≡ first (reader.is_doc inner) at.now }
 {
@@ -104,7 +104,7 @@ fn is_at_doc(at: &Ahead<'_>, inner: bool) -> bool
     }
 }
 
-/// Documentation at the front, spelled as a comment.
+/// Documentation at the beginning, spelled as a comment.
 #[tactic(auto, unfolding(lay_node::specs::reader::Attr::doc_attr))]
 fn read_doc(alloc: Global, at: &mut Ahead<'_>, inner: bool) -> Result<Attr, ReadNone>
     ensures { IsGot (reader.doc_attr inner at.old) result at.new }
@@ -264,7 +264,7 @@ fn doc_value(
     }
 }
 
-/// Whether a closing bracket stands behind the first token.
+/// Whether a closing bracket stands after the first token.
 fn is_alone(at: &Ahead<'_>) -> bool
     ensures { result ≡ first (closes Bracket) (tail at.now) }
 {

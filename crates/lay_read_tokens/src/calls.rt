@@ -16,7 +16,7 @@ use lay_node::MacroCall;
 use lay_token::Delim;
 use std::alloc::Global;
 
-/// The macro call at the front. Where there is none the cursor stays.
+/// The macro call at the beginning. Where there is none the cursor stays.
 pub fn read_call(alloc: Global, at: &mut Cursor<'_>) -> Result<MacroCall, ReadNone>
     requires { AreLexed at.old }
     ensures { IsRead (λ (call : MacroCall). Front (about_call call)) at.old result at.new }
@@ -27,7 +27,7 @@ pub fn read_call(alloc: Global, at: &mut Cursor<'_>) -> Result<MacroCall, ReadNo
     Ok(call)
 }
 
-/// The macro call at the front. Where there is none the cursor may stand anywhere.
+/// The macro call at the beginning. Where there is none the cursor may stand anywhere.
 #[tactic(auto, unfolding(lay_node::specs::reader::Call::call))]
 pub fn call_ahead(alloc: Global, at: &mut Ahead<'_>) -> Result<MacroCall, ReadNone>
     ensures { IsGot (reader.call at.old) result at.new }
@@ -40,7 +40,7 @@ pub fn call_ahead(alloc: Global, at: &mut Ahead<'_>) -> Result<MacroCall, ReadNo
     Ok(MacroCall { path, tokens })
 }
 
-/// Passes what ends an item that is a macro call or declares a macro: behind braces nothing, and else a `;`.
+/// Passes what ends an item that is a macro call or declares a macro: after braces nothing, and else a `;`.
 pub fn takes_end(at: &mut Ahead<'_>, delim: Delim) -> bool
     ensures { (if result then Some at.new else None) ≡ reader.behind_end delim at.old }
 {

@@ -1,4 +1,4 @@
-//! The front of the tokens ahead.
+//! The beginning of the tokens ahead.
 ghost use Rattle.std.specs.Prelude.{◌≡◌, ◌&&◌, if◌then◌else◌, drop, codes, Some, None};
 ghost use Rattle.lay_token.specs.Operators.{is_op};
 ghost use Rattle.lay_node.specs.Ahead as ahead;
@@ -74,7 +74,7 @@ fn pass_if(at: &mut Ahead<'_>, found: bool)
     }
 }
 
-/// Whether the keyword stands at the front.
+/// Whether the keyword comes next.
 pub fn is_at_keyword(at: &Ahead<'_>, word: &[u8]) -> bool
     ensures { result ≡ first (ahead.is_keyword word.now) at.now }
 {
@@ -84,7 +84,7 @@ pub fn is_at_keyword(at: &Ahead<'_>, word: &[u8]) -> bool
     }
 }
 
-/// Passes the keyword, if it stands at the front.
+/// Passes the keyword, if it comes next.
 pub fn takes_keyword(at: &mut Ahead<'_>, word: &[u8]) -> bool
     ensures found { result ≡ first (ahead.is_keyword word.now) at.old }
     ensures passed { at.new ≡ (if result then tail at.old else at.old) }
@@ -94,7 +94,7 @@ pub fn takes_keyword(at: &mut Ahead<'_>, word: &[u8]) -> bool
     found
 }
 
-/// Whether the mark stands at the front.
+/// Whether the mark comes next.
 pub fn is_at_mark(at: &Ahead<'_>, character: &[u8]) -> bool
     ensures { result ≡ first (ahead.is_mark character.now) at.now }
 {
@@ -104,7 +104,7 @@ pub fn is_at_mark(at: &Ahead<'_>, character: &[u8]) -> bool
     }
 }
 
-/// Passes the mark, if it stands at the front.
+/// Passes the mark, if it comes next.
 pub fn takes_mark(at: &mut Ahead<'_>, character: &[u8]) -> bool
     ensures found { result ≡ first (ahead.is_mark character.now) at.old }
     ensures passed { at.new ≡ (if result then tail at.old else at.old) }
@@ -114,7 +114,7 @@ pub fn takes_mark(at: &mut Ahead<'_>, character: &[u8]) -> bool
     found
 }
 
-/// Whether an opener stands at the front.
+/// Whether an opener comes next.
 pub(crate) fn is_at_opener(at: &Ahead<'_>) -> bool
     ensures { result ≡ first begins_group at.now }
 {
@@ -124,7 +124,7 @@ pub(crate) fn is_at_opener(at: &Ahead<'_>) -> bool
     }
 }
 
-/// Whether an opener of the delimiter stands at the front.
+/// Whether an opener of the delimiter comes next.
 pub fn is_at_opened(at: &Ahead<'_>, delim: Delim) -> bool
     ensures { result ≡ first (ahead.opens delim) at.now }
 {
@@ -134,7 +134,7 @@ pub fn is_at_opened(at: &Ahead<'_>, delim: Delim) -> bool
     }
 }
 
-/// Passes an opener of the delimiter, if it stands at the front.
+/// Passes an opener of the delimiter, if it comes next.
 pub fn takes_opener(at: &mut Ahead<'_>, delim: Delim) -> bool
     ensures found { result ≡ first (ahead.opens delim) at.old }
     ensures passed { at.new ≡ (if result then tail at.old else at.old) }
@@ -144,7 +144,7 @@ pub fn takes_opener(at: &mut Ahead<'_>, delim: Delim) -> bool
     found
 }
 
-/// Whether a closer of the delimiter stands at the front.
+/// Whether a closer of the delimiter comes next.
 pub fn is_at_closer(at: &Ahead<'_>, delim: Delim) -> bool
     ensures { result ≡ first (ahead.closes delim) at.now }
 {
@@ -154,7 +154,7 @@ pub fn is_at_closer(at: &Ahead<'_>, delim: Delim) -> bool
     }
 }
 
-/// Passes a closer of the delimiter, if it stands at the front.
+/// Passes a closer of the delimiter, if it comes next.
 pub fn takes_closer(at: &mut Ahead<'_>, delim: Delim) -> bool
     ensures found { result ≡ first (ahead.closes delim) at.old }
     ensures passed { at.new ≡ (if result then tail at.old else at.old) }
@@ -164,7 +164,7 @@ pub fn takes_closer(at: &mut Ahead<'_>, delim: Delim) -> bool
     found
 }
 
-/// Passes a `_`, if it stands at the front.
+/// Passes a `_`, if it comes next.
 pub fn takes_underscore(at: &mut Ahead<'_>) -> bool
     ensures found { result ≡ first is_underscore at.old }
     ensures passed { at.new ≡ (if result then tail at.old else at.old) }
@@ -177,7 +177,7 @@ pub fn takes_underscore(at: &mut Ahead<'_>) -> bool
     found
 }
 
-/// Passes the operator of one character, if it stands at the front.
+/// Passes the operator of one character, if it comes next.
 pub fn takes_op(at: &mut Ahead<'_>, op: &[u8]) -> bool
     ensures found { result ≡ is_op op.now at.old }
     ensures passed { at.new ≡ (if result then drop 1 at.old else at.old) }
@@ -197,14 +197,14 @@ pub fn pass_two(at: &mut Ahead<'_>)
     pass(at);
 }
 
-/// Whether a `::` stands at the front.
+/// Whether a `::` comes next.
 pub fn is_at_colons(at: &Ahead<'_>) -> bool
     ensures { result ≡ is_op (codes "::") at.now }
 {
     at.op_is(b"::")
 }
 
-/// Passes a `::`, if it stands at the front.
+/// Passes a `::`, if it comes next.
 pub fn takes_colons(at: &mut Ahead<'_>) -> bool
     ensures found { result ≡ is_op (codes "::") at.old }
     ensures passed { at.new ≡ (if result then drop 2 at.old else at.old) }
@@ -216,7 +216,7 @@ pub fn takes_colons(at: &mut Ahead<'_>) -> bool
     found
 }
 
-/// Behind an element of a list a `,` is passed, and where there is none the closer of the list stands.
+/// After an element of a list a `,` is passed, and where there is none the closer of the list stands.
 pub fn takes_element_end(at: &mut Ahead<'_>, delim: Delim) -> bool
     ensures { (if result then Some at.new else None) ≡ element_end (ahead.closes delim) at.old }
 {

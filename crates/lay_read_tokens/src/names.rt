@@ -51,7 +51,7 @@ fn word_of(token: &Token) -> Option<bool>
     }
 }
 
-/// The name at the front.
+/// The name at the beginning.
 #[tactic(auto, unfolding(lay_node::specs::reader::Words::name))]
 pub fn read_name(alloc: Global, at: &mut Ahead<'_>) -> Result<Name, ReadNone>
     ensures { IsGot (reader.name at.old) result at.new }
@@ -70,7 +70,7 @@ pub fn read_name(alloc: Global, at: &mut Ahead<'_>) -> Result<Name, ReadNone>
     }
 }
 
-/// Whether a name stands at the front.
+/// Whether a name comes next.
 #[tactic(auto, unfolding(lay_node::specs::reader::Words::name))]
 pub fn is_at_name(at: &Ahead<'_>) -> bool
     ensures { result ≡ is_some (reader.name at.now) }
@@ -81,7 +81,7 @@ pub fn is_at_name(at: &Ahead<'_>) -> bool
     }
 }
 
-/// The word at the front.
+/// The word at the beginning.
 #[tactic(auto, unfolding(lay_node::specs::reader::Words::word))]
 pub fn read_word(alloc: Global, at: &mut Ahead<'_>) -> Result<Word, ReadNone>
     ensures { IsGot (reader.word at.old) result at.new }
@@ -100,7 +100,7 @@ pub fn read_word(alloc: Global, at: &mut Ahead<'_>) -> Result<Word, ReadNone>
     }
 }
 
-/// The words of a path that have a `::` behind them.
+/// The words of a path that have a `::` after them.
 pub fn read_path_words(alloc: Global, at: &mut Ahead<'_>) -> Result<List<Word>, ReadNone>
     ensures { IsGot (reader.path_words at.old) result at.new }
 {
@@ -112,7 +112,7 @@ pub fn read_path_words(alloc: Global, at: &mut Ahead<'_>) -> Result<List<Word>, 
     Ok(words)
 }
 
-/// Whether a word and a `::` behind it stand at the front.
+/// Whether a word and a `::` after it come next.
 #[tactic(auto, unfolding(lay_node::specs::reader::Words::path_word, lay_node::specs::reader::Words::word))]
 fn begins_path_word(at: &Ahead<'_>) -> bool
     ensures { result ≡ reader.begins_path_word at.now }
@@ -127,7 +127,7 @@ fn begins_path_word(at: &Ahead<'_>) -> bool
     }
 }
 
-/// A word and the `::` behind it.
+/// A word and the `::` after it.
 #[tactic(auto, unfolding(lay_node::specs::reader::Words::path_word))]
 fn read_path_word(alloc: Global, at: &mut Ahead<'_>) -> Result<Word, ReadNone>
     ensures { IsGot (reader.path_word at.old) result at.new }

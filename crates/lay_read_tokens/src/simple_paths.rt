@@ -23,7 +23,7 @@ pub fn read_simple_path(alloc: Global, at: &mut Ahead<'_>) -> Result<SimplePath,
     Ok(SimplePath { global, words })
 }
 
-/// The words of a simple path: its first one, and those behind it, each with a `::` before it.
+/// The words of a simple path: its first one, and those after it, each with a `::` before it.
 fn read_words(alloc: Global, at: &mut Ahead<'_>, first: Word) -> Result<List<Word>, ReadNone>
     ensures { IsHeld (BeginWith first) (repeat reader.begins_colons reader.further_word at.old)
         result at.new }
@@ -37,7 +37,7 @@ fn read_words(alloc: Global, at: &mut Ahead<'_>, first: Word) -> Result<List<Wor
     Ok(words)
 }
 
-/// A word behind its `::`.
+/// A word after its `::`.
 fn read_further_word(alloc: Global, at: &mut Ahead<'_>) -> Result<Word, ReadNone>
     ensures { IsGot (reader.further_word at.old) result at.new }
 {

@@ -15,7 +15,7 @@ use lay_node::{Group, Listed, Tokens};
 use lay_token::{Delim, DocForm, Kind, List, Text, Token, doc_form};
 use std::alloc::Global;
 
-/// The token list at the front: the tokens up to the closer of the group that they stand in, or to the end.
+/// The token list at the beginning: the tokens up to the closer of the group that they stand in, or to the end.
 pub fn read_tokens(alloc: Global, at: &mut Ahead<'_>) -> Result<Tokens, ReadNone>
     ensures { IsGot (reader.tokens at.old) result at.new }
 {
@@ -29,7 +29,7 @@ pub fn read_tokens_before_comma(alloc: Global, at: &mut Ahead<'_>) -> Result<Tok
     read_list(alloc, at, true)
 }
 
-/// The token list at the front, up to a comma that stands in no group of it, if it is asked for.
+/// The token list at the beginning, up to a comma that stands in no group of it, if it is asked for.
 fn read_list(alloc: Global, at: &mut Ahead<'_>, to_comma: bool) -> Result<Tokens, ReadNone>
     ensures { IsGot (reader.tokens_of to_comma at.old) result at.new }
 {
@@ -47,7 +47,7 @@ fn goes_on(at: &Ahead<'_>, to_comma: bool) -> bool
     is_at_tree(at) && !(to_comma && is_at_mark(at, b","))
 }
 
-/// Whether a token tree begins at the front.
+/// Whether a token tree comes next.
 fn is_at_tree(at: &Ahead<'_>) -> bool
     ensures { result ≡ begins_tree at.now }
 {
@@ -57,7 +57,7 @@ fn is_at_tree(at: &Ahead<'_>) -> bool
     }
 }
 
-/// The group at the front.
+/// The group at the beginning.
 pub fn read_group(alloc: Global, at: &mut Ahead<'_>) -> Result<Group, ReadNone>
     ensures { IsGot (reader.group at.old) result at.new }
 {
@@ -67,7 +67,7 @@ pub fn read_group(alloc: Global, at: &mut Ahead<'_>) -> Result<Group, ReadNone>
     }
 }
 
-/// The delimiter of the opener at the front.
+/// The delimiter of the opener at the beginning.
 fn opener(at: &Ahead<'_>) -> Option<Delim>
     ensures { result ≡ front_opener at.now }
 {

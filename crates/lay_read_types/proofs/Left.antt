@@ -1,4 +1,4 @@
--- What reading of types, paths, arguments and bounds leaves: the tokens behind those that are read.
+-- What reading of types, paths, arguments and bounds leaves: the tokens after those that are read.
 use Rattle.std.proofs.Common.{ℕ, zero, suc, ◌&&◌, Bool, true, false, List, [], ◌∷◌, drop, codes, Option, Some, None, if◌then◌else◌, arith}
 use Rattle.lay_token.specs.Operators.{is_op}
 use Rattle.lay_piece.specs.declared.kind.Delim.TheVariants.{Paren, Bracket}

@@ -7,7 +7,7 @@ use Rattle.lay_node.specs.reader.Loops.{Got, ◌>>=◌}
 use Rattle.lay_node.specs.reader.Words.{word, word_by}
 use Rattle.lay_node.specs.declared.token.Word.{Word}
 
--- a word, and these tokens behind it
+-- a word, and these tokens after it
 abbrev worded : Option Word → Tokens → Got Word
 worded o ts = do w ← o; Some (w, ts)
 

@@ -36,7 +36,7 @@ pub record AreDeeper (depth : ℕ) (may_read : Global → MutBor Tokens → Type
 
 -- ---- types
 
--- a type behind the token that begins it
+-- a type after the token that begins it
 abbrev pub marked : Within → TypePlace → Lead → Tokens → Read Ty
 marked deeper place lead.Paren ts = paren_type deeper ts
 marked deeper place lead.Never ts = Some ((ty.Never, 1), ts)

@@ -65,7 +65,7 @@ impl<
         self.arg_rest(at, ty)
     }
 
-    /// What a type among generic arguments is: the argument, or a name of which something is asked behind it.
+    /// What a type among generic arguments is: the argument, or a name of which something is asked after it.
     #[inline(never)]
     fn arg_rest(&self, at: &mut Ahead<'_>, ty: Found<Ty>) -> Result<Found<Arg>, ReadNone>
         requires deeper { AreDeeper self.now.depth (F.pre self.now.types) (F.post self.now.types)
@@ -97,7 +97,7 @@ impl<
         })
     }
 
-    /// Generic arguments behind a `<`, and the `>` behind them.
+    /// Generic arguments after a `<`, and the `>` after them.
     #[tactic(auto, using(crate::proofs::Left::arg_leaves))]
     fn angle_args(&self, at: &mut Ahead<'_>) -> Result<Found<List<Arg>>, ReadNone>
         requires { AreDeeper self.now.depth (F.pre self.now.types) (F.post self.now.types)

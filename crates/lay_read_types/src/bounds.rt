@@ -23,7 +23,7 @@ impl Part<Bound, ()> for Bounds {
     ghost reads = { λ depth place ts. reader.one_bound (within depth) ts };
 }
 
-/// What is captured, behind `use`.
+/// What is captured, after `use`.
 #[inline(never)]
 fn captures(alloc: Global, at: &mut Ahead<'_>) -> Result<Found<Bound>, ReadNone>
     ensures read { IsFound (reader.captures at.old) result at.new }
@@ -136,7 +136,7 @@ impl<
         }
     }
 
-    /// What a name is equal to, behind its `=`.
+    /// What a name is equal to, after its `=`.
     fn equal(&self, at: &mut Ahead<'_>) -> Result<Found<Constraint>, ReadNone>
         requires deeper { AreDeeper self.now.depth (F.pre self.now.types) (F.post self.now.types)
             (G.pre self.now.constraints) (G.post self.now.constraints) }

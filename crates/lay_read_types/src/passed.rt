@@ -10,7 +10,7 @@ use lay_read_tokens::front::{is_at_colons, pass, pass_two, takes_colons};
 use lay_token::word::{Class, word_class};
 use lay_token::{Kind, Token};
 
-/// Passes a simple path, if one stands at the front. Where there is none the place may be anywhere.
+/// Passes a simple path, if one comes next. Where there is none the place may be anywhere.
 #[tactic(auto, unfolding(lay_node::specs::reader::SimplePath::simple_path))]
 pub fn takes_simple_path(at: &mut Ahead<'_>) -> bool
     ensures { IsPassed (simple_path at.old) result at.new }
@@ -19,7 +19,7 @@ pub fn takes_simple_path(at: &mut Ahead<'_>) -> bool
     takes_word(at) && takes_further_words(at)
 }
 
-/// Passes the words of a simple path behind its first, each with the `::` before it.
+/// Passes the words of a simple path after its first, each with the `::` before it.
 fn takes_further_words(at: &mut Ahead<'_>) -> bool
     ensures { IsPassed (repeat begins_colons further_word at.old) result at.new }
 {
@@ -31,7 +31,7 @@ fn takes_further_words(at: &mut Ahead<'_>) -> bool
     true
 }
 
-/// Passes a word behind its `::`.
+/// Passes a word after its `::`.
 fn takes_further_word(at: &mut Ahead<'_>) -> bool
     ensures { IsPassed (further_word at.old) result at.new }
 {
@@ -51,7 +51,7 @@ fn takes_word(at: &mut Ahead<'_>) -> bool
     }
 }
 
-/// Whether a word of a path stands at the front.
+/// Whether a word of a path comes next.
 #[tactic(auto, unfolding(lay_node::specs::reader::Words::word))]
 fn is_at_word(at: &Ahead<'_>) -> bool
     ensures { result ≡ is_some (word at.now) }

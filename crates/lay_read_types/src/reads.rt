@@ -1,4 +1,4 @@
-//! What stands at the front of the tokens of a text.
+//! What stands at the beginning of the tokens of a text.
 ghost use Rattle.lay_node.specs.nodes.Facts.{Front};
 ghost use Rattle.lay_node.specs.nodes.Types.{BoundsFront, TypeFront, about_args, about_path, about_type, alone, in_style};
 ghost use Rattle.lay_node.specs.declared.types.Args.{Args as ArgsValue};
@@ -14,7 +14,7 @@ use lay_read_tokens::{Ahead, ReadNone};
 use lay_token::List;
 use std::alloc::Global;
 
-/// The type at the front, at its place and within the depth. Where there is none the cursor stays.
+/// The type at the beginning, at its place and within the depth. Where there is none the cursor stays.
 pub fn read_type(
     alloc: Global,
     at: &mut Cursor<'_>,
@@ -31,7 +31,7 @@ pub fn read_type(
     Ok(found.node)
 }
 
-/// The path at the front, in the style and within the depth. What is within stands one level deeper. Where there is
+/// The path at the beginning, in the style and within the depth. What is within stands one level deeper. Where there is
 /// none the cursor stays.
 pub fn read_path(
     alloc: Global,
@@ -52,7 +52,7 @@ pub fn read_path(
     Ok(found.node)
 }
 
-/// The generic arguments at the front, in code with their `::`, within the depth. What is within stands one level
+/// The generic arguments at the beginning, in code with their `::`, within the depth. What is within stands one level
 /// deeper. Where there is none the cursor stays.
 pub fn read_args(
     alloc: Global,
@@ -73,7 +73,7 @@ pub fn read_args(
     Ok(found.node)
 }
 
-/// The bounds at the front, as many as there are, within the depth. What is within stands one level deeper. Where
+/// The bounds at the beginning, as many as there are, within the depth. What is within stands one level deeper. Where
 /// there is none the cursor stays.
 pub fn read_bounds(alloc: Global, at: &mut Cursor<'_>, depth: u32) -> Result<List<Bound>, ReadNone>
     requires { AreLexed at.old }

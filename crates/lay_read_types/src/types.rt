@@ -70,7 +70,7 @@ impl<
         }
     }
 
-    /// A type behind the token that begins it.
+    /// A type after the token that begins it.
     fn marked_type(
         &self,
         at: &mut Ahead<'_>,
@@ -103,7 +103,7 @@ impl<
         }
     }
 
-    /// Types with commas, and the closing parenthesis behind them.
+    /// Types with commas, and the closing parenthesis after them.
     #[tactic(auto, using(crate::proofs::Left::types_leave))]
     pub fn paren_types(&self, at: &mut Ahead<'_>) -> Result<Found<List<Ty>>, ReadNone>
         requires { AreDeeper self.now.depth (F.pre self.now.types) (F.post self.now.types)
@@ -123,7 +123,7 @@ impl<
         )
     }
 
-    /// What stands behind a `(`.
+    /// What follows a `(`.
     #[tactic(auto, unfolding(lay_node::specs::reader::Types::paren_type))]
     #[inline(never)]
     fn paren_type(&self, at: &mut Ahead<'_>) -> Result<Found<Ty>, ReadNone>
@@ -145,7 +145,7 @@ impl<
         self.paren_rest(at, first)
     }
 
-    /// What stands behind a `(` and a type.
+    /// What follows a `(` and a type.
     fn paren_rest(&self, at: &mut Ahead<'_>, first: Found<Ty>) -> Result<Found<Ty>, ReadNone>
         requires deeper { AreDeeper self.now.depth (F.pre self.now.types) (F.post self.now.types)
             (G.pre self.now.constraints) (G.post self.now.constraints) }
@@ -173,7 +173,7 @@ impl<
         })
     }
 
-    /// What stands behind a `[`.
+    /// What follows a `[`.
     #[tactic(auto, unfolding(lay_node::specs::reader::Types::bracket_type))]
     #[inline(never)]
     fn bracket_type(&self, at: &mut Ahead<'_>) -> Result<Found<Ty>, ReadNone>
@@ -198,7 +198,7 @@ impl<
         }
     }
 
-    /// What stands behind a `&`.
+    /// What follows a `&`.
     #[tactic(auto, unfolding(lay_node::specs::reader::Types::reference_type))]
     #[inline(never)]
     fn reference_type(&self, at: &mut Ahead<'_>) -> Result<Found<Ty>, ReadNone>
@@ -224,7 +224,7 @@ impl<
         })
     }
 
-    /// What stands behind a `*`.
+    /// What follows a `*`.
     #[tactic(auto, unfolding(lay_node::specs::reader::Types::pointer_type))]
     fn pointer_type(&self, at: &mut Ahead<'_>) -> Result<Found<Ty>, ReadNone>
         requires deeper { AreDeeper self.now.depth (F.pre self.now.types) (F.post self.now.types)
@@ -243,7 +243,7 @@ impl<
         })
     }
 
-    /// What stands behind `impl` or `dyn`.
+    /// What follows `impl` or `dyn`.
     #[tactic(auto, unfolding(lay_node::specs::reader::Types::bounds_type))]
     fn bounds_type(
         &self,
@@ -348,7 +348,7 @@ impl<
         )
     }
 
-    /// The parameters of a function type, and whether `...` stands behind them.
+    /// The parameters of a function type, and whether `...` stands after them.
     #[tactic(auto, unfolding(lay_node::specs::reader::Types::func_params))]
     fn func_params(&self, at: &mut Ahead<'_>) -> Result<Found<(List<FuncParam>, bool)>, ReadNone>
         requires { AreDeeper self.now.depth (F.pre self.now.types) (F.post self.now.types)
@@ -422,7 +422,7 @@ fn is_mutable(at: &mut Ahead<'_>) -> Result<bool, ReadNone>
     }
 }
 
-/// An array, behind its `;`.
+/// An array, after its `;`.
 fn array(alloc: Global, at: &mut Ahead<'_>, element: Found<Ty>) -> Result<Found<Ty>, ReadNone>
     requires { element.need + 1 < 2 ^ 32 }
     ensures read { IsFound (reader.array_by (element.node, element.need) at.old) result at.new }
@@ -440,7 +440,7 @@ fn array(alloc: Global, at: &mut Ahead<'_>, element: Found<Ty>) -> Result<Found<
     })
 }
 
-/// Whether a macro call begins at the front: a path of words before a `!`. Nothing of it is kept, so no memory is taken.
+/// Whether a macro call comes next: a path of words before a `!`. Nothing of it is kept, so no memory is taken.
 pub fn begins_call(alloc: Global, at: &Ahead<'_>) -> Result<bool, ReadNone>
     ensures { IsMade (reader.begins_call at.now) result }
 {
@@ -448,7 +448,7 @@ pub fn begins_call(alloc: Global, at: &Ahead<'_>) -> Result<bool, ReadNone>
     Ok(takes_simple_path(&mut behind) && behind.op_is(b"!"))
 }
 
-/// The name of a parameter and the `:` behind it, if they stand there.
+/// The name of a parameter and the `:` after it, if they stand there.
 fn read_param_name_if(alloc: Global, at: &mut Ahead<'_>) -> Result<Option<GivenName>, ReadNone>
     ensures { IsGot (reader.if_there (reader.begins_given at.old) reader.param_name at.old) result
         at.new }
@@ -467,7 +467,7 @@ fn read_param_name_if(alloc: Global, at: &mut Ahead<'_>) -> Result<Option<GivenN
     }
 }
 
-/// Passes `...`, if it may stand at the front and does.
+/// Passes `...`, if it may come next and does.
 fn takes_dots(at: &mut Ahead<'_>, may_vary: bool) -> bool
     ensures found { result ≡ (may_vary && is_op (codes "...") at.old) }
     ensures passed { at.new ≡ (if result then drop 3 at.old else at.old) }

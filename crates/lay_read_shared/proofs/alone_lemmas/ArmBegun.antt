@@ -106,7 +106,7 @@ arm_by_is within ts =
 
 -- ---- what is read stands there
 
--- What stands behind a body may follow it without a comma, where the flag or the end lets it lack that.
+-- What follows a body may follow it without a comma, where the flag or the end lets it lack that.
 abbrev Follows : ℕ → Bool → Expr → Tokens → Type 0
 Follows pairs free y rest = first (is_mark (codes ",")) rest ≡ false → (free || at_end rest) ≡ true → arm_follows pairs false (about_expr y) rest ≡ true
 
@@ -357,7 +357,7 @@ module _ (depth : ℕ) (within : ExprWithin) (reads : (least : ℕ) → least �
         arm_made a (is_free (about_expr (dress pairs a.body))) pat.0 guard.0 body.0 ts p.seen p.pattern p.guard p.arrow p.stop p.read pat.2 guard.2 p.is_arrow body.2,
       )
 
-  -- What stands behind the body may follow it with its braces, and the end of the arm is read.
+  -- What follows the body may follow it with its braces, and the end of the arm is read.
   end_read : (y : Expr) (pairs : ℕ) (ended : Bool) (stop rest : Tokens) → Spells (when ended comma Done) depth stop rest
       → arm_follows pairs ended (about_expr y) rest ≡ true
       → (follows (about_expr (dress pairs y)) statement stop ≡ true) × (alone_end (is_free (about_expr (dress pairs y))) stop ≡ Some rest)

@@ -87,7 +87,7 @@ counted form good follows depth ts rest s g f =
     (le, subst (λ us. Spells form depth ts us) (sym dropped) s, g, subst (λ us. follows us ≡ true) (sym dropped) f) in
     (n, dropped, front)
 
--- It stands at the front one level deeper, within the budget.
+-- It comes next one level deeper, within the budget.
 abbrev Fronted : ℕ → Tokens → (Arm × ℕ) × Tokens → Type 0
 Fronted budget ts x = (n : ℕ) × (drop n ts ≡ x.1) × (x.0.1 ≤ budget) × ArmFront x.0.0 ts n x.0.1
 

@@ -1,4 +1,4 @@
--- What follows an expression that ends by itself, or behind which no token stands: nothing goes on with it, nor with what it ends
+-- What follows an expression that ends by itself, or after which no token stands: nothing goes on with it, nor with what it ends
 -- in. What ends in a block ends in no braces but those that are in the tree.
 use Rattle.std.proofs.Common.{◌≡◌, ℕ, true, false, ◌||◌, [], ◌∷◌, inl, inr, Some, None, refl, sym, subst}
 use Rattle.std.proofs.lemmas.Bool.{and_from, or_cases}

@@ -1,4 +1,4 @@
--- Statements that end by themselves, or behind which no token stands: what is read stands there, and what stands there is
+-- Statements that end by themselves, or after which no token stands: what is read stands there, and what stands there is
 -- read, where what is one level deeper is read so.
 use Rattle.std.proofs.Common.{◌≡◌, ℕ, Bool, true, false, not, ◌&&◌, ◌||◌, List, [], ◌∷◌, inl, inr, codes, drop, Option, Some, is_some, refl, sym, ap, subst, ◌∙◌, max}
 use Rattle.std.proofs.lemmas.Bool.{and_from, and_parts, not-true}

@@ -1,4 +1,4 @@
--- Arms of a match that stand by themselves at the front of the tokens.
+-- Arms of a match that stand by themselves at the beginning of the tokens.
 use Rattle.std.specs.Prelude.{ℕ, zero, suc, max, nat_le, not, ◌&&◌, ◌||◌, Bool, true, false, if◌then◌else◌, [], ◌∷◌, map, length, drop, codes, Option, option_map, Some, None}
 use Rattle.lay_piece.specs.declared.kind.Delim.TheVariants.{Brace}
 use Rattle.lay_token.specs.Operators.{is_op}
@@ -29,7 +29,7 @@ abbrev pub levels : ℕ → Form → Form
 levels zero f = f
 levels (suc n) f = Deeper (levels n f) Done
 
--- within so many pairs of braces, each with any number of `;` behind its opening one
+-- within so many pairs of braces, each with any number of `;` after its opening one
 abbrev pub in_braces : ℕ → Form → Form
 in_braces zero f = f
 in_braces (suc n) f = Piece (opener Brace ∷ Semicolons ∷ []) (Part (in_braces n f) (piece (closer Brace ∷ [])))
@@ -41,8 +41,8 @@ arm_shape pairs ended a = behind_attrs (map attr_form a.attrs)
     (Piece (Blank ∷ Operator (codes "=>") ∷ Blank ∷ [])
     (Part (levels (cost pairs) (in_braces pairs (about_expr a.body).form)) (when ended comma Done))))
 
--- Behind its comma any token may follow an arm. Without it no comma follows; behind braces neither `.` nor `?`, as behind a
--- block; and behind a body that has none nothing that would go on with it, and no token at all unless the body is block-like
+-- After its comma any token may follow an arm. Without it no comma follows; after braces neither `.` nor `?`, as after a
+-- block; and after a body that has none nothing that would go on with it, and no token at all unless the body is block-like
 -- and no macro call.
 abbrev pub arm_follows : ℕ → Bool → ExprFacts → Tokens → Bool
 arm_follows pairs true x ts = true
@@ -70,7 +70,7 @@ arm_begun within ts = do
   x ← (if is_op (codes "=>") g.1 then body_begun within (drop 2 g.1) else None)
   Some ((((record { attrs = attrs.0; pat = p.0.0; guard = g.0.0; body = x.0.0.0 }), x.0.0.1), max p.0.1 (max g.0.1 x.0.1)), x.1)
 
--- what is left behind the comma of an arm by itself, which may lack it where the flag says so, and where no token follows
+-- what is left after the comma of an arm by itself, which may lack it where the flag says so, and where no token follows
 abbrev pub alone_end : Bool → Tokens → Option Tokens
 alone_end free ts = if first (is_mark (codes ",")) ts then Some (tail ts) else (if free || at_end ts then Some ts else None)
 

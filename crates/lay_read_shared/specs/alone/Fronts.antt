@@ -1,4 +1,4 @@
--- Blocks and statements that stand by themselves at the front of the tokens.
+-- Blocks and statements that stand by themselves at the beginning of the tokens.
 use Rattle.std.specs.Prelude.{ℕ, zero, suc, not, ◌&&◌, ◌||◌, Bool, true, false, if◌then◌else◌, codes, Some, None}
 use Rattle.lay_node.specs.Ahead.{Tokens, at_end, first, is_mark}
 use Rattle.lay_node.specs.nodes.Facts.{Told, ToldFront, by_itself}
@@ -45,6 +45,6 @@ abbrev pub alone : {A : Type 0} → (ExprWithin → Tokens → Read A) → ℕ �
 alone one zero ts = None
 alone one (suc budget) ts = do x ← one (code_in budget) ts; Some ((x.0.0, suc x.0.1), x.1)
 
--- a statement that ends by itself, or behind which no token stands
+-- a statement that ends by itself, or after which no token stands
 abbrev pub stmt_alone : ExprWithin → Tokens → Read Stmt
 stmt_alone within ts = do s ← stmt_by within ts; if (about_stmt s.0.0).ends || at_end s.1 then Some s else None

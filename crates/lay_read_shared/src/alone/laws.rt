@@ -9,7 +9,7 @@ ghost use Rattle.lay_code.specs.declared.blocks.Stmt.{Stmt};
 ghost use Rattle.lay_read_shared.specs.alone.ArmFronts.{ArmFront, alone_arm};
 ghost use Rattle.lay_read_shared.specs.alone.Fronts.{BlockFront, StmtFront, alone, stmt_alone};
 
-/// The functions that read blocks, statements and arms read exactly what stands at the front of the tokens.
+/// The functions that read blocks, statements and arms read exactly what stands at the beginning of the tokens.
 pub fn alone_law()
     ensures blocks { Exact (alone block_by) BlockFront }
     ensures stmts { Exact (alone stmt_alone) StmtFront }
