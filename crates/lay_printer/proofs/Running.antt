@@ -28,7 +28,7 @@ play_append [] b rest m = refl
 play_append (x ∷ a) b rest m =
     ap (λ (ts : List Tok). play (a ++ b) rest (step x ts m)) (append_assoc a b rest) ∙ play_append a b rest (step x (a ++ (b ++ rest)) m)
 
--- what is printed is a front of the text of all
+-- what is printed is a prefix of the text of all
 grows_to : (p w : List Tok) (m : Layout) → play p w begun ≡ m → Grows m.state.text (text (p ++ w))
 grows_to p w m e =
     let k : play p (w ++ []) begun ≡ m = ap (λ (x : List Tok). play p x begun) (append-nil w) ∙ e in
@@ -40,7 +40,7 @@ grows_by e s es m h r f =
     subst (λ (x : List Tok). Grows m.state.text (text x)) (sym (append_assoc h.printed h.waits r) ∙ ap (λ (x : List Tok). x ++ r) h.all)
     (grows_to h.printed (h.waits ++ r) m (h.shown r f))
 
--- a sink that isn't written to has a front of the text
+-- a sink that isn't written to has a prefix of the text
 pub running_broken : (es : List Entry) (p : Line) (fs : List Frame) (w : Option (List ℕ)) (content : List ℕ) (s u : List Tok) → Running false es p fs w content s → Broken false w content (s ++ u)
 running_broken es p fs w content s u h r f =
     cut_more w content h.layout.state.text (text ((s ++ u) ++ r)) (wrote_cut w content h.layout.state.text h.wrote)
@@ -223,7 +223,7 @@ waiting_append : (a b : List Entry) → waiting (a ++ b) ≡ waiting a + waiting
 waiting_append [] b = omega arith
 waiting_append (e ∷ a) b = omega (arith, waiting_append a b)
 
--- the oldest entry is printed, and some wait behind those that are held
+-- the oldest entry is printed, and some wait after those that are held
 pub prints_front_on : {T E : Type 0} (x : Bool) (es es' tail : List Entry) (e : Entry) (p p' : Line) (fs fs' : List Frame) (b n : Option (List ℕ)) (wait : ℕ) (big : Bool) (res : Result T E) →
     es ≡ e ∷ es' → wait ≡ waiting es → Decided es (wait + waiting tail) p (Some big) → Prints p fs b res p' fs' n e.tok big → Advances x (es ++ tail) p fs b res (es' ++ tail) p' fs' n (λ s. s)
 prints_front_on x es es' tail e p p' fs fs' b n wait big res a w d k =
@@ -246,7 +246,7 @@ holds_text x s e es t m k h =
     let a : e ≡ record { tok = tok.Text t; size = Known (pos (min (length t) cap)) } = ap₂ (λ (y : Tok) (v : Size). record { tok = y; size = v }) k z in
     print_known x s (tok.Text t) (min (length t) cap) es m (subst (λ (y : Entry). Holds x s (y ∷ es) m) a h)
 
--- one text behind another is printed as both in one
+-- one text after another is printed as both in one
 act_texts : (a b : List ℕ) (m : Layout) → act (tok.Text b) true (act (tok.Text a) true m) ≡ act (tok.Text (a ++ b)) true m
 act_texts a b m =
     let k : List ℕ = replicate m.state.pending 32 in
@@ -273,7 +273,7 @@ prints_texts (suc count) x es es' tail bytes p p' fs fs' b n res c r a k =
     prints_by x (es ++ tail) (es' ++ tail) (tok.Text bytes) p p' fs fs' b n true res
     (λ s m i h. subst (λ (y : List Entry). Holds x s (y ++ tail) (act (tok.Text bytes) true m)) (sym a) (holds_texts count x s es tail bytes m r h)) k
 
--- nothing stands behind those that are held
+-- nothing stands after those that are held
 pub without_tail : {T E : Type 0} (x : Bool) (es es' : List Entry) (p p' : Line) (fs fs' : List Frame) (b n : Option (List ℕ)) (res : Result T E) →
     ((tail : List Entry) → waiting tail ≡ 0 → Advances x (es ++ tail) p fs b res (es' ++ tail) p' fs' n (λ s. s)) → Advances x es p fs b res es' p' fs' n (λ s. s)
 without_tail x es es' p p' fs fs' b n res h =

@@ -155,7 +155,7 @@ texts_going (tok.Break b ∷ ts) (suc d) = at_least_widen (width_of_break b) (sc
 texts_going (tok.Begin c o ∷ ts) d = at_least_le (scan (suc d) ts) (waiting (sized false ts)) _ (texts_going ts (suc d)) (omega arith)
 texts_going (tok.End ∷ ts) d = at_least_le (scan (outer d) ts) (waiting (sized false ts)) _ (texts_going ts (outer d)) (omega arith)
 
--- so are those of an entry whose size isn't known and of what waits behind it, and its own width
+-- so are those of an entry whose size isn't known and of what waits after it, and its own width
 texts_unknown : (t : Tok) (ts : List Tok) → AtLeast (scan_of t ts) (least_width t + waiting (sized false (t ∷ ts)))
 texts_unknown (tok.Text t) ts = tt
 texts_unknown (tok.Break b) ts = at_least_widen (width_of_break b) (scan 0 ts) (waiting (sized false ts)) _ (texts_going ts 0) (omega arith)
@@ -223,7 +223,7 @@ text_ended_of s m p (x ∷ w) a e h = cc
 pub text_ended : (s : List Tok) (m : Layout) → Holds true s [] m → text s ≡ m.state.text
 text_ended s m h = text_ended_of s m h.printed h.waits h.all h.are_sized h.shown
 
--- what was printed is a front of what will be
+-- what was printed is a prefix of what will be
 pub grows_same : (a : List ℕ) → Grows a a
 grows_same a = ([], sym (append-nil a))
 

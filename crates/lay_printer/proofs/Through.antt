@@ -16,7 +16,7 @@ length-replicate : (n x : ℕ) → length (replicate n x) ≡ n
 length-replicate zero x = refl
 length-replicate (suc n) x = ap suc (length-replicate n x)
 
--- what is written behind whatever stood there
+-- what is written after whatever stood there
 pub grew : (before now : Option (List ℕ)) (t : List ℕ) → ((content : List ℕ) → Wrote before content [] → Wrote now content t) → GrewBy before now t
 grew before None t h = tt
 grew None (Some a) t h =

@@ -27,7 +27,7 @@ too_long (Known (pos k)) least wait p r l d = cc
 too_long (Known (negsuc k)) least wait p r l d = cc
 too_long Forced least wait p r l d = cc
 
--- behind a text that is longer than any space nothing stays undecided
+-- after a text that is longer than any space nothing stays undecided
 pub none_long : (es : List Entry) (wait more : ℕ) (p : Line) → p.room ≤ margin → margin < more → Decided es (wait + more) p None → es ≡ []
 none_long [] wait more p r l d = refl
 none_long (e ∷ es) wait more p r l d = absurd (too_long e.size (least_width e.tok) (wait + more) p r (omega (arith, l)) d)

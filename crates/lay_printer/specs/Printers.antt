@@ -26,7 +26,7 @@ pub record Runs (c : Printing) (written : Option (List ℕ)) (content : List ℕ
   pub nested : IsNested 0 s
   pub level : c.groups ≡ opened s 0
 
--- A printer that has failed: what was written is a front of the text of s and any tokens that follow.
+-- A printer that has failed: what was written is a prefix of the text of s and any tokens that follow.
 pub record Fails (written : Option (List ℕ)) (content : List ℕ) (s : List Tok) : Type 0 where
   pub nested : IsNested 0 s
   pub cut : Broken false written content s

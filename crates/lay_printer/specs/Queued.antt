@@ -68,7 +68,7 @@ abbrev pub IsClear : Line → List Frame → Tok → Type 0
 IsClear line frames t = (m : Layout) → At line frames m → (r : List Tok)
     → act t (over (measure t r) m.state) m ≡ act t true m
 
--- A token is printed: Ok makes the layout act of it, and Err leaves a front of the text of that.
+-- A token is printed: Ok makes the layout act of it, and Err leaves a prefix of the text of that.
 pub record Prints {T E : Type 0} (line : Line) (frames : List Frame) (before : Option (List ℕ)) (result : Result T E)
     (line' : Line) (frames' : List Frame) (now : Option (List ℕ)) (tok : Tok) (big : Bool) : Type 0 where
   pub ok : OnOk result ((content : List ℕ) (m : Layout) → At line frames m → Wrote before content m.state.text
@@ -84,11 +84,11 @@ pub record Running (ended : Bool) (entries : List Entry) (line : Line) (frames :
   pub at : At line frames layout
   pub wrote : Wrote written content layout.state.text
 
--- What was written is a front of the text of s and any tokens that follow.
+-- What was written is a prefix of the text of s and any tokens that follow.
 abbrev pub Broken : Bool → Option (List ℕ) → List ℕ → List Tok → Type 0
 Broken ended written content s = (r : List Tok) → MayFollow ended r → Cut written content (text (s ++ r))
 
--- From a printer that holds tokens: Ok makes them f of them, and Err leaves a front of the text of f and what follows.
+-- From a printer that holds tokens: Ok makes them f of them, and Err leaves a prefix of the text of f and what follows.
 pub record Advances {T E : Type 0} (ended : Bool) (entries : List Entry) (line : Line) (frames : List Frame)
     (before : Option (List ℕ)) (result : Result T E) (entries' : List Entry) (line' : Line) (frames' : List Frame)
     (now : Option (List ℕ)) (f : List Tok → List Tok) : Type 0 where

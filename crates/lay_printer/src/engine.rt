@@ -256,7 +256,7 @@ impl Engine {
         self.queue.scan(tok);
     }
 
-    /// Prints entries while they are decided, where so many bytes of text stand behind those that wait.
+    /// Prints entries while they are decided, where so many bytes of text stand after those that wait.
     #[inline(never)]
     fn print_decided<K: Sink>(&mut self, sink: &mut K, behind: u64) -> Result<(), Failed>
         ensures prints { (tail : List Entry) → sum_waiting tail ≡ behind → Advances self.old.queue.ended (self.old.queue.ring.entries ++ tail) self.old.page.line self.old.page.frames.frames (K.written sink.old) result (self.new.queue.ring.entries ++ tail) self.new.page.line self.new.page.frames.frames (K.written sink.new) (λ s. s) }
@@ -273,7 +273,7 @@ impl Engine {
         Ok(())
     }
 
-    /// Whether the oldest entry doesn't fit, once that is decided, where so many bytes of text stand behind those that
+    /// Whether the oldest entry doesn't fit, once that is decided, where so many bytes of text stand after those that
     /// wait.
     #[inline(always)]
     fn decide(&self, behind: u64) -> Option<bool>

@@ -22,7 +22,7 @@
 //! error and leaves the sink as it is. [`Press`] is lent a core and a sink, so it serves a sink that was handed
 //! in by reference. [`Printer`] owns both. The laws in [`laws`] say what holds of them at every moment: what the
 //! sink has grown by is what the tokens that were printed show, whatever follows; sizes are measures; no blank
-//! stands at a line's end but a text's own. After a call that failed the sink has grown by a front of the text.
+//! stands at a line's end but a text's own. After a call that failed the sink has grown by a prefix of the text.
 #![tactic(auto)]
 
 mod engine;

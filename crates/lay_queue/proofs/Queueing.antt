@@ -268,7 +268,7 @@ fits_modulo i j acc low cur (Stopped n ∷ cs) ms e h = fits_modulo (i + 1) (j +
 fits_modulo i j acc low cur (Going n d ∷ cs) [] e h = h
 fits_modulo i j acc low cur (Going n d ∷ cs) (m ∷ ms) e h = (h.0 ∙ e, h.1, h.2, fits_modulo (i + 1) (j + 1) acc low cur cs ms (omega arith) h.3)
 
--- the notes behind the first entry's, if it has one
+-- the notes after the first entry's, if it has one
 fits_rest : (i acc g : ℕ) (c : Scan) (cs : List Scan) (z : Size) (ms : List Note) → z ≡ size_of_scan c → EachFits i acc g g (c ∷ cs) ms → EachFits (i + 1) acc g g cs (notes_after z ms)
 fits_rest i acc g (Stopped n) cs z ms e h = subst (λ (y : Size). EachFits (i + 1) acc g g cs (notes_after y ms)) (sym e) h
 fits_rest i acc g (Going n d) cs z [] e h = absurd h
@@ -311,7 +311,7 @@ pub bytes_waiting : (es : List Entry) → bytes_in es ≡ waiting es
 bytes_waiting [] = refl
 bytes_waiting (e ∷ es) = ap₂ (λ (a b : ℕ). a + b) (text_length_is e.tok) (bytes_waiting es)
 
--- how much text waits behind texts at the front
+-- how much text waits after texts at the front
 pub run_waiting : (count : ℕ) (es : List Entry) (bytes : List ℕ) → IsRun count es bytes → waiting (drop count es) + length bytes ≡ waiting es
 run_waiting zero es bytes h = omega (arith, ap length h)
 run_waiting (suc count) [] bytes h = absurd h

@@ -23,12 +23,12 @@ pub record Ready (q : Queue) : Type 0 where
   pub few : q.waiting ≤ margin
   pub groups : q.groups + 1 < 2 ^ 64
 
--- A token but a break is added behind the others, which stay as they are. A break may end the measures of others.
+-- A token but a break is added after the others, which stay as they are. A break may end the measures of others.
 abbrev pub IsAdded : Tok → (old new : List Entry) → Type 0
 IsAdded (tok.Break b) old new = Unit {0}
 IsAdded t old new = (size : Size) × (new ≡ old ++ record { tok = t; size = size } ∷ [])
 
--- A token came, and waits behind the others.
+-- A token came, and waits after the others.
 pub record Comes (old new : Queue) (t : Tok) : Type 0 where
   pub toks : toks_of new.ring.entries ≡ toks_of old.ring.entries ++ t ∷ []
   pub added : IsAdded t old.ring.entries new.ring.entries

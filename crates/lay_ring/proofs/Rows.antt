@@ -89,7 +89,7 @@ pub first_some : (ss : List SmallEntry) (s : SmallEntry) (bytes : List ℕ) (w :
 first_some [] s bytes w h t z = cc
 first_some (x ∷ ss) s bytes w h t z = let k : s ≡ x = cc in (t ∙ ap (λ (y : SmallEntry). tok_at y.kind bytes) k, z ∙ ap (λ (y : SmallEntry). size_of y.size) k)
 
--- the entry behind the first
+-- the entry after the first
 pub entries_rest : (ss : List SmallEntry) (s : SmallEntry) (bytes : List ℕ) → Some s ≡ slice_get ss 0 → entries_at (drop 1 ss) (drop (taken s.kind) bytes) ≡ drop 1 (entries_at ss bytes)
 entries_rest [] s bytes h = cc
 entries_rest (x ∷ ss) s bytes h = let k : s ≡ x = cc in ap (λ (y : SmallEntry). entries_at ss (drop (taken y.kind) bytes)) k
@@ -146,7 +146,7 @@ run_text (kind.Break b) bytes text l h = cc
 run_text (kind.Begin c o) bytes text l h = cc
 run_text kind.End bytes text l h = cc
 
--- what is left behind texts at the front
+-- what is left after texts at the front
 pub record RunsOut (count len : ℕ) (ss : List SmallEntry) (bytes : List ℕ) : Type 0 where
   pub count_within : count ≤ length ss
   pub len_within : len ≤ length bytes
@@ -178,7 +178,7 @@ runs_out (suc count) len (s ∷ ss) bytes run w h l =
       entries = ap (entries_at (drop count ss)) (sym d) ∙ r.entries;
     }
 
--- an entry that is added behind the others, with its text behind theirs
+-- an entry that is added after the others, with its text after theirs
 pub record Added (ss ss' : List SmallEntry) (bytes bytes' : List ℕ) (t : Tok) (size : ℤ) : Type 0 where
   pub whole : all_taken ss' ≡ length bytes'
   pub entries : entries_at ss' bytes' ≡ entries_at ss bytes ++ record { tok = t; size = size_of size } ∷ []
@@ -204,7 +204,7 @@ moved_to_front first end room a b =
     take-append-le (end - first) (drop first room) (take first room) (omega (arith, length-drop first room))
     ∙ sym (drop-take first (end - first) room) ∙ ap (λ (n : ℕ). drop first (take n room)) (let e : first + (end - first) ≡ end = omega arith in e)
 
--- bytes that were put behind those that wait
+-- bytes that were put after those that wait
 pub put_behind : (first end : ℕ) (room room' more : List ℕ) → first ≤ end → end ≤ length room → take (end + length more) room' ≡ take end room ++ more → drop first (take (end + length more) room') ≡ drop first (take end room) ++ more
 put_behind first end room room' more a b h =
     ap (drop first) h ∙ drop-append-le first (take end room) more (omega (arith, length-take-le end room b))

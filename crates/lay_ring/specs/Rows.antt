@@ -67,7 +67,7 @@ room_in false = bytes_first
 room_in true = bytes_kept
 
 -- How many of so many texts there is surely room for: all in the full room, and in the first one at the most, where
--- the longest fits behind what waits.
+-- the longest fits after what waits.
 abbrev pub texts_beside : Bool → (wait count : ℕ) → ℕ
 texts_beside true wait count = count
 texts_beside false wait count = min count (min 1 (bytes_first + 1 - (wait + text_most)))
@@ -81,7 +81,7 @@ IsFirst [] r = r ≡ None
 IsFirst (e ∷ es) None = ⊥
 IsFirst (e ∷ es) (Some w) = (tok_of w.tok ≡ e.tok) × (size_of w.size ≡ e.size)
 
--- the first so many entries are texts, and these are their bytes, one text behind the other
+-- the first so many entries are texts, and these are their bytes, one text after the other
 abbrev pub IsRun : ℕ → List Entry → List ℕ → Type 0
 IsRun zero es bytes = bytes ≡ []
 IsRun (suc n) [] bytes = ⊥
@@ -104,7 +104,7 @@ tok_at (kind.Break b) bytes = tok.Break b
 tok_at (kind.Begin c o) bytes = tok.Begin c o
 tok_at kind.End bytes = tok.End
 
--- the entries that are kept small, whose texts are the bytes, one behind the other
+-- the entries that are kept small, whose texts are the bytes, one after the other
 abbrev pub entries_at : List SmallEntry → List ℕ → List Entry
 entries_at [] bytes = []
 entries_at (s ∷ ss) bytes =

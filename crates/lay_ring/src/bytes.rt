@@ -134,7 +134,7 @@ impl Bytes {
     }
 }
 
-/// Moves the bytes that wait to the front, where the room behind them is too little.
+/// Moves the bytes that wait to the front, where the room after them is too little.
 #[inline(always)]
 fn make_room(room: &mut [u8], first: &mut usize, end: &mut usize, more: usize)
     requires order { first.old ≤ end.old }
@@ -153,7 +153,7 @@ fn make_room(room: &mut [u8], first: &mut usize, end: &mut usize, more: usize)
     *first = 0;
 }
 
-/// Puts bytes behind those that stand before a place.
+/// Puts bytes after those that stand before a place.
 #[inline(always)]
 fn put_at(room: &mut [u8], place: usize, more: &[u8])
     requires { place + length more.now ≤ length room.old }

@@ -31,7 +31,7 @@ pub struct LentEntry<'a> {
     pub size: i64,
 }
 
-/// Texts that wait one behind the other, as one.
+/// Texts that wait one after the other, as one.
 #[derive(Clone, Copy, Debug)]
 pub struct Texts<'a> {
     pub bytes: &'a [u8],
@@ -63,7 +63,7 @@ struct SmallEntry {
 }
 
 /// Entries as in a [`Ring`](crate::Ring), in little memory: each is of 24 bytes, and their texts stand one
-/// behind the other in room for 128 bytes, and once that is too little or many came in room for 1,024. So texts are
+/// after the other in room for 128 bytes, and once that is too little or many came in room for 1,024. So texts are
 /// copied, and only `new` and `reserve` take memory. A text has at most 89 bytes.
 #[derive(Drop)]
 pub struct Row {

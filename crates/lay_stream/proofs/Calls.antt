@@ -96,7 +96,7 @@ pub cut : {S F T U : Type 0} {m : Meanings S F} {a b : S} {s ts : List Tok} {f :
     Did {T = T} m a s (Err f) b → s ++ u ≡ ts → Did {T = U} m a ts (Err f) b
 cut u d h = leave d refl refl u h
 
--- The same, token by token from the front, for a search.
+-- The same, token by token from the first, for a search.
 pub call_on : {S F T U : Type 0} {m : Meanings S F} {a b c : S} {k : Tok} {ts : List Tok} {x : T} {r : Result U F} →
     Did m a (k ∷ []) (Ok x) b → Did m b ts r c → Did m a (k ∷ ts) r c
 call_on d f = after d f refl

@@ -24,11 +24,11 @@ blanked : (p q : Line) (k : Break) (s : State) → q.pending ≡ min (p.pending 
     Is q (record { text = s.text; pending = min (s.pending + k.blank) greatest_blanks; room = s.room; used = s.used + k.blank })
 blanked p q k s e f g i = record { pending = omega (arith, i.pending); room = omega (arith, i.room); small = i.small; used = omega (arith, i.used) }
 
--- what was written is a front of what will be
+-- what was written is a prefix of what will be
 abbrev pub Grows : List ℕ → List ℕ → Type 0
 Grows a b = (u : List ℕ) × (b ≡ a ++ u)
 
--- a front of what is a front
+-- a prefix of what is a prefix
 pub cut_more : (now : Option (List ℕ)) (content t u : List ℕ) → Cut now content t → Grows t u → Cut now content u
 cut_more None content t u h g = tt
 cut_more (Some all) content t u h g =

@@ -33,14 +33,14 @@ pub record Puts {S F : Type 0} (m : Meanings S F) (old : S) (ts : List Tok) (new
   pub failed_after : m.failed old → m.failed new
   pub same_loans : m.loans new ≡ m.loans old
 
--- some front of ts was appended
+-- some prefix of ts was appended
 pub record FedFront {S F : Type 0} (m : Meanings S F) (new : S) (start : Start) (s ts : List Tok) : Type 0 where
   pub front : List Tok
   pub back : List Tok
   pub both : front ++ back ≡ ts
   pub is_fed : m.fed new start (s ++ front)
 
--- Err: a front of the tokens ts was appended, there is a cause, and a call has failed.
+-- Err: a prefix of the tokens ts was appended, there is a cause, and a call has failed.
 pub record Stops {S F : Type 0} (m : Meanings S F) (old : S) (ts : List Tok) (fault : F) (new : S) : Type 0 where
   pub appends : (start : Start) (s : List Tok) → m.fed old start s → FedFront m new start s ts
   pub later : m.faults old ≤ m.faults new

@@ -26,12 +26,12 @@ pub record At (line : Line) (frames : List Frame) (m : Layout) : Type 0 where
 abbrev pub Wrote : Option (List ℕ) → List ℕ → List ℕ → Type 0
 Wrote now content text = IfSome now (λ all. all ≡ content ++ text)
 
--- where the sink tells it, the content and a front of the text were written
+-- where the sink tells it, the content and a prefix of the text were written
 abbrev pub Cut : Option (List ℕ) → List ℕ → List ℕ → Type 0
 Cut now content text =
     IfSome now (λ all. (front : List ℕ) × (back : List ℕ) × (all ≡ content ++ front) × (front ++ back ≡ text))
 
--- From a line at a state: Ok makes it f of the state, and Err leaves a front of the text of that.
+-- From a line at a state: Ok makes it f of the state, and Err leaves a prefix of the text of that.
 pub record Moves {T E : Type 0} (line : Line) (before : Option (List ℕ)) (result : Result T E) (after : Line)
     (now : Option (List ℕ)) (f : State → State) : Type 0 where
   pub ok : OnOk result ((content : List ℕ) (s : State)

@@ -1,4 +1,4 @@
--- What is left behind texts at the front.
+-- What is left after texts at the front.
 use Rattle.std.proofs.Common.{◌≡◌, ℕ, List, length, drop, sym, ap, ap₂, subst, ◌∙◌}
 use Rattle.lay_ring.specs.Held.{Held}
 use Rattle.lay_ring.specs.Rows.{AreTexts, all_taken, entries_at}

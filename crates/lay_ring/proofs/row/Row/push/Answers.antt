@@ -1,4 +1,4 @@
--- The entry stands behind the others, and its text behind theirs.
+-- The entry stands after the others, and its text after theirs.
 use Rattle.std.proofs.Common.{rules, ℕ, ℤ, to_z, of_z, w64, List, ◌∷◌, [], ◌++◌, length, sym, ap, subst, ◌∙◌, arith, ◌≡◌, ◌+◌, ◌%◌, ◌^◌, ◌<◌, ◌≤◌}
 use Rattle.lay_ring.specs.Held.{Held}
 use Rattle.lay_ring.specs.Rows.{bytes_in, bytes_kept, entries_at, entry_of, text_most, texts_in, tok_of}

@@ -1,4 +1,4 @@
--- Texts one behind the other, one more at a time.
+-- Texts one after the other, one more at a time.
 use Rattle.std.proofs.Common.{◌≡◌, ℕ, ◌+◌, ◌≤◌, suc, List, length, sym, subst, arith}
 use Rattle.lay_ring.specs.Held.{Held}
 use Rattle.lay_ring.specs.Rows.{IsRun, entries_at}
