@@ -72,7 +72,7 @@ same_lines lead plain other (w ∷ ws) (f ∷ fs) e same =
     ∙ ap (λ (s : List Tok). body_opened lead ++ (s ++ body_closed)) same
     ∙ sym (skips lead other f fs)
 
--- the last attribute, and what may stand behind it
+-- the last attribute, and what may follow it
 before_lines : (marks : List Attr) (fs : List Form)
     → further line (attrs_before (map attr_form marks) ++ fs) ≡ further line (map attr_form marks ++ fs)
 before_lines [] fs = refl
@@ -86,7 +86,7 @@ before_some [] fs = refl
 before_some (a ∷ []) fs = refl
 before_some (a ∷ b ∷ marks) fs = refl
 
--- a statement, and what may stand behind it
+-- a statement, and what may follow it
 stmt_alone : (s : StmtFacts) → stream_of (stmt_form s) ≡ stream_of s.form
 stmt_alone s = by s.unended
   where
@@ -128,7 +128,7 @@ pub row_further : (between : List Tok) (es : List Form) → row between between 
 row_further between [] = refl
 row_further between (e ∷ es) = refl
 
--- A block is fed alike behind a point.
+-- A block is fed alike after a point.
 body_steady : (lead plain : Bool) (es : List Form) → Steady (body (blank_if lead) (dropped_if plain) es)
 body_steady true true [] true = refl
 body_steady true false [] true = refl
@@ -268,7 +268,7 @@ expr_stmt x attrs put y ended is same =
     ∙ lines_more (map attr_form attrs) (Part (about_expr y).form (ended_form ended))
     ∙ stmt_is x (stmt.Expr attrs y ended) _ is (stmt_expr_is attrs y ended))
 
--- the block behind an `else`
+-- the block after an `else`
 pub some_otherwise : (otherwise : Option Block) (b : Block) → otherwise ≡ Some b
     → tok.Text (codes " else") ∷ stream_of ((about_block b).form true) ≡ stream_of (else_form (option_map about_block otherwise))
 some_otherwise otherwise b is = rw is refl
@@ -303,7 +303,7 @@ pub same_before : (b : Bool) (r s : List Tok) → r ++ s ≡ cond b r r ++ s
 same_before true r s = refl
 same_before false r s = refl
 
--- A block of one expression may be closed behind it.
+-- A block of one expression may be closed after it.
 soft_open : (brk : List Tok) → ((k : ℕ) → opened brk k ≡ k) → (es : List Form) (n : ℕ) → opened (body_opened true ++ further brk es) n ≡ suc n
 soft_open brk level es n = level_further brk level es (suc n)
 

@@ -77,7 +77,7 @@ more_fed (b ∷ bs) false f any =
     ∙ ap (λ (s : List Tok). stream_of (branch_told b) ++ s) (more_fed bs _ f any)
     ∙ sym (fed_more false (branch_told b) _))
 
--- branches, and what stands behind them
+-- branches, and what follows them
 branches_fed : (bs : List Branch) (f : Form) → Steady f
     → row [] else_between (map branch_told bs) ++ stream_of f ≡ stream_of (branches_form (map about_branch bs) f)
 branches_fed [] f any = refl
@@ -96,7 +96,7 @@ steady_otherwise None q = refl
 steady_otherwise (Some b) true = refl
 steady_otherwise (Some b) false = refl
 
--- the block behind the last one
+-- the block after the last one
 pub some_else : (otherwise : Option Block) (b : Block) → otherwise ≡ Some b
     → tok.Text (codes " else") ∷ stream_of (about_block b).soft ≡ stream_of (else_branch_form (option_map about_block otherwise))
 some_else otherwise b is = rw is refl

@@ -54,7 +54,7 @@ pub let_link : (x : Link) (pat : Pat) (inner put : Expr) → x ≡ link.Let pat 
 let_link x pat inner put is e =
     rw (e, is) (let_fed pat (about_expr inner) ∙ sym (ap (λ (z : LinkFacts). stream_of z.form) (link_let_is pat inner)))
 
--- Further links are fed alike behind a point.
+-- Further links are fed alike after a point.
 links_any : (ls : List LinkFacts) → Any (links_form ls)
 links_any [] = both refl
 links_any (l ∷ ls) = both refl
@@ -112,7 +112,7 @@ pub may_end_condition : {S F T : Type 0} {m : Meanings S F} {a b : S} {p q : Res
 may_end_condition {m} {a} {p} {q} word f h =
     on_ok q (λ x e. (one_open (m.groups a) (level_behind p q x h e ∙ level_form f (suc (m.groups a)))).0)
 
--- a head in its group, and what stands behind it
+-- a head in its group, and what follows it
 pub group_fed : (q : Bool) (bits : List Bit) (word : List ℕ) (head f : Form) → Steady f
     → ((r : Bool) (g : Form) (more : List Tok) → fed r (Piece bits g) more ≡ tok.Text word ∷ fed false g more)
     → (lead_row word ++ (stream_of head ++ head_end)) ++ stream_of f ≡ fed q (I0 (Piece bits (Part head Done)) f) []

@@ -58,7 +58,7 @@ ended = tok.Text (codes ";") ∷ []
 abbrev own_line : List Tok
 own_line = tok.Break (break_of (Hard false)) ∷ []
 
--- the constant, behind its head
+-- the constant, after its head
 row_is : (x : Expr) → constant_row (about_expr x).form ++ (tok.End ∷ [])
     ≡ head_row vis.Inherited (Part (value_head_form nameless) (value_form (Some (about_expr x))))
 row_is x =

@@ -102,7 +102,7 @@ body_open lead e f n =
     ∙ ap (opened (stream_of f)) (level_form e (suc n))
     ∙ level_form f (suc n)
 
--- A body may be closed behind its parts.
+-- A body may be closed after its parts.
 pub may_close_body : {S F T : Type 0} {m : Meanings S F} {a b : S} {p q : Result T F} (lead : Bool) (e f : Form)
     → Adds m p a (body_opened lead ++ (stream_of e ++ stream_of f)) q b → OnOk q (0 < m.groups b)
 may_close_body {m} {a} {p} {q} lead e f h =
@@ -127,7 +127,7 @@ steady_body lead es false = refl
 
 -- ---- heads
 
--- A head behind its visibility, and what follows it.
+-- A head after its visibility, and what follows it.
 pub headed : (v : Vis) (x : HeadFacts) → Steady x.tail → head_row v x.head ++ stream_of x.tail ≡ stream_of (seen v x)
 headed v x any =
     let end : List Tok = tok.End ∷ [] in
@@ -147,7 +147,7 @@ pub valued_head : (head : ValueHead) (value : Option ExprFacts)
     ≡ stream_of (Part (value_head_form head) (value_form value))
 valued_head head value = part_more (value_head_form head) (value_form value) (steady_value value)
 
--- A value that is there, behind its `=`.
+-- A value that is there, after its `=`.
 pub some_value : (value : Option Expr) (x : Expr) → value ≡ Some x
     → tok.Text (codes " = ") ∷ tok.Break (break_of Never) ∷ stream_of (about_expr x).form ≡ stream_of (value_form (option_map about_expr value))
 some_value value x is = rw is refl

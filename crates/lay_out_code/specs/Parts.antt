@@ -24,7 +24,7 @@ abbrev pub no_forms : List Form → Bool
 no_forms [] = true
 no_forms (f ∷ fs) = false
 
--- a head behind its visibility, in a group of its own
+-- a head after its visibility, in a group of its own
 abbrev pub head_row : Vis → Form → List Tok
 head_row v head = tok.Begin false (pos 0) ∷ (stream_of (vis_form v) ++ (stream_of head ++ (tok.End ∷ [])))
 

@@ -75,7 +75,7 @@ pub fn add_soft<E: Emit, X: Enclose>(
     add_block::<E, X>(out, before, true, block)
 }
 
-/// Statements, each behind a break.
+/// Statements, each after a break.
 #[cycle(code)]
 fn add_stmts<E: Emit, X: Enclose>(
     out: &mut E,
@@ -136,7 +136,7 @@ fn add_stmt<E: Emit, X: Enclose>(
     }
 }
 
-/// The block that a binding leads to where its pattern isn't matched, if there is one, behind its `else`.
+/// The block that a binding leads to where its pattern isn't matched, if there is one, after its `else`.
 #[cycle(code)]
 fn add_otherwise<E: Emit, X: Enclose>(
     out: &mut E,
@@ -155,7 +155,7 @@ fn add_otherwise<E: Emit, X: Enclose>(
     }
 }
 
-/// A value, if there is one, behind its `=`.
+/// A value, if there is one, after its `=`.
 #[cycle(code)]
 pub fn add_value<E: Emit, X: Enclose>(
     out: &mut E,

@@ -32,7 +32,7 @@ use lay_out_types::lists::add_end;
 use lay_paren_defs::{AsIs, Enclose};
 use lay_stream::Emit;
 
-/// What is matched, behind its word, in a group of its own.
+/// What is matched, after its word, in a group of its own.
 #[cycle(code)]
 pub fn add_scrutinee<E: Emit, X: Enclose>(
     out: &mut E,
@@ -67,7 +67,7 @@ pub fn add_branches<E: Emit, X: Enclose>(
     done
 }
 
-/// The block behind the last branch, if there is one, behind its `else`.
+/// The block after the last branch, if there is one, after its `else`.
 #[cycle(code)]
 pub fn add_else<E: Emit, X: Enclose>(
     out: &mut E,
@@ -107,7 +107,7 @@ pub fn add_arms<E: Emit, X: Enclose>(
     close_body(out, arms)
 }
 
-/// Arms, each behind a newline.
+/// Arms, each after a newline.
 #[cycle(code)]
 fn add_arm_lines<E: Emit, X: Enclose>(
     out: &mut E,
@@ -156,7 +156,7 @@ fn add_arm<E: Emit, X: Enclose>(
     close_arm(out, inner, braces)
 }
 
-/// The guard of an arm, if it has one, behind its `if`.
+/// The guard of an arm, if it has one, after its `if`.
 #[cycle(code)]
 fn add_guard<E: Emit, X: Enclose>(
     out: &mut E,

@@ -1,4 +1,4 @@
-//! Attributes, groups, use trees and the items that are heads alone, behind what was fed before.
+//! Attributes, groups, use trees and the items that are heads alone, after what was fed before.
 ghost use Rattle.lay_form.specs.Form.{Done};
 ghost use Rattle.lay_form.specs.Stream.{stream_of};
 ghost use Rattle.lay_node.specs.nodes.Attr.{attr_form};

@@ -16,7 +16,7 @@ use lay_out_types::lists::{add_begin, add_end};
 use lay_paren_defs::Enclose;
 use lay_stream::Emit;
 
-/// A condition behind its word, in a group of its own.
+/// A condition after its word, in a group of its own.
 #[cycle(code)]
 pub fn add_condition<E: Emit, X: Enclose>(
     out: &mut E,

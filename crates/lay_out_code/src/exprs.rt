@@ -264,7 +264,7 @@ pub fn add_whole<E: Emit, X: Enclose>(
     }
 }
 
-/// A tuple, which has a comma behind a single element.
+/// A tuple, which has a comma after a single element.
 #[cycle(code)]
 fn add_tuple<E: Emit, X: Enclose>(
     out: &mut E,
@@ -342,7 +342,7 @@ fn add_closure_body<E: Emit, X: Enclose>(
     close_closure(out, inner, braces)
 }
 
-/// The operand of a `return` or a `break` behind its blank, if there is one.
+/// The operand of a `return` or a `break` after its blank, if there is one.
 #[cycle(code)]
 fn add_operand<E: Emit, X: Enclose>(
     out: &mut E,

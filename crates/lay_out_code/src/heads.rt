@@ -19,7 +19,7 @@ use lay_out_types::calls::{add_if, add_literal, add_text, add_word};
 use lay_out_types::lists::add_end;
 use lay_stream::Emit;
 
-/// What an item begins with behind its visibility.
+/// What an item begins with after its visibility.
 pub trait Head {
     /// The form of which it has the layout.
     ghost form: { Self → Form };
@@ -29,7 +29,7 @@ pub trait Head {
         ensures { Adds E.meanings before out.old (stream_of (form self.now)) result out.new };
 }
 
-/// A head, behind its visibility.
+/// A head, after its visibility.
 pub fn add_head<E: Emit, H: Head>(
     out: &mut E,
     before: Result<(), E::Fault>,
@@ -161,7 +161,7 @@ pub fn add_foreign_head<E: Emit>(
     add_end(out, head)
 }
 
-/// The string that names an ABI, if one does, behind a blank.
+/// The string that names an ABI, if one does, after a blank.
 fn add_foreign_abi<E: Emit>(
     out: &mut E,
     before: Result<(), E::Fault>,

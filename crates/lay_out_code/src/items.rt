@@ -190,7 +190,7 @@ fn add_body<E: Emit, X: Enclose>(
     close_body(out, items)
 }
 
-/// Items, each behind a newline.
+/// Items, each after a newline.
 #[cycle(code)]
 fn add_lines<E: Emit, X: Enclose>(
     out: &mut E,
@@ -209,7 +209,7 @@ fn add_lines<E: Emit, X: Enclose>(
     done
 }
 
-/// Attributes, each behind a newline.
+/// Attributes, each after a newline.
 pub fn add_inner_attrs<E: Emit>(
     out: &mut E,
     before: Result<(), E::Fault>,

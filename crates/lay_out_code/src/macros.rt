@@ -54,7 +54,7 @@ pub fn add_call_item<E: Emit>(
     add_item_end(out, group, call.tokens.delim)
 }
 
-/// What ends an item behind a group: nothing behind braces, and else a `;`.
+/// What ends an item after a group: nothing after braces, and else a `;`.
 fn add_item_end<E: Emit>(
     out: &mut E,
     before: Result<(), E::Fault>,

@@ -23,7 +23,7 @@ use lay_out_types::lists::{add_close, add_lead};
 use lay_paren_defs::Enclose;
 use lay_stream::Emit;
 
-/// The fields of a struct literal, behind what opens their braces.
+/// The fields of a struct literal, after what opens their braces.
 #[cycle(code)]
 pub fn add_fields<E: Emit, X: Enclose>(
     out: &mut E,
@@ -41,7 +41,7 @@ pub fn add_fields<E: Emit, X: Enclose>(
     done
 }
 
-/// The `..` behind the fields of a struct literal, and its base, if it has one.
+/// The `..` after the fields of a struct literal, and its base, if it has one.
 #[cycle(code)]
 pub fn add_base<E: Emit, X: Enclose>(
     out: &mut E,
@@ -58,7 +58,7 @@ pub fn add_base<E: Emit, X: Enclose>(
     add_optional::<E, X>(out, dots, true, base)
 }
 
-/// A field of a struct literal, behind its attributes.
+/// A field of a struct literal, after its attributes.
 #[cycle(code)]
 fn add_field<E: Emit, X: Enclose>(
     out: &mut E,
@@ -92,7 +92,7 @@ fn add_field<E: Emit, X: Enclose>(
     }
 }
 
-/// The operands behind the first one, each behind its operator.
+/// The operands after the first one, each after its operator.
 #[cycle(code)]
 pub fn add_operands<E: Emit, X: Enclose>(
     out: &mut E,

@@ -37,7 +37,7 @@ use Rattle.lay_out_pats.proofs.PathEnds.{path_any}
 use Rattle.lay_out_exprs.specs.Parts.{behind_op, expr_told, prefix_texts}
 use Rattle.lay_out_exprs.proofs.Feeds.{Any, both, dots_fed, label_more, part_at, prefixes_fed, within}
 
--- the stream of an expression, behind a point or not
+-- the stream of an expression, after a point or not
 abbrev pub told : Bool → Expr → List Tok
 told q x = fed q (expr_told x) []
 
@@ -45,7 +45,7 @@ told q x = fed q (expr_told x) []
 pub told_is : (q : Bool) (x y : Expr) (facts : ExprFacts) → x ≡ y → about_expr y ≡ facts → fed q facts.form [] ≡ told q x
 told_is q x y facts is e = sym (ap (told q) is ∙ ap (λ (z : ExprFacts). fed q z.form []) e)
 
--- it is of a kind that is fed alike behind a point
+-- it is of a kind that is fed alike after a point
 told_any : (q : Bool) (x y : Expr) (facts : ExprFacts) → x ≡ y → about_expr y ≡ facts → Any facts.form
     → stream_of facts.form ≡ told q x
 told_any q x y facts is e any = sym (any.at q) ∙ told_is q x y facts is e
@@ -64,7 +64,7 @@ path_expr q x p is = told_any q x (expr.Path p) _ is (expr_path_is p) (record { 
 pub underscore_expr : (q : Bool) (x : Expr) → x ≡ expr.Underscore → tok.Text (codes "_") ∷ [] ≡ told q x
 underscore_expr q x is = told_any q x expr.Underscore _ is expr_underscore_is (both refl)
 
--- The `!` of a macro call is fed alike behind a point.
+-- The `!` of a macro call is fed alike after a point.
 bang_any : (d : Delim) (f : Form) → Any (Piece (bang d) f)
 bang_any Paren f = both refl
 bang_any Bracket f = both refl
@@ -85,7 +85,7 @@ words_any (w ∷ v ∷ ws) f any = record { at = by w.raw }
     by true q = refl
     by false q = refl
 
--- So are they behind the `::` of a global path.
+-- So are they after the `::` of a global path.
 call_by : (global : Bool) (ws : List Word) (f : Form) → Any f → Any (Part (when global colons (simple_words_form ws Done)) f)
 call_by true ws f any = both refl
 call_by false ws f any = words_any ws f any
@@ -118,7 +118,7 @@ forms_are : (xs : List Expr) → map expr_told xs ≡ expr_forms (map about_expr
 forms_are [] = refl
 forms_are (x ∷ xs) = ap (λ (es : List Form). expr_told x ∷ es) (forms_are xs)
 
--- what closes brackets is one text, behind a point or not
+-- what closes brackets is one text, after a point or not
 closes : (d : Delim) (q : Bool) (more : List Tok)
     → fed q (piece (closer d ∷ [])) more ≡ tok.Text (text_of_bits (closer d ∷ [])) ∷ more
 closes Paren true more = refl
@@ -147,7 +147,7 @@ square_are xs =
     (map expr_told xs) (length xs == 0) (none_is expr_told xs _ refl)
     ∙ ap (λ (es : List Form). stream_of (comma_list true (opener Bracket) (closer Bracket) es)) (forms_are xs)
 
--- Expressions in parentheses are fed alike behind a point.
+-- Expressions in parentheses are fed alike after a point.
 pub round_any : (es : List Form) → Any (comma_list true (opener Paren) (closer Paren) es)
 round_any [] = both refl
 round_any (e ∷ es) = both refl
@@ -166,7 +166,7 @@ array_expr q x xs put is e =
     ∙ told_any q x (expr.Array put) _ (is ∙ ap expr.Array (sym e)) (expr_array_is put)
     (within (square_any (expr_forms (map about_expr put))))
 
--- A tuple is fed alike behind a point.
+-- A tuple is fed alike after a point.
 tuple_any : (xs : List ExprFacts) → Any (tuple_form xs)
 tuple_any [] = both refl
 tuple_any (x ∷ []) = both refl
@@ -213,7 +213,7 @@ repeat_expr q x inner put size is e =
 
 -- ---- operators
 
--- Operands behind their operators are fed alike behind a point.
+-- Operands after their operators are fed alike after a point.
 pub operands_any : (xs : List (Op × ExprFacts)) → Any (operands_form xs)
 operands_any [] = both refl
 operands_any (x ∷ xs) = both refl
@@ -230,7 +230,7 @@ chain_expr q x first put rest more is e f =
     ∙ sym (fed_more q (Part (expr_told first) ops) (tok.End ∷ [])))
     ∙ told_is q x (expr.Chain first rest) _ is (expr_chain_is first rest))
 
--- Types behind their `as` are fed alike behind a point.
+-- Types after their `as` are fed alike after a point.
 pub types_any : (xs : List TypeFacts) → Any (types_form xs)
 types_any [] = both refl
 types_any (x ∷ xs) = both refl
@@ -242,14 +242,14 @@ cast_expr q x operand put types more is e f =
     rw (e, f) (part_at q (expr_told operand) (types_form (map about_type types)) (types_any (map about_type types))
     ∙ told_is q x (expr.Cast operand types) _ is (expr_cast_is operand types))
 
--- an operand behind its operators
+-- an operand after its operators
 pub unary_expr : (q r : Bool) (x operand put : Expr) (prefixes ps : List Prefix) → x ≡ expr.Unary prefixes operand
     → ps ≡ prefixes → put ≡ operand → r ≡ (q && (length ps == 0)) → prefix_texts ps ++ told r put ≡ told q x
 unary_expr q r x operand put prefixes ps is e f p =
     rw (p, e, f) (prefixes_fed q prefixes (Part (expr_told operand) Done)
     ∙ told_is q x (expr.Unary prefixes operand) _ is (expr_unary_is prefixes operand))
 
--- the start of a range, its dots, and what stands behind them
+-- the start of a range, its dots, and what follows them
 range_parts : (q i : Bool) (start : Option ExprFacts) (f : Form)
     → fed q (end_form start Done) [] ++ (tok.Text (text_of_bits (led (ends_behind_point q (end_form start Done)) (dots i)))
     ∷ fed (not i) f []) ≡ fed q (end_form start (Piece (dots i) f)) []

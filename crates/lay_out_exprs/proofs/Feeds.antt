@@ -1,4 +1,4 @@
--- How forms are fed behind a point, and what operators are fed as.
+-- How forms are fed after a point, and what operators are fed as.
 use Rattle.std.proofs.Common.{◌≡◌, ℕ, suc, ◌+◌, ◌<◌, ◌==◌, ◌&&◌, not, Bool, true, false, List, [], ◌∷◌, ◌++◌, length, get_or, drop, drop-cons, add-one, codes, Option, Some, None, refl, sym, ap, ◌∙◌, append-nil}
 use Rattle.std.proofs.Math.Dec.{eqb-suc-zero}
 use Rattle.lay_layout.specs.Document.{Empty}
@@ -22,11 +22,11 @@ use Rattle.lay_code.specs.declared.operators.Prefix.TheVariants as prefix
 use Rattle.lay_out_tokens.proofs.StreamParts.{fed_more}
 use Rattle.lay_out_exprs.specs.Parts.{prefix_texts}
 
--- Behind a point a form is fed as anywhere.
+-- After a point a form is fed as anywhere.
 pub record Any (f : Form) : Type 0 where
   pub at : (q : Bool) → fed q f [] ≡ stream_of f
 
--- It is enough to see it behind a point.
+-- It is enough to see it after a point.
 pub both : {f : Form} → fed true f [] ≡ stream_of f → Any f
 both {f} e = record { at = by }
   where
@@ -38,7 +38,7 @@ both {f} e = record { at = by }
 pub within : {f : Form} → Any f → Any (deeper f)
 within any = record { at = any.at }
 
--- a part, and what follows it, which is fed alike behind a point
+-- a part, and what follows it, which is fed alike after a point
 pub part_at : (q : Bool) (e f : Form) → Any f → fed q e [] ++ stream_of f ≡ fed q (Part e f) []
 part_at q e f any =
     ap (λ (s : List Tok). fed q e [] ++ s) (sym (any.at (ends_behind_point q e)))
@@ -52,7 +52,7 @@ level_at q f n =
 
 -- ---- operators
 
--- an operator between operands, and the blank behind it
+-- an operator between operands, and the blank after it
 pub op_fed : (o : Op) (f : Form) (more : List Tok)
     → fed false (Piece (Operator (op_text o) ∷ []) (Piece (Blank ∷ []) f)) more
     ≡ tok.Text (op_text o) ∷ tok.Text (codes " ") ∷ fed false f more
@@ -106,7 +106,7 @@ prefix_fed prefix.RawConst false f = refl
 prefix_fed prefix.RawMut true f = refl
 prefix_fed prefix.RawMut false f = refl
 
--- Behind an operator or a target that stands there no point reaches the operand.
+-- After an operator or a target that stands there no point reaches the operand.
 pub no_point : (q : Bool) (n : ℕ) → (q && (suc n == 0)) ≡ (false && (n == 0))
 no_point true n = eqb-suc-zero n
 no_point false n = refl
@@ -122,7 +122,7 @@ prefixes_fed q (p ∷ ps) f =
     ∙ prefixes_fed false ps f)
     ∙ sym (prefix_fed p q (prefixes_form ps f))
 
--- `..` or `..=`, behind a point or not, and what stands behind it
+-- `..` or `..=`, after a point or not, and what follows it
 pub dots_fed : (q i : Bool) (f : Form)
     → tok.Text (text_of_bits (led q (dots i))) ∷ fed (not i) f [] ≡ fed q (Piece (dots i) f) []
 dots_fed true true f = refl
@@ -130,7 +130,7 @@ dots_fed true false f = refl
 dots_fed false true f = refl
 dots_fed false false f = refl
 
--- a label, and what stands behind it
+-- a label, and what follows it
 pub label_more : (label : Option Lifetime) (f : Form)
     → stream_of (label_form label Done) ++ stream_of f ≡ stream_of (label_form label f)
 label_more None f = refl

@@ -79,7 +79,7 @@ type_ends x =
 call_ends : (call : MacroCall) → ends_behind_point false (call_form call) ≡ false
 call_ends call = ap (λ (z : TypeFacts). ends_behind_point false z.told.form) (sym (type_call_is call)) ∙ type_ends (ty.Call call)
 
--- Behind its `!` it does not count what stood before.
+-- After its `!` it does not count what stood before.
 bang_shuts : (d : Delim) (q r : Bool) (f : Form) → ends_behind_point q (Piece (bang d) f) ≡ ends_behind_point r (Piece (bang d) f)
 bang_shuts Paren q r f = refl
 bang_shuts Bracket q r f = refl
@@ -175,7 +175,7 @@ last_operand q x first rest more last b is f some h =
     h ∙ sym (operands_end (ends q first) more last some)
     ∙ ends_is q x (expr.Chain first more) _ (is ∙ ap (λ (r : List _). expr.Chain first r) (sym f)) (expr_chain_is first more)
 
--- Types behind their `as` end in no point.
+-- Types after their `as` end in no point.
 types_end : (r : Bool) (xs : List Ty) → r ≡ false → ends_behind_point r (types_form (map about_type xs)) ≡ false
 types_end r [] e = e
 types_end r (x ∷ xs) e = types_end (ends_behind_point false (about_type x).told.form) xs (type_ends x)
@@ -206,7 +206,7 @@ prefix_ends q prefix.AmpMut = refl
 prefix_ends q prefix.RawConst = refl
 prefix_ends q prefix.RawMut = refl
 
--- Behind operators an operand ends as by itself.
+-- After operators an operand ends as by itself.
 prefixes_end : (q : Bool) (ps : List Prefix) (f : Form)
     → ends_behind_point (q && (length ps == 0)) f ≡ ends_behind_point q (prefixes_form ps f)
 prefixes_end true [] f = refl
@@ -215,14 +215,14 @@ prefixes_end q (p ∷ ps) f =
     ap (λ (b : Bool). ends_behind_point b f) (no_point q (length ps)) ∙ prefixes_end false ps f
     ∙ ap (λ (b : Bool). ends_behind_point b (prefixes_form ps f)) (sym (prefix_ends q p))
 
--- an operand behind its operators
+-- an operand after its operators
 pub unary_point : (q r : Bool) (x operand put : Expr) (prefixes ps : List Prefix) (b : Bool) → x ≡ expr.Unary prefixes operand
     → ps ≡ prefixes → put ≡ operand → r ≡ (q && (length ps == 0)) → b ≡ ends r put → b ≡ ends q x
 unary_point q r x operand put prefixes ps b is e f p h =
     h ∙ rw (p, e, f) (prefixes_end q prefixes (Part (expr_told operand) Done)
     ∙ ends_is q x (expr.Unary prefixes operand) _ is (expr_unary_is prefixes operand))
 
--- Behind targets a value ends as by itself.
+-- After targets a value ends as by itself.
 targets_end : (q : Bool) (ts : List (Expr × Op)) (f : Form)
     → ends_behind_point (q && (length ts == 0)) f ≡ ends_behind_point q (targets_form (map before_op ts) f)
 targets_end true [] f = refl
@@ -236,7 +236,7 @@ assign_point q r x value put targets ts b is e f p h =
     h ∙ rw (p, e, f) (targets_end q targets (Part (expr_told value) Done)
     ∙ ends_is q x (expr.Assign targets value) _ is (expr_assign_is targets value))
 
--- Behind its dots a range ends as its end does.
+-- After its dots a range ends as its end does.
 range_by : (q i : Bool) (start end : Option ExprFacts)
     → ends_behind_point (not i) (end_form end Done) ≡ ends_behind_point q (end_form start (Piece (dots i) (end_form end Done)))
 range_by q true None end = refl
@@ -371,7 +371,7 @@ labelled_shuts q (Some l) f shut = shut false
 branch_shuts : (q : Bool) (b : Branch) → false ≡ ends_behind_point q (about_branch b).soft
 branch_shuts q b = soft_shuts q b.body ∙ sym (ap (λ (z : BranchFacts). ends_behind_point q z.soft) (branch_is b))
 
--- further branches, and the block behind them
+-- further branches, and the block after them
 more_end : (bs : List Branch) (q : Bool) (otherwise : Option Block) → false ≡ q
     → false ≡ ends_behind_point q (more_branches (map about_branch bs) (else_branch_form (option_map about_block otherwise)))
 more_end [] q None e = e

@@ -47,7 +47,7 @@ operand_turn x rest =
     (part_at false (expr_told x.1) f (operands_any (map behind_op rest)))
     ∙ ap (λ (s : List Tok). tok.Break (break_of (Soft false 1)) ∷ s) (sym (op_fed x.0 (Part (expr_told x.1) f) []))
 
--- A chain may be closed behind its operands.
+-- A chain may be closed after its operands.
 pub may_end_chain : {S F T : Type 0} {m : Meanings S F} {a b : S} {p r : Result T F} (q : Bool) (e f : Form)
     → Adds m p a (tok.Begin false (pos 4) ∷ (fed q e [] ++ stream_of f)) r b → OnOk r (0 < m.groups b)
 may_end_chain {m} {a} {p} {r} q e f h =
@@ -55,7 +55,7 @@ may_end_chain {m} {a} {p} {r} q e f h =
     ∙ opened_append (fed q e []) (stream_of f) (suc (m.groups a))
     ∙ ap (opened (stream_of f)) (level_at q e (suc (m.groups a))) ∙ level_at false f (suc (m.groups a)))).0)
 
--- what stands behind a target
+-- what follows a target
 abbrev behind_target : Op → Form → Form
 behind_target o f = Piece (Blank ∷ []) (Piece (Operator (op_text o) ∷ []) (Piece (Blank ∷ []) (N f)))
 
@@ -110,7 +110,7 @@ cast_turn x rest =
 
 -- ---- steps
 
--- the stream of a step, behind a point or not
+-- the stream of a step, after a point or not
 abbrev pub step_told : Bool → Step → List Tok
 step_told q x = fed q (about_step x).form []
 
@@ -118,7 +118,7 @@ step_told q x = fed q (about_step x).form []
 step_is : (q : Bool) (x y : Step) (facts : StepFacts) → x ≡ y → about_step y ≡ facts → fed q facts.form [] ≡ step_told q x
 step_is q x y facts is e = sym (ap (step_told q) is ∙ ap (λ (z : StepFacts). fed q z.form []) e)
 
--- the point before a name, and what stands behind it
+-- the point before a name, and what follows it
 dot_fed : (q : Bool) (f : Form)
     → tok.Text (cond q (codes " .") (codes ".")) ∷ stream_of f ≡ fed q (Piece (Operator (codes ".") ∷ []) f) []
 dot_fed true f = refl
@@ -136,7 +136,7 @@ pub index_of_tuple : (q : Bool) (x : Step) (index put : List ℕ) → x ≡ step
 index_of_tuple true x index put is e = rw e (step_is true x (step.TupleIndex index) _ is (step_tuple_index_is index))
 index_of_tuple false x index put is e = rw e (step_is false x (step.TupleIndex index) _ is (step_tuple_index_is index))
 
--- generic arguments, and what stands behind them
+-- generic arguments, and what follows them
 generics_more : (generics : Option (List Arg)) (f : Form) → Any f
     → stream_of (generics_form generics Done) ++ stream_of f ≡ stream_of (generics_form generics f)
 generics_more None f any = refl
@@ -187,7 +187,7 @@ index_step false x index is =
     ∙ sym (fed_more false (expr_told index) _))
     ∙ step_is false x (step.Index index) _ is (step_index_is index)
 
--- The bracket may be closed behind the index.
+-- The bracket may be closed after the index.
 pub may_close_index : {S F T : Type 0} {m : Meanings S F} {a b : S} {p r : Result T F} (f : Form)
     → Adds m p a (list_opened (codes "[") ++ stream_of f) r b
     → OnOk r (IsNested (m.groups b) (list_closed false false (codes "[]") (codes "]")))
@@ -205,13 +205,13 @@ pub await_step : (q : Bool) (x : Step) → x ≡ step.Await
 await_step true x is = step_is true x step.Await _ is step_await_is
 await_step false x is = step_is false x step.Await _ is step_await_is
 
--- Behind a step no point stands.
+-- After a step no point stands.
 leaf_shuts : (raw q : Bool) (text : List ℕ) (f : Form) → ends_behind_point false f ≡ false
     → ends_behind_point q (leaf_of raw text f) ≡ false
 leaf_shuts true q text f e = e
 leaf_shuts false q text f e = e
 
--- Nor does one stand behind parentheses, and behind generic arguments and these.
+-- Nor does one stand after parentheses, and after generic arguments and these.
 pub round_shuts : (q : Bool) (xs : List ExprFacts) → ends_behind_point q (args_form xs) ≡ false
 round_shuts q [] = refl
 round_shuts q (x ∷ xs) = refl
@@ -282,14 +282,14 @@ postfix_expr q several point x base put steps more is e f k p =
     rw (k, p, e, f) (postfix_are q (nat_le 2 (methods (map about_step steps))) (expr_told base) f'
     ∙ told_is q x (expr.Postfix base steps) _ is (expr_postfix_is base steps))
 
--- The group is open behind the steps in it.
+-- The group is open after the steps in it.
 steps_nested : (q r several : Bool) (e f : Form) (n k : ℕ)
     → k ≡ opened (cond several (tok.Begin true (pos 4) ∷ []) [] ++ (fed q e [] ++ fed r f [])) n → IsNested k (steps_closed several)
 steps_nested q r true e f n k is = one_open n (is ∙ opened_append (fed q e []) (fed r f []) (suc n)
     ∙ ap (opened (fed r f [])) (level_at q e (suc n)) ∙ level_at r f (suc n))
 steps_nested q r false e f n k is = tt
 
--- A group may be closed behind the steps in it.
+-- A group may be closed after the steps in it.
 pub may_close_steps : {S F T : Type 0} {m : Meanings S F} {a b : S} {p r : Result T F} (q point several : Bool) (e f : Form)
     → Adds m p a (cond several (tok.Begin true (pos 4) ∷ []) [] ++ (fed q e [] ++ fed point f [])) r b
     → OnOk r (IsNested (m.groups b) (steps_closed several))

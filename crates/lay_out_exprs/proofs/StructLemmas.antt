@@ -70,7 +70,7 @@ short_field x attrs put name is e =
 
 -- ---- braces
 
--- the `..` behind fields, and its base
+-- the `..` after fields, and its base
 abbrev base_of : Option Expr → Form
 base_of x = Piece (Operator (codes "..") ∷ []) (end_form (option_map about_expr x) Done)
 
@@ -79,7 +79,7 @@ one_base : (x : Option Expr) → base_of x ∷ [] ≡ base_form (Some (option_ma
 one_base None = refl
 one_base (Some x) = refl
 
--- fields without a base behind them
+-- fields without a base after them
 no_base : (fields : List FieldExpr) (bare : Bool) (base : Option (Option Expr)) → bare ≡ (length fields == 0) → base ≡ None
     → row braces_opened comma_between (map field_told fields) ++ braces_closed true bare ≡ stream_of (fields_form fields base)
 no_base fields bare base none is =
@@ -105,7 +105,7 @@ with_base fields bare base x none is =
     ∙ braces_are false (es ++ f ∷ []) false (one_there es f)
     ∙ ap (λ (fs : List Form). stream_of (braces false (es ++ fs))) (one_base x))
 
--- Braces may be closed behind the base.
+-- Braces may be closed after the base.
 pub may_close_base : {S F T : Type 0} {m : Meanings S F} {a b : S} {p q : Result T F} (fields : List FieldExpr) (bare : Bool)
     (x : Option Expr) → bare ≡ (length fields == 0)
     → Adds m p a (row braces_opened comma_between (map field_told fields) ++ (cond bare braces_opened comma_between
@@ -124,7 +124,7 @@ forms_are : (xs : List FieldExpr) → map field_told xs ≡ map (λ (x : Facts).
 forms_are [] = refl
 forms_are (x ∷ xs) = ap (λ (es : List Form). field_told x ∷ es) (forms_are xs)
 
--- Braces are fed alike behind a point.
+-- Braces are fed alike after a point.
 braces_any : (may : Bool) (es : List Form) → Any (braces may es)
 braces_any may [] = both refl
 braces_any may (e ∷ es) = both refl

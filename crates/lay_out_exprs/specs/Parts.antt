@@ -20,7 +20,7 @@ expr_told x = (about_expr x).form
 abbrev pub field_told : FieldExpr → Form
 field_told x = (about_field_expr x).form
 
--- what is told of an operand behind its operator, and of a target before its own
+-- what is told of an operand after its operator, and of a target before its own
 abbrev pub behind_op : Op × Expr → Op × ExprFacts
 behind_op x = (x.0, about_expr x.1)
 
@@ -31,14 +31,14 @@ before_op x = (about_expr x.0, x.1)
 abbrev pub prefix_texts : List Prefix → List Tok
 prefix_texts ps = map (λ (p : Prefix). tok.Text (text_of_bits (prefix_bits p))) ps
 
--- fields in braces, and behind them the `..` with its base
+-- fields in braces, and after them the `..` with its base
 abbrev pub base_facts : Option (Option Expr) → Option (Option ExprFacts)
 base_facts base = option_map (option_map about_expr) base
 
 abbrev pub fields_form : List FieldExpr → Option (Option Expr) → Form
 fields_form fields base = braces (not (is_some (base_facts base))) (map field_told fields ++ base_form (base_facts base))
 
--- the stream of a base, if there is one, behind its `..`
+-- the stream of a base, if there is one, after its `..`
 abbrev pub base_told : Option Expr → List Tok
 base_told base = fed true (end_form (option_map about_expr base) Done) []
 

@@ -21,11 +21,11 @@ use lay_stream::Emit;
 /// How the body of an arm or of a closure is laid out.
 #[derive(Clone, Copy)]
 pub enum BodyBraces {
-    /// As it stands, and with a comma behind it that of an arm.
+    /// As it stands, and with a comma after it that of an arm.
     Bare,
     /// As it stands.
     Unseen,
-    /// In braces where it is broken, and else with a comma behind it that of an arm.
+    /// In braces where it is broken, and else with a comma after it that of an arm.
     Marked,
 }
 
@@ -35,13 +35,13 @@ const OPENING_BRACE_BREAK: Break = Break {
     ..SOFT_BREAK
 };
 
-/// The break behind a body, with a `}` behind its newline.
+/// The break after a body, with a `}` after its newline.
 const CLOSING_BRACE_BREAK: Break = Break {
     after: Mark::CloseBrace,
     ..CLOSING_SOFT_BREAK
 };
 
-/// The same behind the body of an arm, with a `,` where it is no newline.
+/// The same after the body of an arm, with a `,` where it is no newline.
 const CLOSING_ARM_BREAK: Break = Break {
     instead: Mark::Comma,
     ..CLOSING_BRACE_BREAK

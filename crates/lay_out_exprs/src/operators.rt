@@ -66,7 +66,7 @@ pub fn add_prefixes<E: Emit>(
     done
 }
 
-/// The text of an operator before an operand, with the blank behind its last word.
+/// The text of an operator before an operand, with the blank after its last word.
 fn prefix_text(prefix: Prefix) -> &'static [u8]
     ensures { result.now ≡ text_of_bits (prefix_bits prefix) }
 {
@@ -81,7 +81,7 @@ fn prefix_text(prefix: Prefix) -> &'static [u8]
     }
 }
 
-/// The types that an operand is cast to, each behind its `as`.
+/// The types that an operand is cast to, each after its `as`.
 pub fn add_casts<E: Emit>(
     out: &mut E,
     before: Result<(), E::Fault>,
@@ -98,7 +98,7 @@ pub fn add_casts<E: Emit>(
     done
 }
 
-/// A label behind `continue` or `break`, if there is one.
+/// A label after `continue` or `break`, if there is one.
 pub fn add_label<E: Emit>(
     out: &mut E,
     before: Result<(), E::Fault>,

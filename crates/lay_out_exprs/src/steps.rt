@@ -54,7 +54,7 @@ pub fn add_steps_start<E: Emit>(
     Ok(())
 }
 
-/// What stands before a step: a break, where there are several methods, one stands behind it and this is one.
+/// What stands before a step: a break, where there are several methods, one stands after it and this is one.
 pub fn add_step_break<E: Emit>(
     out: &mut E,
     before: Result<(), E::Fault>,

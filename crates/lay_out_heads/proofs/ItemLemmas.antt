@@ -60,7 +60,7 @@ no_tuple_head variant.Unit never = refl
 no_tuple_head (variant.Named fs) never = refl
 no_tuple_head (variant.Tuple fs) never = absurd (never fs refl)
 
--- ---- where clauses, and what stands behind them
+-- ---- where clauses, and what follows them
 
 pub leads_is : (wheres : Wheres) (put : List Predicate) (b : Bool) → put ≡ wheres.predicates → b ≡ (length put == 0)
     → b ≡ leads wheres

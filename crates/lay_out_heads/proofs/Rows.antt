@@ -38,7 +38,7 @@ last_comma_is e = part_more e (Optional true comma Done) any
     any true = refl
     any false = refl
 
--- Each stands behind a newline, with a comma behind it.
+-- Each stands after a newline, with a comma after it.
 lines_are : (e : Form) (es : List Form)
     → further line (with_commas (e ∷ es))
     ≡ line ++ (stream_of e ++ (further fields_between es ++ (tok.Text (codes ",") ∷ [])))
@@ -93,14 +93,14 @@ braces_nested lead (f ∷ es) bare n k is e = rw is (one_open n
     ∙ ap (opened (further fields_between es)) (level_form f (suc n))
     ∙ level_further fields_between (λ m. refl) es (suc n)))
 
--- Braces may be closed behind their parts.
+-- Braces may be closed after their parts.
 pub may_close_braces : {S F T : Type 0} {m : Meanings S F} {a b : S} {p q : Result T F} (lead : Bool) (es : List Form)
     (bare : Bool) → bare ≡ are_none es → Adds m p a (row (fields_opened lead) fields_between es) q b
     → OnOk q (IsNested (m.groups b) (fields_closed lead bare))
 may_close_braces {p} {q} lead es bare is h =
     on_ok q (λ x e. braces_nested lead es bare _ _ is (level_behind p q x h e))
 
--- ---- what stands behind a visibility, and heads
+-- ---- what follows a visibility, and heads
 
 ends_plain : (v : Vis) → ends_behind_point false (vis_form v) ≡ false
 ends_plain vis.Inherited = refl
@@ -134,7 +134,7 @@ head_opened v f n =
     ∙ ap (opened (stream_of f)) (level_form (vis_form v) (suc n))
     ∙ level_form f (suc n)
 
--- The group of a head may be closed behind it.
+-- The group of a head may be closed after it.
 pub may_end_head : {S F T : Type 0} {m : Meanings S F} {a b : S} {p q : Result T F} (v : Vis) (f : Form)
     → Adds m p a ((tok.Begin false (pos 0) ∷ stream_of (vis_form v)) ++ stream_of f) q b → OnOk q (0 < m.groups b)
 may_end_head {m} {a} {p} {q} v f h =

@@ -1,4 +1,4 @@
--- Forms that are fed alike behind a point and elsewhere.
+-- Forms that are fed alike after a point and elsewhere.
 use Rattle.std.proofs.Common.{◌≡◌, Bool, true, false, List, [], ◌∷◌, ◌++◌, map, Option, Some, None, refl, ap, ◌∙◌}
 use Rattle.lay_layout.specs.declared.layout.Tok.{Tok}
 use Rattle.lay_piece.specs.declared.kind.Delim.TheVariants.{Paren}

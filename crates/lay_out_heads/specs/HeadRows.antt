@@ -14,6 +14,6 @@ use Rattle.lay_node.specs.declared.token.Word.{Word}
 abbrev pub called_row : List ℕ → Name → Generics → List Tok
 called_row word name generics = tok.Text word ∷ (stream_of (leaf_of name.raw name.text Done) ++ stream_of (generics_form generics))
 
--- a word of a use tree, and the `::` behind it
+-- a word of a use tree, and the `::` after it
 abbrev pub word_colons : Word → Form
 word_colons w = leaf_of w.raw w.text (Piece colons Done)

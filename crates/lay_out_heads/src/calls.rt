@@ -1,4 +1,4 @@
-//! Breaks, simple paths, generic parameters and where clauses, behind what was fed before.
+//! Breaks, simple paths, generic parameters and where clauses, after what was fed before.
 ghost use Rattle.std.specs.Prelude.{[], ◌∷◌, cond, pos, true};
 ghost use Rattle.lay_layout.specs.declared.layout.Tok.TheVariants as tok;
 ghost use Rattle.lay_form.specs.Stream.{stream_of};

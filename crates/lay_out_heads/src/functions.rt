@@ -28,7 +28,7 @@ pub fn put_fn_head<E: Emit>(out: &mut E, head: &FnHead) -> Result<(), E::Fault>
     add_signature(out, word, head)
 }
 
-/// What a function says of its safety, and a blank behind it.
+/// What a function says of its safety, and a blank after it.
 fn add_safety<E: Emit>(
     out: &mut E,
     before: Result<(), E::Fault>,
@@ -43,7 +43,7 @@ fn add_safety<E: Emit>(
     }
 }
 
-/// What stands behind `fn`.
+/// What follows `fn`.
 fn add_signature<E: Emit>(
     out: &mut E,
     before: Result<(), E::Fault>,
@@ -128,7 +128,7 @@ fn add_param_kind<E: Emit>(
     }
 }
 
-/// A type behind its `:`, if there is one: that of a receiver, of a binding, or of a parameter of a closure.
+/// A type after its `:`, if there is one: that of a receiver, of a binding, or of a parameter of a closure.
 pub fn add_self_type<E: Emit>(
     out: &mut E,
     before: Result<(), E::Fault>,

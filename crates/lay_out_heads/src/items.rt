@@ -91,7 +91,7 @@ fn add_struct_tail<E: Emit>(
     }
 }
 
-/// A where clause, and parts in braces. Behind one that is there the braces have no leading blank.
+/// A where clause, and parts in braces. After one that is there the braces have no leading blank.
 fn add_body<E: Emit, P: Part>(
     out: &mut E,
     before: Result<(), E::Fault>,
@@ -106,7 +106,7 @@ fn add_body<E: Emit, P: Part>(
     add_braces(out, clause, parts, leads(wheres))
 }
 
-/// Whether braces behind a where clause have a leading blank.
+/// Whether braces after a where clause have a leading blank.
 pub fn leads(wheres: &Wheres) -> bool
     ensures { result ≡ leads wheres.now }
 {

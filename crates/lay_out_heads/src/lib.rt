@@ -5,7 +5,7 @@
 //!
 //! Within the crate a function is told how the calls before it came out, as in [`lay_out_types`], whose functions lay
 //! out what heads are made of. A list and fields in braces are laid out by one loop each, over what their parts are.
-//! What stands round bodies and behind visibilities is laid out for the crates above, too.
+//! What stands round bodies and after visibilities is laid out for the crates above, too.
 #![tactic(auto)]
 
 pub mod calls;

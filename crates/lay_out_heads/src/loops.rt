@@ -26,7 +26,7 @@ pub trait Part {
         ensures { Adds E.meanings before out.old (stream_of (form self.now)) result out.new };
 }
 
-/// Parts in parentheses, with a `,` between them. Behind the last one a comma may stand or not.
+/// Parts in parentheses, with a `,` between them. After the last one a comma may stand or not.
 pub(crate) fn add_parens<E: Emit, P: Part>(
     out: &mut E,
     before: Result<(), E::Fault>,
@@ -44,7 +44,7 @@ pub(crate) fn add_parens<E: Emit, P: Part>(
     add_close(out, done, may, parts.is_empty(), b"()", b")")
 }
 
-/// Parts in braces, each on a line of its own with a `,` behind it. The braces have a leading blank or not.
+/// Parts in braces, each on a line of its own with a `,` after it. The braces have a leading blank or not.
 pub fn add_braces<E: Emit, P: Part>(
     out: &mut E,
     before: Result<(), E::Fault>,
@@ -80,7 +80,7 @@ fn add_line<E: Emit>(
     add_break(out, comma, HARD_BREAK)
 }
 
-/// What closes the braces, on a line of its own, behind the last `,`. Without parts they are one text.
+/// What closes the braces, on a line of its own, after the last `,`. Without parts they are one text.
 fn close_braces<E: Emit>(
     out: &mut E,
     before: Result<(), E::Fault>,

@@ -35,7 +35,7 @@ fn add_use<E: Emit>(
     add_use_end(out, words, &tree.end)
 }
 
-/// What a use tree names behind its path.
+/// What a use tree names after its path.
 #[cycle(add_use)]
 fn add_use_end<E: Emit>(
     out: &mut E,
@@ -74,7 +74,7 @@ fn add_trees<E: Emit>(
     add_close(out, done, true, trees.is_empty(), b"{}", b"}")
 }
 
-/// Words, each with a `::` behind it.
+/// Words, each with a `::` after it.
 fn add_words<E: Emit>(
     out: &mut E,
     before: Result<(), E::Fault>,
@@ -91,7 +91,7 @@ fn add_words<E: Emit>(
     done
 }
 
-/// Another name, behind its `as`, or none; nothing where none is given.
+/// Another name, after its `as`, or none; nothing where none is given.
 pub fn add_rename<E: Emit>(
     out: &mut E,
     before: Result<(), E::Fault>,

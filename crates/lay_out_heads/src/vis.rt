@@ -9,7 +9,7 @@ use lay_node::Vis;
 use lay_out_types::calls::add_text;
 use lay_stream::Emit;
 
-/// Feeds the layout of a visibility, with a blank behind it; nothing where none is said.
+/// Feeds the layout of a visibility, with a blank after it; nothing where none is said.
 pub fn put_vis<E: Emit>(out: &mut E, vis: &Vis) -> Result<(), E::Fault>
     ensures { Did E.meanings out.old (stream_of (vis_form vis.now)) result out.new }
 {

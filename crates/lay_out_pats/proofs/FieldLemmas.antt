@@ -57,7 +57,7 @@ alternatives_are (e ∷ es) = ap (λ (s : List Tok). tok.Begin false (pos 0) ∷
     (sym (each_is bar_lead bar_between bars_lead es (ends_behind_point false e) (tok.End ∷ [])))
     ∙ sym (fed_more false e _))
 
--- Alternatives may be closed behind the last one.
+-- Alternatives may be closed after the last one.
 pub may_end_alternatives : {S F T : Type 0} {m : Meanings S F} {a b : S} {p q : Result T F} (es : List Form)
     → Adds m p a (tok.Begin false (pos 0) ∷ row [] bar_between es) q b → OnOk q (0 < m.groups b)
 may_end_alternatives {m} {a} {p} {q} es h =
@@ -185,7 +185,7 @@ not_none : (es : List Form) (f : Form) → false ≡ are_none (es ++ f ∷ [])
 not_none [] f = refl
 not_none (e ∷ es) f = refl
 
--- the fields, and the `..` behind them
+-- the fields, and the `..` after them
 pub with_rest : (fields : List FieldPat) (bare rest : Bool) → bare ≡ (length fields == 0) → rest ≡ true
     → row braces_opened comma_between (map field_told fields)
     ++ (cond bare braces_opened comma_between ++ (tok.Text (codes "..") ∷ braces_closed false false))
@@ -236,14 +236,14 @@ braces_nested may (f ∷ es) bare n k is e = rw is (one_open n
     ∙ ap (opened (further comma_between es)) (level_form f (suc n))
     ∙ level_further comma_between (λ m. refl) es (suc n)))
 
--- Braces may be closed behind the fields.
+-- Braces may be closed after the fields.
 pub may_close_braces : {S F T : Type 0} {m : Meanings S F} {a b : S} {p q : Result T F} (may : Bool) (es : List Form)
     (bare : Bool) → bare ≡ are_none es → Adds m p a (row braces_opened comma_between es) q b
     → OnOk q (IsNested (m.groups b) (braces_closed may bare))
 may_close_braces {p} {q} may es bare is h =
     on_ok q (λ x e. braces_nested may es bare _ _ is (level_behind p q x h e))
 
--- So they may behind the `..`.
+-- So they may after the `..`.
 pub may_close_rest : {S F T : Type 0} {m : Meanings S F} {a b : S} {p q : Result T F} (es : List Form) (bare : Bool)
     → bare ≡ are_none es
     → Adds m p a (row braces_opened comma_between es

@@ -1,4 +1,4 @@
--- How a path is fed behind a point.
+-- How a path is fed after a point.
 use Rattle.std.proofs.Common.{◌≡◌, Bool, true, false, [], map, refl, sym, subst}
 use Rattle.lay_form.specs.Form.{Form, Part}
 use Rattle.lay_form.specs.Stream.{fed, stream_of}
@@ -10,7 +10,7 @@ use Rattle.lay_node.specs.declared.types.PathStyle.TheVariants.{Code}
 use Rattle.lay_node.proofs.nodes.TypesLaws.{IsGlobal, IsLocal, IsQualified, PathStartView, about_segment, path_is, start_global_is, start_local_is, start_qualified_is, start_view}
 use Rattle.lay_out_types.proofs.TypeLemmas.{segments_any}
 
--- Behind a point a path is fed as anywhere.
+-- After a point a path is fed as anywhere.
 start_any : (f : Form) → ((q : Bool) → fed q f [] ≡ stream_of f) → (x : PathStart) → PathStartView x → (q : Bool)
     → fed q (Part (about_start x).form f) [] ≡ stream_of (Part (about_start x).form f)
 start_any f any _ IsLocal q =

@@ -67,7 +67,7 @@ value_point e v b is h = rw is (by v.negative)
     by true = h
     by false = h
 
--- behind a point an end is fed as anywhere
+-- after a point an end is fed as anywhere
 end_any : (e : SpanEnd) (q : Bool) → fed q (end_form e) [] ≡ stream_of (end_form e)
 end_any (span_end.Value v) q = by v.negative q
   where
@@ -82,7 +82,7 @@ last_any : (e : Option SpanEnd) (q : Bool) → fed q (last_end e) [] ≡ stream_
 last_any None q = refl
 last_any (Some e) q = end_any e q
 
--- `..` or `..=`, and what stands behind it
+-- `..` or `..=`, and what follows it
 dots_text : (q i : Bool) (f : Form) → ((r : Bool) → fed r f [] ≡ stream_of f)
     → tok.Text (text_of_bits (led q (dots i))) ∷ stream_of f ≡ fed q (Piece (dots i) f) []
 dots_text true true f any = refl

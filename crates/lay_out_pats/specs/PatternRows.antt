@@ -20,7 +20,7 @@ pat_told x = (about_pat x).told.form
 abbrev pub field_told : FieldPat → Form
 field_told x = (about_field_pat x).form
 
--- an attribute, and the newline behind it
+-- an attribute, and the newline after it
 abbrev pub attr_line : Attr → Form
 attr_line a = Part (attr_form a) (H Done)
 
@@ -35,7 +35,7 @@ alternatives_form pats = I0 (joined bar_lead (map pat_told pats)) Done
 abbrev pub bar_between : List Tok
 bar_between = tok.Break (break_of (Soft false 1)) ∷ tok.Text (codes "| ") ∷ []
 
--- fields in braces, and the `..` behind them
+-- fields in braces, and the `..` after them
 abbrev pub fields_form : List FieldPat → Bool → Form
 fields_form fields rest = braces (not rest) (map field_told fields ++ rest_form rest)
 
@@ -43,7 +43,7 @@ fields_form fields rest = braces (not rest) (map field_told fields ++ rest_form 
 abbrev pub braces_opened : List Tok
 braces_opened = tok.Text (codes " {") ∷ tok.Begin true (pos 4) ∷ tok.Break (break_of (Soft false 1)) ∷ []
 
--- the break behind the last field, where a comma may stand or not
+-- the break after the last field, where a comma may stand or not
 abbrev pub closing_break : Bool → Break
 closing_break may = cond may (comma_break 1) (break_of (Soft true 1))
 

@@ -160,7 +160,7 @@ fn add_single<E: Emit>(
     add_either(out, element, rest, b")", b",)")
 }
 
-/// The fields of a struct in braces, and the `..` behind them.
+/// The fields of a struct in braces, and the `..` after them.
 #[cycle(add_pat)]
 fn add_fields<E: Emit>(
     out: &mut E,
@@ -184,7 +184,7 @@ fn add_fields<E: Emit>(
     add_closing_brace(out, done, true, fields.is_empty())
 }
 
-/// A field, behind its attributes.
+/// A field, after its attributes.
 #[cycle(add_pat)]
 fn add_field<E: Emit>(
     out: &mut E,
@@ -214,7 +214,7 @@ fn add_field<E: Emit>(
     }
 }
 
-/// Attributes, each with a newline behind it.
+/// Attributes, each with a newline after it.
 pub fn add_attrs<E: Emit>(
     out: &mut E,
     before: Result<(), E::Fault>,
@@ -230,7 +230,7 @@ pub fn add_attrs<E: Emit>(
     done
 }
 
-/// An attribute, with a newline behind it.
+/// An attribute, with a newline after it.
 fn add_attr_line<E: Emit>(
     out: &mut E,
     before: Result<(), E::Fault>,
@@ -243,7 +243,7 @@ fn add_attr_line<E: Emit>(
     out.brk(HARD_BREAK)
 }
 
-/// A literal, or a number behind its `-`.
+/// A literal, or a number after its `-`.
 fn add_value<E: Emit>(
     out: &mut E,
     before: Result<(), E::Fault>,
@@ -269,7 +269,7 @@ fn add_span_end<E: Emit>(
     }
 }
 
-/// The first end of a span, if it has one, and the `..` or `..=` behind it.
+/// The first end of a span, if it has one, and the `..` or `..=` after it.
 fn add_dots<E: Emit>(
     out: &mut E,
     before: Result<(), E::Fault>,
@@ -288,7 +288,7 @@ fn add_dots<E: Emit>(
     }
 }
 
-/// A `..` or `..=`, with a blank before it where it would stand directly behind the point of a number.
+/// A `..` or `..=`, with a blank before it where it would stand directly after the point of a number.
 pub fn add_dots_behind<E: Emit>(
     out: &mut E,
     before: Result<(), E::Fault>,
@@ -338,7 +338,7 @@ pub fn is_pointed(literal: &Literal) -> bool
     }
 }
 
-/// Whether a text is digits, with `_` among them, and a point behind them.
+/// Whether a text is digits, with `_` among them, and a point after them.
 fn is_digits_and_point(text: &[u8]) -> bool
     ensures { result ≡ ends_in_point text.now }
 {
@@ -398,7 +398,7 @@ pub fn add_brace<E: Emit>(
     out.brk(SPACE_BREAK)
 }
 
-/// What closes the braces, with a `,` behind the last field where each stands on its own line and one may stand there.
+/// What closes the braces, with a `,` after the last field where each stands on its own line and one may stand there.
 /// Without fields they are one text.
 pub fn add_closing_brace<E: Emit>(
     out: &mut E,
@@ -418,7 +418,7 @@ pub fn add_closing_brace<E: Emit>(
     out.text(b"}")
 }
 
-/// The break behind the last field.
+/// The break after the last field.
 fn closing_break(may: bool) -> Break
     ensures { result ≡ closing_break may }
 {

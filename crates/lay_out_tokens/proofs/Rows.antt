@@ -47,7 +47,7 @@ skip_behind : (point colon bang dollar hash and star minus : Bool) (path word gr
 skip_behind point colon bang dollar hash and star minus path word group bracket apart free rest a b c d e f g h =
     rw (a, b, c, d, e, f, g, h) refl
 
--- behind what is no punctuation
+-- after what is no punctuation
 pub rows_behind : (s : Seen) (r : Neighbour) → is_punct_neighbour s.last ≡ false
     → first_row (drop 13 (rows s r)) ≡ first_row (drop 9 (rows s r))
 rows_behind s r h =

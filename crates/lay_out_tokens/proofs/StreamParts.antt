@@ -43,7 +43,7 @@ use Rattle.lay_out_tokens.specs.Parts.{further_words}
 
 -- ---- forms in general
 
--- What a form is fed as stands before what is behind it.
+-- What a form is fed as stands before what follows it.
 pub fed_more : (point : Bool) (f : Form) (more : List Tok) → fed point f more ≡ fed point f [] ++ more
 fed_more point f more =
     sym (laid_fed point f Empty more)
@@ -56,7 +56,7 @@ level_stays {m} {a} f h =
     level_of h ∙ ap (λ (s : List Tok). opened s (m.groups a)) (sym (stream_is f))
     ∙ opened_document (document f) (m.groups a)
 
--- the element at an index, and what is behind it
+-- the element at an index, and what follows it
 rest_first : {A : Type 0} (xs : List A) (i : ℕ) (x : A) → i < length xs → x ≡ get_or xs i x
     → drop i xs ≡ x ∷ drop (i + 1) xs
 rest_first xs i x lt is = rw add-one (drop-cons xs i x lt ∙ ap (λ (y : _). y ∷ drop (suc i) xs) (sym is))
@@ -249,7 +249,7 @@ pub value_parts : (ts : List Listed)
     → tok.Text (codes " = ") ∷ stream_of (token_list ts) ≡ stream_of (input_form (input.Value ts) Done)
 value_parts ts = refl
 
--- a group with tokens, and nothing behind it
+-- a group with tokens, and nothing after it
 pub group_alone : (d : Delim) (i : Grouping) (line : Bool) (inner : Form) → (i ≡ NoMore → ⊥)
     → feeds.opened d ++ (stream_of inner ++ feeds.closed line d) ≡ stream_of (enclosed_form d i line inner Done)
 group_alone d NoMore line inner h = absurd (h refl)

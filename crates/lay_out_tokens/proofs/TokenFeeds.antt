@@ -28,7 +28,7 @@ use Rattle.lay_token.specs.Delimiters.{is_closer}
 use Rattle.lay_out_tokens.specs.Fed.{fed_token, fed_tokens, seen_by, seen_behind, seen_over}
 use Rattle.lay_out_tokens.proofs.StreamParts.{group_alone}
 
--- ---- one part behind a text that ends in a point or doesn't
+-- ---- one part after a text that ends in a point or doesn't
 
 gap_fed : (p : Bool) (sep : Separation) (f : Form) (more : List Tok)
     → (q : Bool) × (fed p (leads sep f) more ≡ fed_gap sep ++ fed q f more)
@@ -52,7 +52,7 @@ single_fed p (listed.Doc inner text) f more = (false, doc_more inner _ text _)
 
 -- ---- groups
 
--- what a group is fed as where these tokens are fed within it, with what is behind it
+-- what a group is fed as where these tokens are fed within it, with what follows it
 whole_group : Delim → Grouping → Bool → Form → List Tok → List Tok
 whole_group d NoMore line inner more = empty_group d ++ more
 whole_group d _ line inner more = opened d ++ fed false inner (feeds.closed line d ++ more)
@@ -119,7 +119,7 @@ no_point s (OneGroup d i r) more = λ q.
     group_point q (between s (Enclosed d)) d i line inner f more any
     ∙ sym (group_point false (between s (Enclosed d)) d i line inner f more any)
 
--- ---- what is behind a group
+-- ---- what follows a group
 
 not_nothing : (s : Seen) (g : Grouping) → is_nothing s.last ≡ false → is_nothing (seen_all s g).last ≡ false
 not_nothing s NoMore e = e
@@ -154,7 +154,7 @@ opener_parts n d (OneGroup e i r) more =
 
 -- ---- the groups that a place is in
 
--- For each delimiter that is open there is what is behind its group.
+-- For each delimiter that is open there is what follows its group.
 abbrev HasOuter : List Delim → List Grouping → Type 0
 HasOuter [] outer = Unit {0}
 HasOuter (d ∷ within) [] = ⊥

@@ -21,7 +21,7 @@ fed_gap NoBreak = []
 fed_gap SoftBreak = Break (break_of (Soft false 1)) ∷ []
 fed_gap HardBreak = Break (break_of (Hard false)) ∷ []
 
--- the breaks behind an opener, and before a closer
+-- the breaks after an opener, and before a closer
 abbrev pub opening_space : Delim → Space
 opening_space Brace = Soft false 1
 opening_space _ = Soft false 0
@@ -64,7 +64,7 @@ seen_by (Opener d) s t = at_start s.count
 seen_by (Closer d) s t = behind_group d s.count
 seen_by _ s t = seen_token s t
 
--- what one token is fed as, which others follow, and what is seen behind it
+-- what one token is fed as, which others follow, and what is seen after it
 unfoldable pub fed_token : Seen → Listed → List Listed → List Tok
 fed_token s t ts = fed_by (kind_of t) s t ts
 

@@ -7,7 +7,7 @@ use Rattle.lay_node.specs.tokens.Lists.{group_form}
 use Rattle.lay_node.specs.declared.token.Listed.{Listed}
 use Rattle.lay_node.specs.declared.token.Word.{Word}
 
--- the words of a simple path behind its first, each with a `::` before it
+-- the words of a simple path after its first, each with a `::` before it
 abbrev pub further_words : List Word → Form
 further_words [] = Done
 further_words (w ∷ more) = Piece colons (leaf_of w.raw w.text (further_words more))

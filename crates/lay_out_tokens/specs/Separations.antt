@@ -24,7 +24,7 @@ separation_of separation.NoBreak = pairs.NoBreak
 separation_of separation.SoftBreak = pairs.SoftBreak
 separation_of separation.HardBreak = pairs.HardBreak
 
--- what is seen behind one more neighbour
+-- what is seen after one more neighbour
 abbrev pub seen_next : pairs.Seen → pairs.Neighbour → pairs.Seen
 seen_next s r = record {
   before = s.last;

@@ -25,7 +25,7 @@ pub fn put_attr<E: Emit>(out: &mut E, attr: &Attr, own_line: bool) -> Result<(),
     put_behind_attr(out, attr, own_line)
 }
 
-/// An attribute, and nothing behind it.
+/// An attribute, and nothing after it.
 pub fn put_bare_attr<E: Emit>(out: &mut E, attr: &Attr) -> Result<(), E::Fault>
     ensures { Did E.meanings out.old (stream_of (attr_form attr.now)) result out.new }
 {
@@ -35,7 +35,7 @@ pub fn put_bare_attr<E: Emit>(out: &mut E, attr: &Attr) -> Result<(), E::Fault>
     }
 }
 
-/// What stands behind an attribute within other parts.
+/// What follows an attribute within other parts.
 fn put_behind_attr<E: Emit>(out: &mut E, attr: &Attr, own_line: bool) -> Result<(), E::Fault>
     ensures { Did E.meanings out.old (stream_of (behind_attr own_line attr.now Done)) result
         out.new }
@@ -106,7 +106,7 @@ fn put_input<E: Emit>(out: &mut E, input: &MetaInput) -> Result<(), E::Fault>
     }
 }
 
-/// Tokens, behind their `=`.
+/// Tokens, after their `=`.
 fn put_value<E: Emit>(out: &mut E, tokens: &Tokens) -> Result<(), E::Fault>
     ensures { Did E.meanings out.old (stream_of (input_form (input.Value tokens.now) Done)) result
         out.new }

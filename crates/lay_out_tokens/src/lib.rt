@@ -2,7 +2,7 @@
 //!
 //! Each call appends to an [`Emit`](lay_stream::Emit) exactly the stream of the form that `lay_node` gives to its
 //! part, or stops where the `Emit` does. A token list is walked as the flat list that it is, however deep its groups
-//! nest: what stands before a group decides nothing behind it, so nothing is kept of the groups that are open.
+//! nest: what stands before a group decides nothing after it, so nothing is kept of the groups that are open.
 #![tactic(auto)]
 
 mod attributes;

@@ -52,7 +52,7 @@ impl<'a> Seen<'a> {
         }
     }
 
-    /// Behind a group.
+    /// After a group.
     #[inline(always)]
     fn behind_group(delim: Delim, count: usize) -> Seen<'a>
         ensures { seen_of result ≡ pairs.behind_group delim count }
@@ -67,7 +67,7 @@ impl<'a> Seen<'a> {
         }
     }
 
-    /// What is seen behind one more token.
+    /// What is seen after one more token.
     #[tactic(auto, unfolding(crate::specs::Fed::seen_behind))]
     #[inline(always)]
     pub fn behind(&self, token: &'a Listed, next: Told<'a>) -> Seen<'a>
@@ -83,7 +83,7 @@ impl<'a> Seen<'a> {
         }
     }
 
-    /// Behind a token that is no delimiter.
+    /// After a token that is no delimiter.
     #[inline(always)]
     fn behind_single(&self, next: Told<'a>) -> Seen<'a>
         requires { self.now.count < usize.MAX }
@@ -103,7 +103,7 @@ impl<'a> Seen<'a> {
         }
     }
 
-    /// Behind a `<` or a `>`.
+    /// After a `<` or a `>`.
     #[inline(always)]
     fn behind_angle(&self, next: Told<'a>) -> Seen<'a>
         requires { self.now.count < usize.MAX }
@@ -120,7 +120,7 @@ impl<'a> Seen<'a> {
         }
     }
 
-    /// Whether a number here may be an index: behind a point, but not behind `..`.
+    /// Whether a number here may be an index: after a point, but not after `..`.
     #[inline(always)]
     fn is_index_place(&self) -> bool
         ensures { result ≡ pairs.is_index_place (seen_of self.now).before (seen_of self.now).last }
@@ -128,7 +128,7 @@ impl<'a> Seen<'a> {
         self.last.is_mark(b'.') && !self.before.is_joint_mark(b'.')
     }
 
-    /// The turbofish's count behind this one.
+    /// The turbofish's count after this one.
     #[inline(always)]
     fn count_behind(&self, next: &Told<'_>) -> usize
         requires { self.now.count < usize.MAX }
@@ -143,7 +143,7 @@ impl<'a> Seen<'a> {
         self.count
     }
 
-    /// The turbofish's count behind a `<`.
+    /// The turbofish's count after a `<`.
     #[inline(always)]
     fn raised(&self) -> usize
         requires { self.now.count < usize.MAX }
@@ -164,7 +164,7 @@ impl<'a> Seen<'a> {
         self.count > 0 || self.last.is_joint_mark(b':')
     }
 
-    /// The turbofish's count behind a `>`. That of an arrow closes none.
+    /// The turbofish's count after a `>`. That of an arrow closes none.
     #[inline(always)]
     fn lowered(&self) -> usize
         ensures { result ≡ pairs.lowered (seen_of self.now) }
@@ -356,7 +356,7 @@ fn is_bang_of_call(seen: &Seen<'_>, next: &Told<'_>) -> bool
     next.is_mark(b'!') && !next.is_joint() && seen.last.is_free_word()
 }
 
-/// Behind `.`, or a word behind `::`
+/// After `.`, or a word after `::`
 #[inline(always)]
 fn is_behind_point_or_path(seen: &Seen<'_>, next: &Told<'_>) -> bool
     ensures { let b = told_of seen.now.before in let l = told_of seen.now.last in
@@ -393,7 +393,7 @@ fn is_attribute(seen: &Seen<'_>, next: &Told<'_>) -> bool
     seen.last.is_mark(b'#') && next.is_bracket()
 }
 
-/// Behind `&`, `*` or `-` that has no left operand
+/// After `&`, `*` or `-` that has no left operand
 #[inline(always)]
 fn is_prefix(seen: &Seen<'_>) -> bool
     ensures { let b = told_of seen.now.before in let l = told_of seen.now.last in
@@ -422,7 +422,7 @@ fn is_joint_punct(before: &Told<'_>) -> bool
     before.is_punct() && before.is_joint()
 }
 
-/// Whether it is no operand of an operator behind it
+/// Whether it is no operand of an operator after it
 #[inline(always)]
 fn has_no_operand(before: &Told<'_>) -> bool
     ensures { let b = told_of before.now in
@@ -444,7 +444,7 @@ fn is_within_turbofish(seen: &Seen<'_>, next: &Told<'_>) -> bool
         || (seen.closes && next.is_paren())
 }
 
-/// The group of `name(..)` and `name[..]`, or one behind another
+/// The group of `name(..)` and `name[..]`, or one after another
 #[inline(always)]
 fn is_call_or_index(seen: &Seen<'_>, next: &Told<'_>) -> bool
     ensures { let l = told_of seen.now.last in let r = told_of next.now in

@@ -39,7 +39,7 @@ fn put_words<E: Emit>(out: &mut E, words: &[Word]) -> Result<(), E::Fault>
     }
 }
 
-/// A word, and others behind it.
+/// A word, and others after it.
 fn put_joined<E: Emit>(out: &mut E, first: &Word, rest: &[Word]) -> Result<(), E::Fault>
     ensures { Did E.meanings out.old
         (stream_of (leaf_of first.now.raw first.now.text (further_words rest.now))) result out.new }

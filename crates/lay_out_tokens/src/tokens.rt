@@ -38,7 +38,7 @@ pub fn put_tokens<E: Emit>(out: &mut E, tokens: &Tokens) -> Result<(), E::Fault>
     put_list_end(out, line)
 }
 
-/// A newline behind a list that ends in documentation on a line.
+/// A newline after a list that ends in documentation on a line.
 fn put_list_end<E: Emit>(out: &mut E, line: bool) -> Result<(), E::Fault>
     ensures { Did E.meanings out.old (stream_of (ended_by line)) result out.new }
 {
@@ -253,7 +253,7 @@ fn closing(delim: Delim) -> &'static [u8]
     }
 }
 
-/// The break behind an opener: braces have blanks within.
+/// The break after an opener: braces have blanks within.
 fn opening_break(delim: Delim) -> Break
     ensures { result ≡ break_of (opening_space delim) }
 {

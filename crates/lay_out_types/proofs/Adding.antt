@@ -1,4 +1,4 @@
--- Calls behind other calls, one after another.
+-- Calls after other calls, one after another.
 use Rattle.std.proofs.Common.{◌≡◌, List, [], ◌++◌, Bool, true, false, cond, refl, sym, ◌∙◌, subst, OnOk}
 use Rattle.std.proofs.Common.{Result, Ok, Err}
 use Rattle.lay_layout.specs.Machine.{opened}
@@ -36,7 +36,7 @@ adds_nothing {m} {a} = record {
   stays = λ f e. refl;
 }
 
--- calls behind calls that went well
+-- calls after calls that went well
 pub went_well : {S F T : Type 0} {m : Meanings S F} {a b : S} {ts : List Tok} {p q : Result T F} {x : T} → p ≡ Ok x
     → Did m a ts q b → Adds m p a ts q b
 went_well e d = record { goes_on = λ y k. d; hands_on = λ f k. cc; stays = λ f k. cc }

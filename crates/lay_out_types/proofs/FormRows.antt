@@ -24,7 +24,7 @@ use Rattle.lay_out_types.specs.Rows.{wheres_closed, wheres_opened}
 use Rattle.lay_out_types.proofs.Adding.{level_behind, on_ok}
 use Rattle.lay_out_types.proofs.RowLemmas.{take_all}
 
--- A part, and what follows it, which is fed alike behind a point.
+-- A part, and what follows it, which is fed alike after a point.
 pub part_more : (e f : Form) → ((q : Bool) → fed q f [] ≡ stream_of f)
     → stream_of e ++ stream_of f ≡ stream_of (Part e f)
 part_more e f any =
@@ -34,7 +34,7 @@ part_more e f any =
 pub part_alone : (e : Form) → stream_of e ≡ stream_of (Part e Done)
 part_alone e = refl
 
--- ---- parts behind what leads to each
+-- ---- parts after what leads to each
 
 pub each_is : (lead : Form → Form) (between : List Tok)
     → ((q : Bool) (f : Form) (more : List Tok) → fed q (lead f) more ≡ between ++ fed false f more)
@@ -220,7 +220,7 @@ list_nested : (o both c : List ℕ) (may : Bool) (es : List Form) (bare : Bool) 
 list_nested o both c may [] bare n k is e = rw is tt
 list_nested o both c may (f ∷ es) bare n k is e = rw is (one_open n (e ∙ level_opened f es n))
 
--- A list may be closed behind its elements.
+-- A list may be closed after its elements.
 pub may_close : {S F T : Type 0} {m : Meanings S F} {a b : S} {p q : Result T F} (o both c : List ℕ) (may : Bool)
     (es : List Form) (bare : Bool) → bare ≡ are_none es → Adds m p a (row (list_opened o) comma_between es) q b
     → OnOk q (IsNested (m.groups b) (list_closed may bare both c))
@@ -233,14 +233,14 @@ wheres_nested body [] bare n k is e = rw is tt
 wheres_nested true (f ∷ es) bare n k is e = rw is (one_open n (e ∙ level_opened f es n))
 wheres_nested false (f ∷ es) bare n k is e = rw is (one_open n (e ∙ level_opened f es n))
 
--- A where clause may be closed behind its predicates.
+-- A where clause may be closed after its predicates.
 pub may_close_wheres : {S F T : Type 0} {m : Meanings S F} {a b : S} {p q : Result T F} (body : Bool) (es : List Form)
     (bare : Bool) → bare ≡ are_none es → Adds m p a (row wheres_opened comma_between es) q b
     → OnOk q (IsNested (m.groups b) (wheres_closed body bare))
 may_close_wheres {p} {q} body es bare is h =
     on_ok q (λ x e. wheres_nested body es bare _ _ is (level_behind p q x h e))
 
--- Bounds may be closed behind their bounds.
+-- Bounds may be closed after their bounds.
 pub may_end : {S F T : Type 0} {m : Meanings S F} {a b : S} {p q : Result T F} (es : List Form)
     → Adds m p a (tok.Begin false (pos 4) ∷ row [] plus_between es) q b → OnOk q (0 < m.groups b)
 may_end {m} {a} {p} {q} es h =

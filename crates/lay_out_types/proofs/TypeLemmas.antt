@@ -498,7 +498,7 @@ pub param_turn : (first : Bool) (p : FuncParam) (attrs : List Attr) → attrs �
 param_turn first p attrs e =
     ap (λ (s : List Tok). cond first (list_opened (codes "(")) comma_between ++ s) (func_param_parts p attrs e)
 
--- the `...` behind the parameters
+-- the `...` after the parameters
 abbrev pub variadic_close : List Tok
 variadic_close = list_closed false false (codes "()") (codes ")")
 

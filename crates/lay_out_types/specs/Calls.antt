@@ -1,4 +1,4 @@
--- What a call does behind other calls.
+-- What a call does after other calls.
 use Rattle.std.specs.Prelude.{◌≡◌, List, Result, Ok, Err}
 use Rattle.lay_layout.specs.declared.layout.Tok.{Tok}
 use Rattle.lay_stream.specs.Fed.{Meanings, Did}

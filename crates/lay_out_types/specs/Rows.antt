@@ -7,12 +7,12 @@ use Rattle.lay_form.specs.Form.{Form, Soft, Never}
 use Rattle.lay_form.specs.Layout.{break_of, comma_break}
 use Rattle.lay_form.specs.Stream.{stream_of}
 
--- elements, each behind the same tokens
+-- elements, each after the same tokens
 abbrev pub further : List Tok → List Form → List Tok
 further between [] = []
 further between (e ∷ es) = between ++ (stream_of e ++ further between es)
 
--- elements behind what opens them, with the same tokens between them; nothing without elements
+-- elements after what opens them, with the same tokens between them; nothing without elements
 abbrev pub row : List Tok → List Tok → List Form → List Tok
 row opening between [] = []
 row opening between (e ∷ es) = opening ++ (stream_of e ++ further between es)
@@ -25,7 +25,7 @@ comma_between = tok.Text (codes ",") ∷ tok.Break (break_of (Soft false 1)) ∷
 abbrev pub list_opened : List ℕ → List Tok
 list_opened opener = tok.Begin true (pos 4) ∷ tok.Text opener ∷ tok.Break (break_of (Soft false 0)) ∷ []
 
--- the break behind the last element, where a comma may stand or not
+-- the break after the last element, where a comma may stand or not
 abbrev pub last_break : Bool → Break
 last_break may = cond may (comma_break 0) (break_of (Soft true 0))
 

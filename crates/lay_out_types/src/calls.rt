@@ -1,4 +1,4 @@
-//! Texts, words and token lists, behind what was fed before.
+//! Texts, words and token lists, after what was fed before.
 ghost use Rattle.std.specs.Prelude.{[], ◌∷◌, cond, false};
 ghost use Rattle.lay_layout.specs.declared.layout.Tok.TheVariants as tok;
 ghost use Rattle.lay_piece.specs.declared.kind.Delim.TheVariants.{Brace};

@@ -80,7 +80,7 @@ fn add_param<E: Emit>(
     }
 }
 
-/// What is asked of a type, behind a `:`; nothing without bounds.
+/// What is asked of a type, after a `:`; nothing without bounds.
 pub fn add_asked<E: Emit>(
     out: &mut E,
     before: Result<(), E::Fault>,

@@ -4,7 +4,7 @@
 //! `lay_node` gives to its node, or stops where the `Emit` does.
 //!
 //! A function whose name begins with `add` is told how the calls before it came out, and answers how all of them did:
-//! behind a fault it feeds nothing, and hands the fault on. So what a function says is the row of its parts, and no part
+//! after a fault it feeds nothing, and hands the fault on. So what a function says is the row of its parts, and no part
 //! has a way out of its own. The crates above lay out their nodes with these.
 #![tactic(auto)]
 

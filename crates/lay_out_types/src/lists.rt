@@ -45,7 +45,7 @@ fn put_comma<E: Emit>(out: &mut E) -> Result<(), E::Fault>
     out.brk(SPACE_BREAK)
 }
 
-/// What closes a list, with a `,` behind its last element where each stands on its own line and one may stand there. A
+/// What closes a list, with a `,` after its last element where each stands on its own line and one may stand there. A
 /// list without elements is both delimiters, as one text.
 pub fn add_close<E: Emit>(
     out: &mut E,
@@ -69,7 +69,7 @@ pub fn add_close<E: Emit>(
     out.end()
 }
 
-/// The break behind the last element of a list.
+/// The break after the last element of a list.
 fn last_break(may: bool) -> Break
     ensures { result ≡ last_break may }
 {

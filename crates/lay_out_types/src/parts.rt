@@ -29,7 +29,7 @@ pub fn add_param_attrs<E: Emit>(
     done
 }
 
-/// Lifetimes that another one outlives, behind a `:`; nothing without them.
+/// Lifetimes that another one outlives, after a `:`; nothing without them.
 pub(crate) fn add_outlived<E: Emit>(
     out: &mut E,
     before: Result<(), E::Fault>,
@@ -60,7 +60,7 @@ pub(crate) fn add_lifetime_param<E: Emit>(
     add_outlived(out, lifetime, param.bounds.as_slice())
 }
 
-/// A binder, and a blank behind it.
+/// A binder, and a blank after it.
 pub(crate) fn add_binder<E: Emit>(
     out: &mut E,
     before: Result<(), E::Fault>,
@@ -146,7 +146,7 @@ pub(crate) fn add_const<E: Emit>(
     }
 }
 
-/// An ABI, and a blank behind it.
+/// An ABI, and a blank after it.
 pub fn add_abi<E: Emit>(
     out: &mut E,
     before: Result<(), E::Fault>,
@@ -169,7 +169,7 @@ pub fn add_abi<E: Emit>(
     }
 }
 
-/// The `&` of a reference, and its lifetime with a blank behind it.
+/// The `&` of a reference, and its lifetime with a blank after it.
 pub fn add_reference<E: Emit>(
     out: &mut E,
     before: Result<(), E::Fault>,
@@ -189,7 +189,7 @@ pub fn add_reference<E: Emit>(
     }
 }
 
-/// What a parameter of a function type is called, and a `:` behind it.
+/// What a parameter of a function type is called, and a `:` after it.
 pub(crate) fn add_param_name<E: Emit>(
     out: &mut E,
     before: Result<(), E::Fault>,
@@ -203,7 +203,7 @@ pub(crate) fn add_param_name<E: Emit>(
     }
 }
 
-/// A name that is given, or the `_` of none, and a `:` behind it.
+/// A name that is given, or the `_` of none, and a `:` after it.
 pub fn add_given_name<E: Emit>(
     out: &mut E,
     before: Result<(), E::Fault>,

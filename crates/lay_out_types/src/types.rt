@@ -97,7 +97,7 @@ fn add_start<E: Emit>(
     }
 }
 
-/// The generic arguments of a segment: in code behind `::`, unless they stand in parentheses.
+/// The generic arguments of a segment: in code after `::`, unless they stand in parentheses.
 #[cycle(add_type)]
 pub fn add_args<E: Emit>(
     out: &mut E,
@@ -332,7 +332,7 @@ fn add_types<E: Emit>(
     add_close(out, done, true, types.is_empty(), b"()", b")")
 }
 
-/// The parameters of a function type in parentheses, and behind them the `...` of one that takes further arguments.
+/// The parameters of a function type in parentheses, and after them the `...` of one that takes further arguments.
 #[cycle(add_type)]
 fn add_params<E: Emit>(
     out: &mut E,
