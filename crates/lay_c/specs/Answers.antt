@@ -10,7 +10,7 @@ use Rattle.lay_files.specs.Places.{place_in}
 use Rattle.lay_files.specs.Readings.{ReadsOnlyTo}
 use Rattle.lay_c.specs.declared.LayAnswer.{LayAnswer}
 
--- a buffer with the front of the text in it, as much as fits; behind it stands what stood there
+-- a buffer with a prefix of the text in it, as much as fits; after it stands what stood there
 abbrev pub filled : List ℕ → List ℕ → List ℕ
 filled text buffer = take (length buffer) text ++ drop (length text) buffer
 
@@ -32,7 +32,7 @@ refused_answer (NoItem at) place = refused_by 4 at place
 abbrev pub wanting_answer : LayAnswer
 wanting_answer = record { length = 0; at = 0; line = 0; column = 0; status = 5 }
 
--- The input reads to one file alone, and the front of its text stands in the buffer.
+-- The input reads to one file alone, and a prefix of its text stands in the buffer.
 pub record IsDone (input : List ℕ) (answer : LayAnswer) (old new : List ℕ) : Type 0 where
   pub file : File
   pub reads : ReadsOnlyTo input file

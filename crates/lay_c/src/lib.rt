@@ -1,6 +1,6 @@
 //! The formatter for C: one call over byte buffers, which takes and gives no memory of its own.
 //!
-//! [`lay_format_slices`] formats the input, and writes the front of its text to the buffer, as much as fits. It answers the length of
+//! [`lay_format_slices`] formats the input, and writes a prefix of its text to the buffer, as much as fits. It answers the length of
 //! the whole text, so a caller whose buffer was too small calls again with a greater one. The header is c/lay.h, whose
 //! `lay_format` is this call, where a pointer to no bytes may be null too.
 #![tactic(auto)]
@@ -37,7 +37,7 @@ pub struct LayAnswer {
     pub status: u32,
 }
 
-/// Formats the input, a file of any length, and writes the front of its text to the buffer, as much as fits. Where there is no
+/// Formats the input, a file of any length, and writes a prefix of its text to the buffer, as much as fits. Where there is no
 /// text, the buffer stays as it is.
 #[unsafe(no_mangle)]
 pub extern "C" fn lay_format_slices(alloc: Global, input: &[u8], buffer: &mut [u8]) -> LayAnswer
@@ -50,7 +50,7 @@ pub extern "C" fn lay_format_slices(alloc: Global, input: &[u8], buffer: &mut [u
     }
 }
 
-/// The text was made; its front is written to the buffer.
+/// The text was made; its prefix is written to the buffer.
 fn done(text: &[u8], buffer: &mut [u8]) -> LayAnswer
     ensures answer { result ≡ done_answer (length text.now) }
     ensures bytes { buffer.new ≡ filled text.now buffer.old }
@@ -65,7 +65,7 @@ fn done(text: &[u8], buffer: &mut [u8]) -> LayAnswer
     }
 }
 
-/// Copies bytes to the front of the buffer, as many as fit.
+/// Copies bytes to the beginning of the buffer, as many as fit.
 fn fill(buffer: &mut [u8], bytes: &[u8])
     ensures { buffer.new ≡ filled bytes.now buffer.old }
 {

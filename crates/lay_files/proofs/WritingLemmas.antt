@@ -46,7 +46,7 @@ file_written written faults loan x y before now file result first last same h =
       cause = cause_of (faults before) (faults now) result k.cause.failed;
     }
 
--- ---- a file that was fed behind its first line
+-- ---- a file that was fed after its first line
 
 shebang_more : (first : Option (List ℕ)) (d : Document) → stream (behind_shebang first Empty) ++ stream d ≡ stream (behind_shebang first d)
 shebang_more None d = refl

@@ -49,11 +49,11 @@ FormattedAs depth bytes (Err NoMemory) = Unit {0}
 abbrev pub FormatsAs : ℕ → Source → Result (List ℕ) FileError → Type 0
 FormatsAs depth from result = (bytes : List ℕ) → source bytes ≡ Ok from → FormattedAs depth bytes result
 
--- a file behind this first line
+-- a file after this first line
 abbrev pub behind_line : Option (List ℕ) → File → File
 behind_line first file = record { shebang = first; attrs = file.attrs; items = file.items }
 
--- The text is that of a file, behind the first line, that the tokens of the source spell.
+-- The text is that of a file, after the first line, that the tokens of the source spell.
 pub record FormatsSource (depth : ℕ) (from : Source) (text : List ℕ) : Type 0 where
   pub file : File
   pub reads : FileAs depth from.text from.start (Ok file)

@@ -29,7 +29,7 @@ told result given wanted h is = subst (λ (t : List ℕ). IfOk result (λ text. 
 
 -- ---- texts, one after another
 
--- One more text is added, and what is left of the texts stands behind it.
+-- One more text is added, and what is left of the texts stands after it.
 pub one_more : (text new part : List ℕ) (parts : List (List ℕ)) (i : ℕ) → i < length parts → part ≡ get_or parts i part
     → new ≡ text ++ part → new ++ concat (drop (i + 1) parts) ≡ text ++ concat (drop i parts)
 one_more text new part parts i within is grew =

@@ -20,7 +20,7 @@ pub fn lines_law()
         ≡ text_of (document (lines es)) ++ text_of (document (lines fs)) }
 {}
 
-/// The text of a file is that of what stands before its items, and behind it those of its items, in order. The text of an
+/// The text of a file is that of what stands before its items, and after it those of its items, in order. The text of an
 /// item is that of a file with this item alone.
 pub fn outputs_law()
     ensures whole { (file : File) → out file ≡ head_text file ++ item_texts file }

@@ -30,13 +30,13 @@ use Rattle.lay_files.specs.streamed.Through.{PutsBody, PutsFile, PutsModule, Put
 use Rattle.lay_files.proofs.streamed_lemmas.ModuleRows.{empty_line, full_line, may_close}
 use Rattle.lay_files.proofs.streamed_lemmas.Rows.{file_rows, nothing_put, rows_put, same_puts}
 
--- ---- parts behind what came before
+-- ---- parts after what came before
 
 -- what was read, and then what a window adds
 abbrev pub joined : File → File → File
 joined old file = record { shebang = old.shebang; attrs = old.attrs ++ file.attrs; items = old.items ++ file.items }
 
--- No inner attribute stands behind an item.
+-- No inner attribute stands after an item.
 abbrev pub InOrder : File → File → Type 0
 InOrder old file = (old.items ≡ []) ⊎ (file.attrs ≡ [])
 

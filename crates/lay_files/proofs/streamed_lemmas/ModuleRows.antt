@@ -98,7 +98,7 @@ level_opening within head n =
     ∙ ap (opened row) (level_form (behind_attrs (map attr_form head.attrs) Done) n)
     ∙ level_head head.vis (module_head head.name) n)
 
--- A module may be closed behind its parts.
+-- A module may be closed after its parts.
 pub may_close : {S F : Type 0} (m : Meanings S F) (a b c : S) (within : Bool) (head : Head) (parts : List Form) → Puts m a (opening within head) b
     → Puts m b (rows true parts) c → 0 < m.groups c
 may_close m a b c within head parts p q =

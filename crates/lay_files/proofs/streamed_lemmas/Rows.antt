@@ -57,7 +57,7 @@ same_puts m a b s ts p e = subst (λ (l : List Tok). Puts m a l b) e p
 pub nothing_put : {S F : Type 0} (m : Meanings S F) (within : Bool) (a : S) → Puts m a (rows within []) a
 nothing_put m within a = same_puts m a a [] (rows within []) ((no_call {T = Unit {0}} {x = tt}).puts tt refl) (no_rows within)
 
--- Parts behind other parts.
+-- Parts after other parts.
 pub rows_put : {S F : Type 0} (m : Meanings S F) (within : Bool) (a b c : S) (es fs gs : List Form) → Puts m a (rows within es) b
     → Puts m b (rows within fs) c → gs ≡ es ++ fs → Puts m a (rows within gs) c
 rows_put m within a b c es fs gs p q e =

@@ -42,7 +42,7 @@ module _ (head : Head) (body : File) (depth : ℕ) where
       item_is (module_of head body)
       ∙ ap (λ (k : KindFacts). item_facts (record { attrs = head.attrs; vis = head.vis; kind = k })) (module_is head.name body.attrs body.items)
 
-  -- the body, behind its opening brace
+  -- the body, after its opening brace
   tail_spelled : (brace closing : Token) (inside more : List Token) → IsBrace Opened brace → IsBrace Closed closing
       → Stands depth body inside
       → Spells (item_body true body.attrs (map told_of_item body.items)) depth (brace ∷ (inside ++ closing ∷ more)) more

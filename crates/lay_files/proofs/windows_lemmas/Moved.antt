@@ -21,7 +21,7 @@ use Rattle.lay_form.specs.Spelled.{Then, IsOne, IsOperator, IsDocAttr, Braced, I
 use Rattle.lay_files.specs.windows.Windows.{IsQuiet}
 use Rattle.lay_form.proofs.FormLaws.{IsEnd, is_end, one_end, semicolons_end, bits_end, may_be_end, listed_end, comment_end, string_end, doc_end, opens_end, closes_end, behind_end}
 
--- what is left behind two parts
+-- what is left after two parts
 both : {x y z : List Token} → IsEnd y x → IsEnd z y → IsEnd z x
 both {x} {y} {z} a b = record {
   before = a.before ++ b.before;
@@ -137,7 +137,7 @@ op_fits op t u rest g q h = elim (op_stands op (t ∷ u ++ rest) h) [
 
 -- ---- what spells a form
 
--- No list goes on with itself behind one item more.
+-- No list goes on with itself after one item more.
 no_end : (t : Token) (ts v : List Token) → ts ≡ v ++ t ∷ ts → ⊥
 no_end t ts v e = omega (arith, ap length e, length-append v (t ∷ ts))
 

@@ -32,7 +32,7 @@ use Rattle.lay_files.specs.declared.windows.heads.Head.{Head}
 parted : (before ts after : List Token) (n : ℕ) → before ++ take n ts ++ drop n ts ++ after ≡ before ++ ts ++ after
 parted before ts after n = rw (append_assoc before (take n ts) (drop n ts), take-append-drop n ts) refl
 
--- What stands behind tokens of a text stands in it too.
+-- What follows tokens of a text stands in it too.
 pub lexed_behind : (n : ℕ) (ts us : List Token) → us ≡ drop n ts → AreLexed ts → AreLexed us
 lexed_behind n ts us e l = subst AreLexed (sym e) (record {
   bytes = l.bytes;

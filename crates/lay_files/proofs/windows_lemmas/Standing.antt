@@ -129,7 +129,7 @@ module _ (text : List ℕ) (start : ℕ) (u : IsUtf8 text) (b : IsCharBoundary t
 
   module _ (depth place : ℕ) (old new : File) (tokens : List Token) (s : SoFar text start place depth old) (lexed : AreLexed tokens)
       (quiet : IsQuiet tokens) where
-    -- What is added stands behind what is read so far, and what leads behind that.
+    -- What is added stands after what is read so far, and what leads after that.
     led : (lead : List Form) → Adds depth tokens old new lead → (more : List Token)
         → (mid : List Token) × Spells (form_of_file new) depth (s.tokens ++ (tokens ++ more)) mid × Rows (SpelledAt depth) lead mid more
     led lead a more =

@@ -25,14 +25,14 @@ use Rattle.lay_files.specs.windows.Bodies.{BodyAs, FileAs}
 use Rattle.lay_files.specs.windows.Parts.{AddsAttrs, AddsInner, AddsItems, PartsAs, module_of, parts_of}
 use Rattle.lay_files.specs.declared.windows.heads.Head.{Head}
 
--- parts of a module, each behind a newline, or of a file, each with a newline behind it
+-- parts of a module, each after a newline, or of a file, each with a newline after it
 abbrev pub rows : Bool → List Form → List Tok
 rows true parts = stream_of (each H parts)
 rows false parts = stream_of (lines parts)
 
 -- ---- modules
 
--- the newline before a part of a module, and the one behind a part of a file
+-- the newline before a part of a module, and the one after a part of a file
 abbrev pub line_before : Bool → List Tok
 line_before true = line
 line_before false = []
@@ -41,7 +41,7 @@ abbrev pub line_behind : Bool → List Tok
 line_behind true = []
 line_behind false = line
 
--- the head of a module, behind its attributes, each with a newline behind it
+-- the head of a module, after its attributes, each with a newline after it
 abbrev pub module_row : Head → List Tok
 module_row head = stream_of (behind_attrs (map attr_form head.attrs) Done) ++ head_row head.vis (module_head head.name)
 
@@ -60,7 +60,7 @@ empty_module within head = module_begun within head ++ (tok.Text (codes " {}") �
 
 -- ---- parts of a window
 
--- Inner attributes stand at the front, and their rows were appended.
+-- Inner attributes come next, and their rows were appended.
 pub record PutsAttrs {S F : Type 0} (m : Meanings S F) (within : Bool) (ahead left : List Token) (old new : S) : Type 0 where
   pub attrs : List Attr
   pub stand : AddsAttrs true [] attrs ahead left
@@ -72,7 +72,7 @@ pub record PutsInner {S F : Type 0} (m : Meanings S F) (within are_items : Bool)
   pub stand : AddsInner (not are_items) [] attrs ahead left
   pub puts : Puts m old (rows within (map attr_form attrs)) new
 
--- Items stand at the front, and their rows were appended. The second flag is set where there is one, or else as the first one.
+-- Items come next, and their rows were appended. The second flag is set where there is one, or else as the first one.
 pub record PutsItems {S F : Type 0} (m : Meanings S F) (within : Bool) (depth : ℕ) (before after : Bool) (ahead left : List Token)
     (old new : S) : Type 0 where
   pub items : List Item
@@ -84,7 +84,7 @@ pub record PutsItems {S F : Type 0} (m : Meanings S F) (within : Bool) (depth : 
 abbrev pub bare : File
 bare = record { shebang = None; attrs = []; items = [] }
 
--- The tokens are the parts of a file, and the head of a module if one stands behind them; the rows of the parts were appended.
+-- The tokens are the parts of a file, and the head of a module if one stands after them; the rows of the parts were appended.
 pub record PutsParts {S F : Type 0} (m : Meanings S F) (within : Bool) (depth : ℕ) (tokens : List Token) (before after : Bool)
     (head : Option Head) (old new : S) : Type 0 where
   pub file : File

@@ -16,13 +16,13 @@ pub record IsEmpty (file : File) : Type 0 where
   pub attrs : file.attrs ≡ []
   pub items : file.items ≡ []
 
--- The tokens spell what is in the file, whatever stands behind them.
+-- The tokens spell what is in the file, whatever follows them.
 pub record Stands (depth : ℕ) (file : File) (tokens : List Token) : Type 0 where
   pub spelled : (more : List Token) → Spells (form_of_file file) depth (tokens ++ more) more
   pub normal : is_normal file ≡ true
   pub shebang : file.shebang ≡ None
 
--- From the place on the text lexes to them; or they stand up to another place, with a closing brace behind them.
+-- From the place on the text lexes to them; or they stand up to another place, with a closing brace after them.
 abbrev pub Ends : List ℕ → ℕ → ℕ → List Token → Bool → Type 0
 Ends text start end tokens false = Lexes text start tokens
 Ends text start end tokens true = (brace : Token) × IsBrace Closed brace × UpTo text start end (tokens ++ brace ∷ [])

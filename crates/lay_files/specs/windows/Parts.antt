@@ -24,7 +24,7 @@ use Rattle.lay_files.specs.declared.windows.heads.Head.{Head}
 
 -- ---- attributes and items
 
--- Attributes were added, which stand there one behind another.
+-- Attributes were added, which stand there one after another.
 pub record AddsAttrs (inner : Bool) (old new : List Attr) (ahead left : List Token) : Type 0 where
   pub read : List Attr
   pub added : new ≡ old ++ read

@@ -9,7 +9,7 @@ use Rattle.lay_lex.specs.declared.window.Stop.{Stop}
 use Rattle.lay_lex.specs.declared.window.Stop.TheVariants.{End, More, Opened, Closed}
 use Rattle.lay_read_tokens.specs.Answers.{AreLexed}
 
--- the brace behind which tokens end
+-- the brace after which tokens end
 abbrev pub IsBrace : Stop → Token → Type 0
 IsBrace End t = ⊥
 IsBrace More t = ⊥
@@ -29,7 +29,7 @@ IsQuiet [] = Unit {0}
 IsQuiet (t ∷ []) = t.joint ≡ false
 IsQuiet (t ∷ u ∷ us) = IsQuiet (u ∷ us)
 
--- How far the tokens of a window, and the brace behind them, go.
+-- How far the tokens of a window, and the brace after them, go.
 abbrev pub Goes : List ℕ → ℕ → List Token → ℕ → Stop → Type 0
 Goes text start tokens end End = Lexes text start tokens
 Goes text start tokens end More = UpTo text start end tokens

@@ -37,9 +37,9 @@ pub fn put_source<E: Emit>(
     }
 }
 
-/// Feeds inner attributes and items from a place on, where the first window stands, up to the end of the text, or behind the
+/// Feeds inner attributes and items from a place on, where the first window stands, up to the end of the text, or after the
 /// closing brace of the module that they stand in: whether they end in that. Within a module each has a newline before it, and
-/// else behind it.
+/// else after it.
 #[cycle(body)]
 #[inline(never)]
 fn put_body<E: Emit>(
@@ -76,7 +76,7 @@ fn put_body<E: Emit>(
     Err(NotPut::NoReading)
 }
 
-/// Feeds a module of this head, whose body stands from a place on, up to behind its closing brace.
+/// Feeds a module of this head, whose body stands from a place on, up to after its closing brace.
 #[cycle(body)]
 fn put_module<E: Emit>(
     alloc: Global,

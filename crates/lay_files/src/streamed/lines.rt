@@ -10,7 +10,7 @@ use lay_out_code::put_item;
 use lay_out_tokens::{HARD_BREAK, put_bare_attr};
 use lay_stream::Emit;
 
-/// An inner attribute, with a newline before it within a module, and else behind it.
+/// An inner attribute, with a newline before it within a module, and else after it.
 pub fn put_attr_line<E: Emit>(out: &mut E, within: bool, attr: &Attr) -> Result<(), E::Fault>
     ensures { Did E.meanings out.old (rows within (attr_form attr.now ∷ [])) result out.new }
 {
@@ -19,7 +19,7 @@ pub fn put_attr_line<E: Emit>(out: &mut E, within: bool, attr: &Attr) -> Result<
     put_line_behind(out, within)
 }
 
-/// An item, with a newline before it within a module, and else behind it.
+/// An item, with a newline before it within a module, and else after it.
 pub fn put_item_line<E: Emit>(out: &mut E, within: bool, item: &Item) -> Result<(), E::Fault>
     ensures { Did E.meanings out.old (rows within (form_of_item item.now ∷ [])) result out.new }
 {
@@ -35,7 +35,7 @@ pub fn put_line_before<E: Emit>(out: &mut E, within: bool) -> Result<(), E::Faul
     if within { out.brk(HARD_BREAK) } else { Ok(()) }
 }
 
-/// The newline behind a part of a file.
+/// The newline after a part of a file.
 pub fn put_line_behind<E: Emit>(out: &mut E, within: bool) -> Result<(), E::Fault>
     ensures { Did E.meanings out.old (line_behind within) result out.new }
 {

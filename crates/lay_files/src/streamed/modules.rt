@@ -20,7 +20,7 @@ pub fn open<E: Emit>(out: &mut E, within: bool, head: &Head) -> Result<(), E::Fa
     open_body(out, Ok(()), true)
 }
 
-/// Closes a module that holds something, with a newline behind it where it stands in none.
+/// Closes a module that holds something, with a newline after it where it stands in none.
 pub fn close<E: Emit>(out: &mut E, within: bool) -> Result<(), E::Fault>
     requires { 0 < E.meanings.groups out.old }
     ensures { Did E.meanings out.old (closing within) result out.new }
@@ -46,7 +46,7 @@ fn put_head<E: Emit>(out: &mut E, within: bool, head: &Head) -> Result<(), E::Fa
     put_module_head(out, head)
 }
 
-/// The head of a module, with its attributes, each with a newline behind it.
+/// The head of a module, with its attributes, each with a newline after it.
 fn put_module_head<E: Emit>(out: &mut E, head: &Head) -> Result<(), E::Fault>
     ensures { Did E.meanings out.old (module_row head.now) result out.new }
 {

@@ -14,7 +14,7 @@ use lay_stream::Emit;
 use std::alloc::Global;
 
 /// Feeds the inner attributes and the items that the tokens are, all but the head of a module at their end, if one stands
-/// there. The flag says whether items were fed before, behind which no inner attribute stands, and then whether any were.
+/// there. The flag says whether items were fed before, after which no inner attribute stands, and then whether any were.
 pub fn put_parts<E: Emit>(
     alloc: Global,
     nested: &Nested,

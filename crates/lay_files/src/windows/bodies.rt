@@ -42,7 +42,7 @@ fn empty(alloc: Global) -> File
     }
 }
 
-/// Inner attributes and items from a place on, up to the end of the text, or behind the closing brace of the module that
+/// Inner attributes and items from a place on, up to the end of the text, or after the closing brace of the module that
 /// they stand in: whether they end in that.
 #[inline(never)]
 fn read_body(

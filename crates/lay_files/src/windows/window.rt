@@ -9,16 +9,16 @@ use lay_read_tokens::ReadNone;
 use lay_token::{Delim, FormatError, Kind, List, Token};
 use std::alloc::Global;
 
-/// A window has so many tokens at least, if an item ends behind them.
+/// A window has so many tokens at least, if an item ends after them.
 const LEAST: usize = 4096;
 
 /// Some of the tokens of a text.
 #[derive(Drop)]
 pub struct Window {
-    /// The tokens, without the brace behind which they end.
+    /// The tokens, without the brace after which they end.
     pub nested: Nested,
     pub stop: Stop,
-    /// Where the text goes on, behind the brace.
+    /// Where the text goes on, after the brace.
     pub end: usize,
 }
 
@@ -40,7 +40,7 @@ pub fn read_window(alloc: Global, text: &str, place: usize) -> Result<Window, Re
     }
 }
 
-/// The tokens without the brace behind which they end, if they end behind one.
+/// The tokens without the brace after which they end, if they end after one.
 fn without_brace(tokens: List<Token>, stop: Stop) -> Result<List<Token>, ReadNone>
     ensures { IfOk result (λ rest. Unbraced stop tokens rest) }
 {
@@ -56,7 +56,7 @@ fn without_brace(tokens: List<Token>, stop: Stop) -> Result<List<Token>, ReadNon
     }
 }
 
-/// Whether the token is the brace behind which tokens end so.
+/// Whether the token is the brace after which tokens end so.
 fn is_brace(token: &Token, stop: Stop) -> bool
     ensures { IsTrue result → IsBrace stop token.now }
 {

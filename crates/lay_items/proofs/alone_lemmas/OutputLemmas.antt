@@ -18,7 +18,7 @@ use Rattle.lay_items.specs.alone.Lines.{before, ended, line_text}
 use Rattle.lay_items.specs.alone.Outputs.{item_text, alone, head_text, item_texts}
 use Rattle.lay_items.proofs.alone_lemmas.LineLemmas.{one_line, all_lines, two_lines}
 
--- the text behind a shebang
+-- the text after a shebang
 behind : (line : Option (List ℕ)) (d : Document)
     → text_of (behind_shebang line d) ≡ text_of (behind_shebang line Empty) ++ text_of d
 behind None d = refl

@@ -6,7 +6,7 @@ use Rattle.lay_code.specs.declared.file.File.{File}
 use Rattle.lay_code.specs.declared.item.Item.{Item}
 use Rattle.lay_items.specs.alone.Lines.{line_text}
 
--- the text of an item of a file, with the newline behind it
+-- the text of an item of a file, with the newline after it
 abbrev pub item_text : Item → List ℕ
 item_text item = line_text (form_of_item item)
 

@@ -1,4 +1,4 @@
--- What is left of the parts stands behind what was added.
+-- What is left of the parts stands after what was added.
 use Rattle.std.proofs.Common.{◌≡◌, ◌++◌, drop}
 use Rattle.std.specs.List.{concat}
 use Rattle.lay_items.proofs.printing.push_all.Given as goal
