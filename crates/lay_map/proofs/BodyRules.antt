@@ -94,7 +94,7 @@ no_skip e = absurd (cc e)
 
 -- ---- lines
 
--- behind which a newline may come
+-- after which a newline may come
 abbrev pub is_rest : Wait → Bool
 is_rest Still = true
 is_rest InLine = true
@@ -125,7 +125,7 @@ lined {f} t = record {
       };
 }
 
--- A newline that isn't behind a `,`.
+-- A newline that isn't after a `,`.
 pub line_rest : (back : Bool) (a : Bool) (s : Flow) → Rest a s → break_flow (break_of (Hard back)) s ≡ At Still a
 line_rest back a s r = by r.wait r.rests r.is
   where
@@ -198,7 +198,7 @@ fields_pieces e (f ∷ es) w =
     let p = and_parts (are_pieces e && true) (are_pieces (each H (with_commas (f ∷ es)))) w in
     ((and_parts (are_pieces e) true p.0).0, p.1)
 
--- The newline behind a `,` that is a word.
+-- The newline after a `,` that is a word.
 said_then : (e : Form) (es : List Form) → flow (At Said false) (each H (with_commas (e ∷ es))) ≡ flow (At Still false) (each H (with_commas (e ∷ es)))
 said_then e [] = refl
 said_then e (f ∷ es) = refl

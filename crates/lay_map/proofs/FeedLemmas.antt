@@ -78,7 +78,7 @@ settle w Said arrow outer ws k h =
 settle w Laid arrow outer ws k h = absurd (cc k)
 settle w InLine arrow outer ws k h = absurd (cc k)
 
--- Where a text may come it is read behind the comma.
+-- Where a text may come it is read after the comma.
 text_read : (wait : Wait) (w : Walk) (arrow : Bool) (outer : List Bool) (text : List ℕ) → is_open wait ≡ true
     → fed_one (tok.Text text) (waits wait w arrow outer) ≡ read text (comma_settled (waits wait w arrow outer))
 text_read Still w arrow outer text k = refl
@@ -557,7 +557,7 @@ flow_two : (s : Flow) (T : Flow → Flow) (next : Wait) (b : Bool) → T Lost �
 flow_two Lost T next b lost k = let z : Lost ≡ At next b = sym lost ∙ k in absurd (cc z)
 flow_two (At one c) T next b lost k = (one, c, refl, k)
 
--- a form, and what stands behind a body
+-- a form, and what follows a body
 bare_feeds : (s : Flow) (behind : Behind) (F : List Tok → List Tok) (xs : List Word) (w : Walk) (wait next : Wait) (a b : Bool) (outer : List Bool) (ws : List Word)
     → ((two : Wait) (d : Bool) → s ≡ At two d → Found w (waiting wait ++ (xs ++ ws)) → Feeds w wait a outer F xs ws two d)
     → behind_flow behind s ≡ At next b → Found w (waiting wait ++ (xs ++ ws))

@@ -25,7 +25,7 @@ use Rattle.lay_map.proofs.LexedLemmas.{lexed_single}
 use Rattle.lay_map.proofs.Rules.{paired}
 use Rattle.lay_map.proofs.nodes.Files.{file_tells}
 
--- What is fed of a file finds what its form finds behind its first line.
+-- What is fed of a file finds what its form finds after its first line.
 file_stream : (file : File) (ts : List Token)
     → fed_all (stream (layout_of_file file)) (begun ts (is_some file.shebang)) ≡ fed_all (stream_of (form_of_file file)) (begun ts false)
 file_stream file ts = by file.shebang ∙ ap (λ (s : List Tok). fed_all s (begun ts false)) (stream_is (form_of_file file))

@@ -86,7 +86,7 @@ leads_group {Next} {i} {f} consistent n t = record {
   go = λ w ws. first_part Next i f ws (t.go (and_parts (are_pieces i) (are_pieces f) w).0 (words f ++ ws));
 }
 
--- behind what is nothing
+-- after what is nothing
 pub leads_behind : {Next : List Word → Type 0} {f : Form} → Leads Next f → Leads Next (Part Done f)
 leads_behind {Next} {f} t = record { go = λ w ws. t.go (and_parts true (are_pieces f) w).1 ws }
 

@@ -60,7 +60,7 @@ alone Int p l h = and_from (has_form Int p) _ h (may_end Int p refl)
 alone Float p l h = and_from (has_form Float p) _ h (may_end Float p refl)
 alone k p l h = and_from (has_form k p) _ h (may_end k p l)
 
--- What stands at the front of a piece is the piece.
+-- What stands at the beginning of a piece is the piece.
 front_alone : (k : Kind) (p : List ℕ) → is_leaf k ≡ true → has_form k p ≡ true → front_of false p ≡ found k []
 front_alone k p l h = ap (front_of false) (sym (append-nil p)) ∙ front_complete k p [] false (alone k p l h)
 
@@ -268,7 +268,7 @@ whole_told k c cs w h = by_open (c == 123) refl
         let r : found k [] ≡ found l (chars cs) = sym (front_alone k (chars (c ∷ cs)) (whole_leaf k w) parts.1) ∙ ap (front_of false) q ∙ f in
         (found_kind k l [] (chars cs) r, sym (found_rest k l [] (chars cs) r))
 
-    -- the text behind its first character
+    -- the text after its first character
     alone_at : (n : ℕ) → n < 128 → c ≡ n → chars cs ≡ [] → cs ≡ []
     alone_at n b e f =
         let q : chars (c ∷ cs) ≡ n ∷ [] = ap (λ (x : ℕ). chars (x ∷ cs)) e ∙ first_low n cs b ∙ ap (λ (x : List ℕ). n ∷ x) f in

@@ -85,7 +85,7 @@ told_parts kind c cs h =
       u.1,
     )
 
--- the walk behind a word that is no opening brace
+-- the walk after a word that is no opening brace
 abbrev pub walk_behind : Bool → ℕ → Walk → Walk
 walk_behind loose c w = record { place = taken_from 0 (sought_from (First c) (placed loose w.row w.place)); row = 0 }
 
@@ -139,7 +139,7 @@ brace_leads w ws h = record {
   same = ap (total w.place) (braces_before w.row ws);
 }
 
--- ---- what is behind nothing more
+-- ---- what follows nothing more
 
 -- Where no word is left the braces that wait are all.
 pub last_units : (w : Walk) → Found w [] → (placed true w.row w.place).units ≡ all w []

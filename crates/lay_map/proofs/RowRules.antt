@@ -120,7 +120,7 @@ broken back s r = by r.wait r.arrow r.ends r.is
     by Laid false h e = absurd (cc h)
     by Said a h e = absurd (cc h)
 
--- ---- rows behind a newline each
+-- ---- rows after a newline each
 
 rows_flow : (Next : List Word → Type 0) (es : List Form) → All (Row Next) es → are_pieces (each H es) ≡ true → (s : Flow) → Ended s → Ended (flow s (each H es))
 rows_flow Next [] t w s r = r
@@ -248,7 +248,7 @@ closed_body {Next} {i} marks t c = record {
     by Unseen a h k = h
     by Marked a h k = ap (λ (s : Flow). left (At Still a) (group_flow (break_flow (closing_break Nothing) s))) k
 
--- the body of an arm, behind its arrow
+-- the body of an arm, after its arrow
 pub arm_body : {i : Form} (marks : Braces) (last block_like : Bool) → Plain i → Firm i
     → are_pieces i ≡ true → Ended (flow (At Still true) (Body marks (ArmComma last block_like) i Done))
 arm_body {i} marks last block_like t c w = by marks ((t.go w).flows true) ((t.go w).flows false)

@@ -19,7 +19,7 @@ use Rattle.lay_map.proofs.PieceLemmas.{bare_apart, bare_closes, bare_opens, bare
 
 -- ---- braces among words
 
--- Each closing brace among the words closes a kept one. These braces are open before the words, and those behind them.
+-- Each closing brace among the words closes a kept one. These braces are open before the words, and those after them.
 pub record Levels (ws : List Word) (before behind : List Bool) : Type 0 where
   pub shut_is : shuts ws before ≡ true
   pub leaves : behind_words ws before ≡ behind
@@ -48,7 +48,7 @@ levels_two a b {x} {y} {z} l m = record {
         let p = and_parts (not (word_closes w) || top x) (shuts a (behind_word w x)) h in
         and_from (not (word_closes w) || top x) (shuts (a ++ b) (behind_word w x)) p.0 (shut_two a (behind_word w x) p.1 k)
 
--- behind a word that is no brace
+-- after a word that is no brace
 pub levels_behind : (kind : Kind) (text : List ℕ) (ws : List Word) {x y : List Bool} → opens kind ≡ false → closes kind ≡ false → Levels ws x y
     → Levels (Told kind text ∷ ws) x y
 levels_behind kind text ws {x} {y} o c l = record {
@@ -92,7 +92,7 @@ Plain f = Tells Any f
 pub level_of : {Next : List Word → Type 0} {f : Form} → Tells Next f → are_pieces f ≡ true → is_level (words f) ≡ true
 level_of {Next} {f} t w = paired (words f) ((t.go w).levels [])
 
--- The form begins with a token that isn't dropped, behind opening braces of its own.
+-- The form begins with a token that isn't dropped, after opening braces of its own.
 pub record Firm (f : Form) : Type 0 where
   pub go : are_pieces f ≡ true → (b : Bool) → firm f b ≡ true
 
@@ -216,7 +216,7 @@ leaf {Next} {n} {f} kind text bare t = record {
       };
 }
 
--- What the part asks of the words behind it is given, where what follows it is made of pieces.
+-- What the part asks of the words after it is given, where what follows it is made of pieces.
 pub part_before : {Next Mid : List Word → Type 0} {n : ℕ} {i f : Form} → (are_pieces f ≡ true → (ws : List Word) → Next ws → Mid (words f ++ ws)) → Tells Mid i
     → Closing Next n f → Closing Next n (Part i f)
 part_before {Next} {Mid} {n} {i} {f} k s t = record {
@@ -345,7 +345,7 @@ firm_deep {i} {f} t = record { go = λ w b. t.go (and_parts (are_pieces i) (are_
 pub firm_group : {i f : Form} (consistent : Bool) (n : ℕ) → Firm i → Firm (Group consistent n i f)
 firm_group {i} {f} consistent n t = record { go = λ w b. t.go (and_parts (are_pieces i) (are_pieces f) w).0 (firm f b) }
 
--- behind what is nothing
+-- after what is nothing
 pub firm_behind : {f : Form} → Firm f → Firm (Part Done f)
 firm_behind {f} t = record { go = λ w b. t.go (and_parts true (are_pieces f) w).1 b }
 

@@ -211,7 +211,7 @@ row_found loose (suc k) (t ∷ ts) bs us ws lead l h =
 abbrev pub Seeks : Word → Sought → Type 0
 Seeks w sought = (bs : List Bool) (ws : List Word) (t : Token) (ts : List Token) → takes bs w ws t ts ≡ is_sought sought bs t
 
--- how many tokens behind the first belong to the unit of the word
+-- how many tokens after the first belong to the unit of the word
 abbrev pub more_ahead : Word → List Token → ℕ
 more_ahead (Told kind text) ts = 0
 more_ahead (Comment inner text) ts = more_of inner ts

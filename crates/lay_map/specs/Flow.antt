@@ -1,5 +1,5 @@
 -- Which forms tell their units by their layout. What a text says follows from its first characters; a text `,` tells whether it is a
--- word by the break behind it and by the arrow of an arm before it; and behind documentation on a line a break comes before any text.
+-- word by the break after it and by the arrow of an arm before it; and after documentation on a line a break comes before any text.
 use Rattle.std.specs.Prelude.{Bool, true, false, cond, ◌&&◌, ◌||◌, ◌==◌, not, ℕ, List, [], ◌∷◌, codes, Option, Some, None}
 use Rattle.std.specs.Str.{bytes_eq}
 use Rattle.lay_piece.specs.Characters as char
@@ -76,7 +76,7 @@ abbrev pub are_comma : List Word → Bool
 are_comma (Told kind text ∷ []) = is_punct kind && bytes_eq text (codes ",")
 are_comma _ = false
 
--- behind a text of these words
+-- after a text of these words
 abbrev pub text_flow : List Word → List ℕ → Wait → Bool → Flow
 text_flow ws text w arrow =
     cond (is_open w)
@@ -130,7 +130,7 @@ group_flow (At Said arrow) = At Still arrow
 group_flow (At Laid arrow) = Lost
 group_flow (At InLine arrow) = At InLine arrow
 
--- within a group, and behind it
+-- within a group, and after it
 abbrev pub entered : Flow → Flow
 entered Lost = Lost
 entered (At w arrow) = At w false

@@ -123,7 +123,7 @@ abbrev pub is_back : ℤ → Bool
 is_back (pos n) = false
 is_back (negsuc n) = true
 
--- A `,` before the break is in no unit: that behind the last of several fields, or that of an arm.
+-- A `,` before the break is in no unit: that after the last of several fields, or that of an arm.
 abbrev pub is_free : Break → Bool → Bool
 is_free b arrow = (b.blank == 65535) && (is_back b.offset || arrow)
 

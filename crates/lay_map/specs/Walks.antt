@@ -43,7 +43,7 @@ sought_in sought (t ∷ ts) braces units =
 abbrev pub sought_from : Sought → Place → Place
 sought_from sought p = sought_in sought p.ahead p.braces p.units
 
--- the token so many places behind the first, or else the last
+-- the token so many places after the first, or else the last
 abbrev pub last_of : ℕ → Token → List Token → Token
 last_of zero t ts = t
 last_of (suc n) t [] = t
@@ -58,7 +58,7 @@ taken_in n [] braces units = record { ahead = []; braces = braces; units = units
 taken_in n (t ∷ ts) braces units =
     record { ahead = drop n ts; braces = behind_token true t.kind braces; units = units ++ unit_from t (last_of n t ts) ∷ [] }
 
--- The next token, with so many behind it, is a unit.
+-- The next token, with so many after it, is a unit.
 abbrev pub taken_from : ℕ → Place → Place
 taken_from n p = taken_in n p.ahead p.braces p.units
 
@@ -66,7 +66,7 @@ abbrev pub first_length : List Token → ℕ
 first_length [] = 0
 first_length (t ∷ ts) = length t.text
 
--- how many tokens behind the next one belong to the same documentation
+-- how many tokens after the next one belong to the same documentation
 abbrev pub more_of : Bool → List Token → ℕ
 more_of inner [] = 0
 more_of inner (t ∷ ts) = more_doc inner t.kind

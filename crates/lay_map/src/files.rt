@@ -21,7 +21,7 @@ use std::alloc::Global;
 /// Where the units of the tokens stand that spell the file, in their order: each token that says something of it, and the tokens of one
 /// documentation together. A mark that the grammar lets stand or not is in none.
 ///
-/// The tokens are those that some text lexes to. There is no room, as where memory is wanting, for a unit that begins behind 2^32 bytes or is
+/// The tokens are those that some text lexes to. There is no room, as where memory is wanting, for a unit that begins after 2^32 bytes or is
 /// as long.
 pub fn units(alloc: Global, file: &File, nested: &Nested) -> Result<List<Unit>, NoMemory>
     requires lexed { AreLexed nested.now }

@@ -250,14 +250,14 @@ impl<'a> Marking<'a> {
     }
 }
 
-/// What is behind so many bytes.
+/// What follows so many bytes.
 fn skip(bytes: &[u8], count: usize) -> &[u8]
     ensures { result.now ≡ drop count bytes.now }
 {
     &bytes[count.min(bytes.len())..]
 }
 
-/// Where a layout is behind a break.
+/// Where a layout is after a break.
 fn behind_line(within: Within) -> Within
     ensures { result ≡ behind_line within }
 {
@@ -267,7 +267,7 @@ fn behind_line(within: Within) -> Within
     }
 }
 
-/// Whether a `,` before the break is in no unit: that behind the last of several fields, or that of an arm.
+/// Whether a `,` before the break is in no unit: that after the last of several fields, or that of an arm.
 fn is_free(token: Break, arrow: bool) -> bool
     ensures { result ≡ is_free token arrow }
 {

@@ -29,7 +29,7 @@ impl Model for Span {
 }
 
 impl Span {
-    /// The unit, kept. `Err` where it begins behind 2^32 bytes or has as many: there is no room for it.
+    /// The unit, kept. `Err` where it begins after 2^32 bytes or has as many: there is no room for it.
     #[inline(always)]
     pub(crate) fn new(unit: Unit) -> Result<Span, NoMemory>
         ensures { IfOk result (λ span. span ≡ unit) }

@@ -84,7 +84,7 @@ fn add_line(line: &mut Vec<u8>, source: Unit, output: Unit) -> Result<(), NoMemo
     add_unit(line, output, b'\n')
 }
 
-/// Adds where a unit stands, as its start, `+` and its length, and a byte behind it.
+/// Adds where a unit stands, as its start, `+` and its length, and a byte after it.
 fn add_unit(line: &mut Vec<u8>, unit: Unit, behind: u8) -> Result<(), NoMemory>
     ensures { OnOk result (line.new.items ≡ line.old.items ++ (unit_text unit ++ behind ∷ [])) }
 {
@@ -92,7 +92,7 @@ fn add_unit(line: &mut Vec<u8>, unit: Unit, behind: u8) -> Result<(), NoMemory>
     add_number(line, unit.len, behind)
 }
 
-/// Adds a number in decimal digits, and a byte behind it.
+/// Adds a number in decimal digits, and a byte after it.
 fn add_number(line: &mut Vec<u8>, number: usize, behind: u8) -> Result<(), NoMemory>
     ensures { OnOk result (line.new.items ≡ line.old.items ++ (decimal number ++ behind ∷ [])) }
 {

@@ -1,4 +1,4 @@
--- Arms of a match tell their units, given that what is within them does: a `,` between two of them is behind the arrow of the first.
+-- Arms of a match tell their units, given that what is within them does: a `,` between two of them is after the arrow of the first.
 use Rattle.std.proofs.Common.{◌≡◌, Bool, true, false, not, ◌&&◌, List, [], ◌∷◌, ◌++◌, codes, refl, sym, subst, map, Option, Some, None}
 use Rattle.std.proofs.lemmas.Bool.{and_parts, and_from}
 use Rattle.lay_form.specs.Form.{Bit, Blank, Operator, ArmComma, Form, Done, Piece, Body, keyword}
@@ -58,7 +58,7 @@ arrow = Blank ∷ Operator (codes "=>") ∷ Blank ∷ []
 arrow_level : (x : List Bool) → Levels (bits_words arrow) x x
 arrow_level x = record { shut_is = refl; leaves = refl }
 
--- a head, and a body behind the arrow
+-- a head, and a body after the arrow
 arm_row : {head : Form} (x : ExprFacts) (last : Bool) → Plain head → Sound x.form
     → Row NoComma (I0 head (Piece arrow (N (Body (braces_of x.kind) (ArmComma last (is_free x)) x.form Done))))
 arm_row {head} x last t s = record {

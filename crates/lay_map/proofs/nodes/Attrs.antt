@@ -140,7 +140,7 @@ attrs_lined inner attrs h = each_of Lined attr_form (is_attr inner) (attr_lined 
 pub attrs_firm : (attrs : List Attr) → All Firm (map attr_form attrs)
 attrs_firm attrs = all_of Firm attr_form attr_firm attrs
 
--- ---- behind attributes
+-- ---- after attributes
 
 behind_lined : {Next : List units.Word → Type 0} {m : ℕ} {e f : Form} → Lined e → Closing Next m f → Closing Next m (Part e (H f))
 behind_lined {Next} {m} {e} {f} l t = record {
@@ -169,7 +169,7 @@ attrs_calm_then (e ∷ es) l t = calms_part (firm_calms l.0)
 
 -- ---- attributes within other parts
 
--- documentation on a line has a newline behind it, and else a blank
+-- documentation on a line has a newline after it, and else a blank
 doc_part : {Next : List units.Word → Type 0} {f : Form} (own : Bool) (text : List ℕ) → Tells Next f → Tells Next (attr_part own (attr.Doc false text) f)
 doc_part {Next} {f} own text t = by (is_block (doc_form false text)) refl own
   where

@@ -114,7 +114,7 @@ expr_stmt attrs x b k = record {
       };
 }
 
--- ---- what stands in a block, each with what may be dropped behind it
+-- ---- what stands in a block, each with what may be dropped after it
 
 drops : Tells NoSemicolon (piece dropped)
 drops = record {

@@ -44,7 +44,7 @@ word_bits w = keyword w ∷ []
 abbrev head_bits : List ℕ → List Bit
 head_bits w = keyword w ∷ Blank ∷ []
 
--- a block, behind what stands before it
+-- a block, after what stands before it
 last_block : (x : BlockFacts) → BlockTells x → x.good ≡ true → Plain (Part (x.form true) Done)
 last_block x k g = part (k.go true g) ends
 

@@ -133,7 +133,7 @@ struct_expr path fields base k l = record {
 
 -- ---- operators
 
--- an operand behind its operator, and a target before one
+-- an operand after its operator, and a target before one
 abbrev pub OperandTells : Op × ExprFacts → Type 0
 OperandTells x = ExprTells x.1
 

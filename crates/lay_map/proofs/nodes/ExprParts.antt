@@ -110,13 +110,13 @@ try_tells = record { go = λ g. fixed (Operator (codes "?") ∷ []) refl ends }
 pub await_tells : StepTells (step_facts Step-F.Await)
 await_tells = record { go = λ g. fixed (Operator (codes ".") ∷ keyword (codes "await") ∷ []) refl ends }
 
--- ---- steps one behind the other
+-- ---- steps one after the other
 
 broken : {f : Form} (b : Bool) → Plain f → Plain (break_if b f)
 broken true t = brk (Soft false 0) t
 broken false t = t
 
--- The first is good, and so are those behind it.
+-- The first is good, and so are those after it.
 step_parts : (s : StepFacts) (more : List StepFacts) → are_steps (s ∷ more) ≡ true → (s.good ≡ true) × (are_steps more ≡ true)
 step_parts s [] g = (g, refl)
 step_parts s (t ∷ more) g =

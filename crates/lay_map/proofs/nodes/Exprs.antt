@@ -23,7 +23,7 @@ exprs_told ys = map about_expr (map (λ (y : KeptExpr). y.0) ys)
 abbrev fields_told : List KeptField → List Facts
 fields_told ys = map about_field_expr (map (λ (y : KeptField). y.0) ys)
 
--- operands with the operators before them, and targets with the operators behind them
+-- operands with the operators before them, and targets with the operators after them
 abbrev operands_told : List (Op × KeptExpr) → List (Op × ExprFacts)
 operands_told ys = map laws.behind_op (map (λ (y : Op × KeptExpr). (y.0, y.1.0)) ys)
 

@@ -48,7 +48,7 @@ use Rattle.lay_map.proofs.nodes.Use.{rename_tells}
 use Rattle.lay_map.proofs.nodes.Vis.{vis_firm_then, vis_tells}
 use Rattle.lay_map.proofs.nodes.Where.{AfterHead, BehindWheres, after_head_body, after_head_semicolon, head_angles, head_colon, wheres_body_tell, wheres_semicolon_tell}
 
--- ---- a head and what stands behind it
+-- ---- a head and what follows it
 
 pub record HeadTells (x : HeadFacts) : Type 0 where
   pub head : Tells AfterHead x.head

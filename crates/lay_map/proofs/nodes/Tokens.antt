@@ -1,4 +1,4 @@
--- Token lists and groups tell their units: each token is a word, and documentation on a line has a newline behind it.
+-- Token lists and groups tell their units: each token is a word, and documentation on a line has a newline after it.
 use Rattle.std.proofs.Common.{◌≡◌, ℕ, Bool, true, false, cond, not, ◌&&◌, ◌||◌, List, [], ◌∷◌, ◌++◌, codes, refl, sym, ap, ap₂, ◌∙◌, subst, drop}
 use Rattle.std.specs.Prelude.{⊤}
 use Rattle.std.specs.List.{list_all}
@@ -48,7 +48,7 @@ soft_rows (r ∷ rs) h =
     by true HardBreak g k = absurd (cc g)
     by false s g k = k
 
--- A newline stands behind documentation on a line alone.
+-- A newline stands after documentation on a line alone.
 soft_between : (s : Seen) (r : Neighbour) → is_line_doc s.last ≡ false → is_hard (between s r) ≡ false
 soft_between s r h = by (is_nothing s.last)
   where
@@ -68,9 +68,9 @@ hard_between : (s : Seen) (r : Neighbour) → is_line_doc s.last ≡ true → be
 hard_between s r h =
     ap₂ (λ (x y : Bool). cond x NoBreak (cond y HardBreak (first_row (drop 2 (rows s r))))) (no_nothing s.last h) h
 
--- ---- what waits behind tokens
+-- ---- what waits after tokens
 
--- what waits behind these tokens
+-- what waits after these tokens
 abbrev Waits : Seen → Wait → Type 0
 Waits s Still = ⊤
 Waits s Said = is_line_doc s.last ≡ false
@@ -90,7 +90,7 @@ record Goes (s : Seen) (a : Bool) (x : Flow) : Type 0 where
   is : x ≡ At wait a
   waits : Waits s wait
 
--- what waits behind what leads to a token
+-- what waits after what leads to a token
 record Led (a : Bool) (x : Flow) : Type 0 where
   wait : Wait
   is : x ≡ At wait a
@@ -120,7 +120,7 @@ abbrev is_single : ListedToken → Bool
 is_single (listed.Token kind text joint) = not (is_doc_kind kind)
 is_single (listed.Doc inner text) = true
 
--- what waits behind a single token
+-- what waits after a single token
 token_flow : (s : Seen) (t : ListedToken) (f : Form) (a : Bool) (w : Wait) → is_open w ≡ true → is_single t ≡ true → are_pieces (listed_form t f) ≡ true
     → (v : Wait) × Waits (seen_token s t) v × (flow (At w a) (listed_form t f) ≡ flow (At v a) f)
 token_flow s (listed.Token kind text joint) f a w o n p = by (bytes_eq text (codes ",")) refl
@@ -182,7 +182,7 @@ empty_flow Paren f a w o = ap (λ (x : Bool). flow (cond x (At Still a) Lost) f)
 empty_flow Bracket f a w o = ap (λ (x : Bool). flow (cond x (At Still a) Lost) f) o
 empty_flow Brace f a w o = ap (λ (x : Bool). flow (cond x (At Still a) Lost) f) o
 
--- what stands within a group behind its opener
+-- what stands within a group after its opener
 abbrev within : Delim → Form → Bool → Form
 within d inner line = opened_by d (I0 inner (closed_by line d (piece (closer d ∷ []))))
 

@@ -106,7 +106,7 @@ outlived_tells (l ∷ ls) = fixed colon refl (lifetimes_tell (l ∷ ls))
 pub lifetime_param_tells : (p : LifetimeParam) → is_lifetime_param p ≡ true → Tells NoColon (lifetime_param_form p)
 lifetime_param_tells p h = param_attrs_tell p.attrs h (part (lifetime_tells p.lifetime) (outlived_tells p.bounds))
 
--- parameters behind a `,` each
+-- parameters after a `,` each
 more_params : (es : List Form) → All (Tells NoColon) es → Tells NoColon (each comma_gap es)
 more_params [] t = ends
 more_params (e ∷ []) t = gap (part_to (λ ws n. n) t.0 ends)

@@ -17,7 +17,7 @@ vis_tells vis.Own h = fixed (restricted (codes "self")) refl ends
 vis_tells vis.Super h = fixed (restricted (codes "super")) refl ends
 vis_tells (vis.In path) h = fixed pub_in refl (part (simple_path_tells path) (fixed (closer Paren ∷ Blank ∷ []) refl ends))
 
--- what stands behind a visibility, or behind none
+-- what follows a visibility, or after none
 pub vis_firm_then : {f : Form} (v : Vis) → Firm f → Firm (Part (vis_form v) f)
 vis_firm_then vis.Inherited t = firm_behind t
 vis_firm_then vis.Public t = firm_part (firm_fixed pub_word refl)

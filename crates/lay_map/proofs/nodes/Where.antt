@@ -51,7 +51,7 @@ behind_comma ws n = (and_parts (passes ws Punct (codes ",")) (skips where_word w
 behind_where : (ws : List Word) → BehindWheres ws → Skipped where_word ws
 behind_where ws n = (and_parts (passes ws Punct (codes ",")) (skips where_word ws) n).1
 
--- predicates behind `where`, before what ends them
+-- predicates after `where`, before what ends them
 predicates_tell : (end : Form) (es : List Form) → Tells NoComma end → All Plain es → Tells BehindWheres (predicates end es)
 predicates_tell end [] e t = left_out where_word (λ w ws n. behind_where ws n) ends
 predicates_tell end (p ∷ ps) e t =

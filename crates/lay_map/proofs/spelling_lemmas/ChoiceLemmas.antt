@@ -405,7 +405,7 @@ brace_passed stack (w ∷ ws) (t ∷ ts) rest s h =
     ∙ and_right (word_opens w) (fits (w ∷ ws) (t ∷ ts)) (one_too_many (w ∷ ws) t ts (ap opens s.0) g.0 g.1))
     ∙ ap₂ (λ (x : Kind) (y : List Token). chosen 0 (behind_token false x stack) (w ∷ ws) y) s.0 s.2
 
--- At least as many stand before the braces as behind them.
+-- At least as many stand before the braces as after them.
 opens_more : (n : ℕ) (ts rest : List Token) → Opens n ts rest → openers true rest ≤ openers true ts
 opens_more zero ts rest s = let e = ap (openers true) s in omega (arith, e)
 opens_more (suc n) [] rest s = absurd s.1.1

@@ -1,4 +1,4 @@
--- Rows of opening braces: how many stand at the front of what spells a form, and how many its words say.
+-- Rows of opening braces: how many stand at the beginning of what spells a form, and how many its words say.
 use Rattle.std.proofs.Common.{◌≡◌, inl, inr, ℕ, zero, suc, ◌≤◌, Bool, true, false, cond, not, ◌&&◌, ◌||◌, ◌==◌, List, [], ◌∷◌, ◌++◌, map, codes, refl, sym, ap, ap₂, ◌∙◌, subst, arith, append_assoc}
 use Rattle.std.specs.Str.{bytes_eq}
 use Rattle.std.proofs.lemmas.Bool.{and_parts, or_parts}
@@ -23,7 +23,7 @@ not_true true h = absurd (cc)
 
 -- ---- rows of braces
 
--- No more opening braces stand at the front than words say.
+-- No more opening braces come next than words say.
 abbrev pub Runs : List Word → List Token → Type 0
 Runs ws ts = openers (is_loose ws) ts ≤ leading ws
 
@@ -95,7 +95,7 @@ op_row : (c : ℕ) (cs : List ℕ) (ws : List Word) (ts : List Token) → Reads 
 op_row c cs ws [] r = absurd r
 op_row c cs ws (t ∷ ts) r = word_row Punct (c ∷ []) ws t ts r.0 r.1 (λ o. absurd (cc o))
 
--- what is left behind a bit
+-- what is left after a bit
 pub bit_behind : (b : Bit) (ts rest : List Token) → AreSingle ts → IsBit b ts rest → AreSingle rest
 bit_behind b ts rest single s = behind ts rest single (bits_end (b ∷ []) ts rest (rest, s, refl))
 
@@ -165,7 +165,7 @@ doc_row false text ws ts rest single (inr s) =
 doc_row true text ws ts rest single (inr s) =
     no_row ws ts (bits_stop (attr_opening true ++ keyword (codes "doc") ∷ Operator (codes "=") ∷ []) ts s.0 single refl s.1)
 
--- ---- forms whose front is calm
+-- ---- forms whose beginning is calm
 
 two_rows : (a b ws : List Word) (ts : List Token) → Runs (a ++ (b ++ ws)) ts → Runs ((a ++ b) ++ ws) ts
 two_rows a b ws ts h = subst (λ (x : List Word). Runs x ts) (sym (append_assoc a b ws)) h
@@ -208,9 +208,9 @@ form_row (Optional laid bits f) depth ws b ts rest single c h s =
 form_row (Docs inner text f) depth ws b ts rest single c h s = doc_row inner text (words (Docs inner text f) ++ ws) ts s.0 single s.1
 form_row (Body braces back i f) depth ws b ts rest single c h s = absurd (cc c)
 
--- ---- forms whose front is firm
+-- ---- forms whose beginning is firm
 
--- At least as many opening braces stand at the front as words say, and no `;` is the next word or stands behind those braces.
+-- At least as many opening braces come next as words say, and no `;` is the next word or stands after those braces.
 abbrev pub Firm : List Word → List Token → Type 0
 Firm ws ts = (leading ws ≤ openers true ts) × (is_loose ws ≡ true) × (passes ws Punct (codes ";") ≡ true)
 

@@ -72,7 +72,7 @@ braced_arm : places an_arm (name (codes "A") 0 ∷ mark 61 1 ∷ mark 62 2 ∷ o
     ≡ (0 ∷ []) ∷ (1 ∷ []) ∷ (2 ∷ []) ∷ (5 ∷ []) ∷ (6 ∷ []) ∷ (7 ∷ []) ∷ []
 braced_arm = refl
 
--- A body that begins with what may be left out isn't clear, and neither is one directly behind an opening brace.
+-- A body that begins with what may be left out isn't clear, and neither is one directly after an opening brace.
 loose_body : clear (Body Unseen (ArmComma true false) (Optional false comma (piece (opener Brace ∷ closer Brace ∷ []))) Done) [] true ≡ false
 loose_body = refl
 

@@ -72,7 +72,7 @@ abbrev pub leading : List Word → ℕ
 leading [] = 0
 leading (w ∷ ws) = cond (word_opens w) (suc (leading ws)) 0
 
--- The word behind them isn't `;`: a `;` that stands between braces is no word.
+-- The word after them isn't `;`: a `;` that stands between braces is no word.
 abbrev pub is_loose : List Word → Bool
 is_loose [] = true
 is_loose (w ∷ ws) = cond (word_opens w) (is_loose ws) (not (is_semicolon_word w))
@@ -97,7 +97,7 @@ abbrev pub under : List Bool → List Bool
 under [] = []
 under (b ∷ bs) = bs
 
--- the open braces behind a token that is kept or isn't
+-- the open braces after a token that is kept or isn't
 abbrev pub behind_token : Bool → Kind → List Bool → List Bool
 behind_token is_kept kind stack = cond (opens kind) (is_kept ∷ stack) (cond (closes kind) (under stack) stack)
 
@@ -155,7 +155,7 @@ chosen zero stack (w ∷ ws) (t ∷ ts) =
 
 -- ---- where it is right
 
--- No opening brace stands at the front but those that are words; the flag says it of what stands behind.
+-- No opening brace comes next but those that are words; the flag says it of what follows.
 abbrev pub calm_bits : List Bit → Bool → Bool
 calm_bits [] calm_behind = calm_behind
 calm_bits (Blank ∷ bs) calm_behind = calm_bits bs calm_behind
@@ -224,7 +224,7 @@ skips (Fixed kind text ∷ bs) ws = not (opens kind || closes kind) && passes ws
 skips (Operator op ∷ bs) ws = passes_each ws op && skips bs ws
 skips (Semicolons ∷ bs) ws = passes ws Punct (codes ";") && skips bs ws
 
--- Where an opening brace is a word, what stands behind it is calm.
+-- Where an opening brace is a word, what follows it is calm.
 abbrev pub is_settled : Kind → Bool → Bool
 is_settled kind calm_behind = not (opens kind) || calm_behind
 
@@ -235,7 +235,7 @@ clear_bits (Fixed kind text ∷ bs) ws calm_behind = is_settled kind (calm_bits 
 clear_bits (Operator op ∷ bs) ws calm_behind = clear_bits bs ws calm_behind
 clear_bits (Semicolons ∷ bs) ws calm_behind = passes (bits_words bs ++ ws) Punct (codes ";") && clear_bits bs ws calm_behind
 
--- The next word isn't said by what may stand behind a body.
+-- The next word isn't said by what may follow a body.
 abbrev pub passes_behind : Behind → List Word → Bool
 passes_behind Nothing ws = true
 passes_behind (ArmComma last block_like) ws = passes ws Punct (codes ",")
