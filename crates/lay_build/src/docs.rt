@@ -12,7 +12,7 @@ use lay_text::{NoMemory, Text};
 use std::alloc::Global;
 use std::str;
 
-/// The item with documentation behind its attributes: a comment or, where no comment can say the text, the attribute
+/// The item with documentation after its attributes: a comment or, where no comment can say the text, the attribute
 /// `#[doc = "text"]`. BadText comes where the text is no UTF-8.
 pub fn with_doc(alloc: Global, item: BuiltItem, text: &[u8]) -> Result<BuiltItem, BuildError>
     ensures { MatchBool (is_utf8 text.now) (Makes form_of_item (node.with_doc item text.now) result)

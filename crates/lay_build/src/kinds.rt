@@ -1,10 +1,10 @@
-//! Names with the type behind their `:`.
+//! Names with the type after their `:`.
 ghost use Rattle.lay_build.specs.Kinds as kinds;
 
 use lay_build_types::{Built, Node};
 use lay_code::{Name, Ty};
 
-/// A name and the type behind its `:`, as in a struct or before the body of a function.
+/// A name and the type after its `:`, as in a struct or before the body of a function.
 #[derive(Drop)]
 pub struct NamedType {
     pub name: Name,

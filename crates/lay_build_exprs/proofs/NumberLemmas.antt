@@ -67,7 +67,7 @@ digits_run (d ∷ ds) h =
     let parts = and_parts (is_ascii_digit d) (list_all is_ascii_digit ds) h in
     and_from (in_digits d) (list_all in_digits ds) (rw (parts.0) refl) (digits_run ds parts.1)
 
--- Behind a 0 no letter names a base.
+-- After a 0 no letter names a base.
 no_letter : (c n : ℕ) → is_ascii_digit c ≡ true → 57 < n → c == n ≡ false
 no_letter c n h more = let low = digit_low c h in ne_eqb c n (λ e. absurd (omega (arith, low, more, e)))
 

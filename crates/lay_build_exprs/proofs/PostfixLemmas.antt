@@ -1,4 +1,4 @@
--- Steps behind a base.
+-- Steps after a base.
 use Rattle.std.proofs.Common.{◌≡◌, ◌∙◌, ◌≤◌, ◌+◌, max, Bool, true, false, ◌&&◌, ◌||◌, not, if◌then◌else◌, List, [], ◌∷◌, ◌++◌, map, None, refl, sym, ap, subst, arith}
 use Rattle.std.specs.Prelude.{nat_le}
 use Rattle.std.specs.List.{AllByRecursion}
@@ -135,7 +135,7 @@ all_more [] one all h = (h, tt)
 all_more (s ∷ ss) one all h = (all.0, all_more ss one all.1 h)
 
 module _ (x : ExprFacts) (one : StepFacts) (h : GoodStep one) where
-  -- the first step behind a base of level 14
+  -- the first step after a base of level 14
   first_within : Operand x → 14 ≤ x.level → (n f : Bool) → postfix_placed x (one ∷ []) n f ≡ true
   first_within stands level n f =
       let p = before_op 14 n (f && not (is_dotted one.kind)) false in
@@ -147,7 +147,7 @@ module _ (x : ExprFacts) (one : StepFacts) (h : GoodStep one) where
   pub first_stands : Operand x → 14 ≤ x.level → StandsFree (expr_facts (Expr-F.Postfix x (one ∷ [])))
   first_stands stands level = record { within = first_within stands level; closed = one_closed one; untyped = one_untyped one }
 
-  -- a further step behind some
+  -- a further step after some
   further_within : (ss : List StepFacts) → not (last_is is_field_facts ss && is_call one.kind) ≡ true → (n f : Bool)
       → postfix_placed x ss n f ≡ true → postfix_placed x (ss ++ one ∷ []) n f ≡ true
   further_within [] apart n f old = cc
@@ -188,7 +188,7 @@ last_field [] = refl
 last_field (s ∷ []) = field_step s
 last_field (s ∷ t ∷ more) = last_field (t ∷ more)
 
--- A call isn't behind a field.
+-- A call isn't after a field.
 abbrev pub Apart : Expr → Step → Type 0
 Apart x one = not (node.ends_in_field x && is_call (about_step one).kind) ≡ true
 
@@ -204,7 +204,7 @@ plain_step : (x : Expr) (one : Step) (y : ExprNode) → node.is_postfix_node y �
 plain_step x one (Expr-F.Postfix base steps) none = absurd (let no : ⊥ = cc in no)
 plain_step x one _ none = refl
 
--- An operand with a step behind it is made.
+-- An operand with a step after it is made.
 module _ (x : Expr) (one : Step) (operand : MadeOperand x) (is : node.is_operand x ≡ true) (h : GoodStep (about_step one)) (apart : Apart x one) where
   fresh : node.is_postfix x ≡ false → IsMade form_of_expr IsExpr (expr.Postfix x (one ∷ []))
   fresh none =
@@ -241,7 +241,7 @@ module _ (x : Expr) (one : Step) (operand : MadeOperand x) (is : node.is_operand
 
 -- ---- what it needs
 
--- behind the base, and behind the steps that it has
+-- after the base, and after the steps that it has
 pub fresh_need : (x : Expr) (one : Step) → node.is_postfix x ≡ false
     → least_depth (form_of_expr (node.stepped x one)) ≡ max (least_depth (form_of_expr x)) (least_depth (about_step one).form) + 1
 fresh_need x one none =
@@ -301,7 +301,7 @@ call_good xs all =
       counts = refl;
     })
 
--- What isn't a call may stand behind a field.
+-- What isn't a call may stand after a field.
 pub field_apart : (x : Expr) (n : Name) → Apart x (step.Field n)
 field_apart x n =
     unless_false (node.ends_in_field x) (is_call (about_step (step.Field n)).kind) (ap (λ (s : StepFacts). is_call s.kind) (laws.step_field_is n))

@@ -73,7 +73,7 @@ is_postfix_node _ = false
 abbrev pub is_postfix : Expr → Bool
 is_postfix x = is_postfix_node (out-Expr x)
 
--- a step behind a base, and behind those that it has
+-- a step after a base, and after those that it has
 abbrev pub stepped_node : ExprNode → Expr → Step → Expr
 stepped_node (Expr-F.Postfix base steps) x one = expr.Postfix base (steps ++ one ∷ [])
 stepped_node _ x one = expr.Postfix x (one ∷ [])
@@ -98,7 +98,7 @@ abbrev pub field_ends : ExprNode → Bool
 field_ends (Expr-F.Postfix base steps) = field_last steps
 field_ends _ = false
 
--- It ends in the name of a field, behind which a call would be a method's.
+-- It ends in the name of a field, after which a call would be a method's.
 abbrev pub ends_in_field : Expr → Bool
 ends_in_field x = field_ends (out-Expr x)
 

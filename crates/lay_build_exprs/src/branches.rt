@@ -16,7 +16,7 @@ use lay_text::List;
 use std::alloc::Global;
 use std::mem;
 
-/// A branch: `if a { b }`, or with the block behind `else`, `if a { b } else { c }`.
+/// A branch: `if a { b }`, or with the block after `else`, `if a { b } else { c }`.
 pub fn expr_if(
     alloc: Global,
     test: BuiltExpr,
@@ -32,7 +32,7 @@ pub fn expr_if(
     kept_with(test, need)
 }
 
-/// Adds its blocks, of which the deeper needs this depth, behind what is tested.
+/// Adds its blocks, of which the deeper needs this depth, after what is tested.
 fn add_blocks(
     alloc: Global,
     test: &mut Expr,

@@ -1,10 +1,10 @@
-//! Names with the expression behind their `:`.
+//! Names with the expression after their `:`.
 ghost use Rattle.lay_build_exprs.specs.Kinds as kinds;
 
 use lay_build_types::{Built, Node};
 use lay_code::{Expr, Name};
 
-/// A name and the expression behind its `:`, as in a struct literal.
+/// A name and the expression after its `:`, as in a struct literal.
 #[derive(Drop)]
 pub struct NamedExpr {
     pub name: Name,

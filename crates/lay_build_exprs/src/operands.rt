@@ -24,7 +24,7 @@ pub(crate) fn operand(alloc: Global, expr: &mut Expr, need: u32) -> Result<u32, 
     unless(alloc, stands, expr, need)
 }
 
-/// What is called. Behind the name of a field a call would be a method's.
+/// What is called. After the name of a field a call would be a method's.
 pub(crate) fn callee(alloc: Global, expr: &mut Expr, need: u32) -> Result<u32, BuildError>
     requires need { need ≡ least_depth (form_of_expr expr.old) }
     requires within { need ≤ top }

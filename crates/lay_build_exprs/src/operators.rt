@@ -33,7 +33,7 @@ pub fn expr_binary(
     kept_with(left, need)
 }
 
-/// Adds an operator and the operand behind it to the one before it.
+/// Adds an operator and the operand after it to the one before it.
 fn add_operand(
     alloc: Global,
     left: &mut Expr,
@@ -58,7 +58,7 @@ fn add_operand(
     Ok(need)
 }
 
-/// Adds an operator and what stands behind it, in parentheses where it has to be.
+/// Adds an operator and what follows it, in parentheses where it has to be.
 fn chain(alloc: Global, left: &mut Expr, op: Op, right: Boxed<Expr>) -> Result<(), BuildError>
     ensures { Gives result (λ done. left.new ≡ variant.Chain left.old ((op, right) ∷ [])) }
 {

@@ -28,7 +28,7 @@ pub fn expr_field(alloc: Global, base: BuiltExpr, field: BuiltName) -> Result<Bu
     kept_with(base, need)
 }
 
-/// Adds a field behind a base.
+/// Adds a field after a base.
 fn add_field(alloc: Global, base: &mut Expr, need: u32, name: Name) -> Result<u32, BuildError>
     requires need { need ≡ least_depth (form_of_expr base.old) }
     requires within { need ≤ top }
@@ -53,7 +53,7 @@ pub fn expr_method(
     kept_with(base, need)
 }
 
-/// Adds a call of a method behind a base.
+/// Adds a call of a method after a base.
 fn add_method(
     alloc: Global,
     base: &mut Expr,
@@ -89,7 +89,7 @@ pub fn expr_call(
     kept_with(base, need)
 }
 
-/// Adds a call behind a base.
+/// Adds a call after a base.
 fn add_call(
     alloc: Global,
     base: &mut Expr,
@@ -106,7 +106,7 @@ fn add_call(
     stepped(alloc, base, need, Step::Apply { args }, more)
 }
 
-/// Adds a step behind a base, and behind the steps that the base has, and answers the depth that this needs.
+/// Adds a step after a base, and after the steps that the base has, and answers the depth that this needs.
 fn stepped(
     alloc: Global,
     base: &mut Expr,
@@ -136,7 +136,7 @@ fn has_steps(base: &Expr) -> bool
     matches!(base, Expr::Postfix { .. })
 }
 
-/// Adds a step behind a base, and behind the steps that the base has.
+/// Adds a step after a base, and after the steps that the base has.
 fn add_step(alloc: Global, base: &mut Expr, step: Step) -> Result<(), BuildError>
     ensures { Gives result (λ done. base.new ≡ node.stepped base.old step) }
 {
@@ -146,7 +146,7 @@ fn add_step(alloc: Global, base: &mut Expr, step: Step) -> Result<(), BuildError
     }
 }
 
-/// Adds a step behind a base that has none.
+/// Adds a step after a base that has none.
 fn add_first_step(alloc: Global, base: &mut Expr, step: Step) -> Result<(), BuildError>
     ensures { Gives result (λ done. base.new ≡ variant.Postfix base.old (step ∷ [])) }
 {

@@ -1,4 +1,4 @@
--- Which texts are identifiers, by the piece at their front.
+-- Which texts are identifiers, by the piece at their beginning.
 use Rattle.std.proofs.Common.{◌≡◌, ◌∙◌, ◌≤◌, ℕ, Bool, true, false, ◌&&◌, List, [], ◌∷◌, ◌++◌, length, IsUtf8, refl, sym, ap, arith, length-append}
 use Rattle.std.specs.Prelude.{encode_utf8_all, nat_eq}
 use Rattle.std.specs.Str.{chars, is_utf8}
@@ -22,7 +22,7 @@ pub clash : false ≡ true → ⊥
 clash h = cc
 
 module _ (text : List ℕ) (utf8 : IsUtf8 text) where
-  -- The piece at its front is all of it.
+  -- The piece at its beginning is all of it.
   by_piece : (piece more : List ℕ) → chars text ≡ piece ++ more → Had Ident piece more false → length (encode_utf8_all piece) ≡ length text
       → is_text_of Ident text ≡ true
   unfolding is_text_of
@@ -43,7 +43,7 @@ module _ (text : List ℕ) (utf8 : IsUtf8 text) where
   unfolding is_text_of
   had_whole h = before_nothing (chars text) (and_parts (is_utf8 text) (has_form Ident (chars text)) h).1
 
-  -- The identifier at its front is as long as it, exactly where it is an identifier.
+  -- The identifier at its beginning is as long as it, exactly where it is an identifier.
   pub is_by_length : (piece more : List ℕ) (size : ℕ) → chars text ≡ piece ++ more → Had Ident piece more false
       → size ≡ length (encode_utf8_all piece)
       → (Had Ident (chars text) [] false → size ≡ length (encode_utf8_all (chars text))) → nat_eq size (length text) ≡ is_text_of Ident text

@@ -19,7 +19,7 @@ use Rattle.lay_build_types.specs.Kinds.{IsName, form_of_name}
 use Rattle.lay_build_types.specs.Nodes as node
 use Rattle.lay_build_types.proofs.PieceLemmas.{ended}
 
--- An identifier that is no word of a path is a raw identifier behind `r#`.
+-- An identifier that is no word of a path is a raw identifier after `r#`.
 raw_piece : (text : List ℕ) → is_text_of Ident text ≡ true → is_path_word text ≡ false → is_text_of RawIdent text ≡ true
 unfolding is_text_of has_form
 raw_piece text h other =

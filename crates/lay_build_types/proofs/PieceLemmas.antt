@@ -15,7 +15,7 @@ Pieces f = are_pieces f ≡ true
 abbrev pub AllPieces : List Form → Type 0
 AllPieces es = AllByRecursion Pieces es
 
--- ---- what is behind a part
+-- ---- what follows a part
 
 pub ended : (b : Bool) → b ≡ true → b && true ≡ true
 ended b h = and_from b true h refl

@@ -62,7 +62,7 @@ unfolding string_value
 value_step s t c cs e =
     ap (λ (m : Next InString). elim m [ Go u ↦ adds s c ++ string_value u cs | End ↦ [] | Bad ↦ [] ]) e
 
--- What is behind the escape of a character is read as if it stood alone, and the value has the character before it.
+-- What follows the escape of a character is read as if it stood alone, and the value has the character before it.
 record Passes (c : ℕ) (rest : List ℕ) : Type 0 where
   runs : run (string_step of.Chars) Plain (escaped c ++ rest) ≡ run (string_step of.Chars) Plain rest
   value : string_value Plain (escaped c ++ rest) ≡ c ∷ string_value Plain rest
@@ -106,7 +106,7 @@ module _ (rest : List ℕ) where
     }
   ]
 
--- what stands behind the opening quote
+-- what follows the opening quote
 abbrev inside : List ℕ → List ℕ
 inside cs = flat_map escaped cs ++ codes "\""
 

@@ -50,7 +50,7 @@ IsExpr x = StandsFree (about_expr x)
 abbrev pub form_of_stmt : Stmt → Form
 form_of_stmt s = alone (about_stmt s).form
 
--- Others may stand behind it.
+-- Others may stand after it.
 pub record IsStmt (s : Stmt) : Type 0 where
   pub good : IsTrue (about_stmt s).good
   pub ends : IsTrue (about_stmt s).ends

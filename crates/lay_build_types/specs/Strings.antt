@@ -2,7 +2,7 @@
 use Rattle.std.specs.Prelude.{ℕ, cond, ◌==◌, List, [], ◌∷◌, ◌++◌, codes, flat_map}
 use Rattle.lay_piece.specs.Characters as char
 
--- A quote and a backslash stand behind a backslash, an LF is `\n`, a CR is `\r`, and all else is as it is.
+-- A quote and a backslash stand after a backslash, an LF is `\n`, a CR is `\r`, and all else is as it is.
 abbrev pub escaped : ℕ → List ℕ
 escaped c =
     cond (c == char.quote) (codes "\\\"") (cond (c == char.backslash) (codes "\\\\")
