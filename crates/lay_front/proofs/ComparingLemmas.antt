@@ -11,7 +11,7 @@ use Rattle.lay_front.specs.Comparing.{and_wrong}
 cons_nil : (x : ℕ) (xs : List ℕ) → x ∷ xs ≡ [] → ⊥
 cons_nil x xs e = omega (arith, ap (λ (bytes : List ℕ). length bytes) e)
 
--- A byte that isn't the next one, behind a front of a list, makes no front of it.
+-- A byte that isn't the next one, after a prefix of a list, makes no prefix of it.
 no_front : (all : List ℕ) (met byte count : ℕ) → (slice_get all met ≡ Some byte → ⊥) → take met all ++ byte ∷ [] ≡ take count all → ⊥
 no_front [] zero byte zero other e = cons_nil _ _ e
 no_front [] zero byte (suc count) other e = cons_nil _ _ e
@@ -23,7 +23,7 @@ no_front (x ∷ xs) zero byte (suc count) other e =
 no_front (x ∷ xs) (suc met) byte zero other e = cons_nil _ _ e
 no_front (x ∷ xs) (suc met) byte (suc count) other e = no_front xs met byte count other (ap (λ (bytes : List ℕ). drop 1 bytes) e)
 
--- A wrong byte behind those that were met isn't all that is expected.
+-- A wrong byte after those that were met isn't all that is expected.
 pub wrong_is_other : (all : List ℕ) (met byte : ℕ) (wrong : Option ℕ) → wrong ≡ Some byte → ForSome wrong (λ b. slice_get all met ≢ Some b)
     → and_wrong (take met all) wrong ≡ all → ⊥
 wrong_is_other all met byte None e differs same = let no : ⊥ = cc in absurd no
@@ -56,7 +56,7 @@ met_then_wrong all piece met same None none front short =
     ∙ ap (λ (b : List ℕ). b ++ byte) (sym (take-add met same all)))
 met_then_wrong all piece met same (Some b) none front short = let no : ⊥ = cc in absurd no
 
--- The first byte behind an equal front that differs isn't the next one.
+-- The first byte after an equal prefix that differs isn't the next one.
 pub not_next : (all piece : List ℕ) (met same byte : ℕ) → same < length piece → get_or piece same 0 ≡ byte
     → (same < length piece → same < length (drop met all) → get_or (drop met all) same 0 ≡ get_or piece same 0 → ⊥)
     → same ≤ length (drop met all) → slice_get all (met + same) ≡ Some byte → ⊥
@@ -68,14 +68,14 @@ not_next all piece met same byte short is ends within e =
     behind : (xs : List ℕ) (n m : ℕ) → n + m < length xs → m < length (drop n xs)
     behind xs n m h = grind (arith, length-drop)
 
--- of two joined lists whose fronts are as long
+-- of two joined lists whose prefixes are as long
 split_same : (a b c d : List ℕ) → length a ≡ length c → a ++ b ≡ c ++ d → (a ≡ c) × (b ≡ d)
 split_same a b c d l e = (
   sym (take-append_seam a b) ∙ ap (λ (bytes : List ℕ). take (length a) bytes) e ∙ ap (λ (n : ℕ). take n (c ++ d)) l ∙ take-append_seam c d,
   sym (drop-append_seam a b) ∙ ap (λ (bytes : List ℕ). drop (length a) bytes) e ∙ ap (λ (n : ℕ). drop n (c ++ d)) l ∙ drop-append_seam c d,
 )
 
--- What was written to a sink that tells the expected bytes before it: the bytes are as they were, and behind them stands
+-- What was written to a sink that tells the expected bytes before it: the bytes are as they were, and after them stands
 -- what was written.
 compared : (given bytes none all written text : List ℕ) → given ≡ bytes → none ≡ [] → length all ≡ length given
     → GrewBy (Some (given ++ none)) (Some (all ++ written)) text → (all ≡ bytes) × (written ≡ text)
@@ -95,7 +95,7 @@ met_all given bytes none all written text same is empty long grew h =
 other_bytes : (bytes text : List ℕ) → (bytes ≡ text → ⊥) → IsTrue false ↔ (bytes ≡ text)
 other_bytes bytes text differ = (λ t. let never : ⊥ = cc in absurd never, λ e. absurd (differ e))
 
--- A sink that met a wrong byte was written no front of the bytes that were expected.
+-- A sink that met a wrong byte was written no prefix of the bytes that were expected.
 pub met_wrong : (given bytes none all text : List ℕ) (met : ℕ) (wrong : Option ℕ) (before faults : ℕ) → given ≡ bytes → none ≡ []
     → length all ≡ length given → before ≡ 0 → ForNone wrong (faults ≡ 0) → ForSome wrong (λ byte. slice_get all met ≢ Some byte)
     → Rose before faults → GrewByPrefix (Some (given ++ none)) (Some (all ++ and_wrong (take met all) wrong)) text

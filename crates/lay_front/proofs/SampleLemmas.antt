@@ -40,16 +40,16 @@ module _ {K : Type 0} (written : K → Option (List ℕ)) (writes : K → ℕ) (
 
 -- ---- the line
 
--- pieces that are added behind a text are added one behind the other
+-- pieces that are added after a text are added one after the other
 behind : (x p d y : List ℕ) → (x ++ (p ++ d)) ++ y ≡ x ++ (p ++ (d ++ y))
 behind x p d y = append_assoc x (p ++ d) y ∙ ap (λ (z : List ℕ). x ++ z) (append_assoc p d y)
 
--- A text to which one more piece was added, with a number behind it, before what follows.
+-- A text to which one more piece was added, with a number after it, before what follows.
 added : (x now p y : List ℕ) (n m : ℕ) → now ≡ x ++ (p ++ decimal n) → n ≡ m → now ++ y ≡ x ++ (p ++ (decimal m ++ y))
 added x now p y n m e same =
     ap (λ (z : List ℕ). z ++ y) (e ∙ ap (λ (k : ℕ). x ++ (p ++ decimal k)) same) ∙ behind x p (decimal m) y
 
--- A line of five pieces, each with a number behind it, and an end.
+-- A line of five pieces, each with a number after it, and an end.
 pub five : (x a b c d f now p q r s t y : List ℕ) (i j k l m u v w g h : ℕ) → x ≡ []
     → a ≡ x ++ (p ++ decimal i) → i ≡ u → b ≡ a ++ (q ++ decimal j) → j ≡ v → c ≡ b ++ (r ++ decimal k) → k ≡ w
     → d ≡ c ++ (s ++ decimal l) → l ≡ g → f ≡ d ++ (t ++ decimal m) → m ≡ h → now ≡ f ++ y

@@ -14,7 +14,7 @@ use Rattle.lay_front.specs.Stops.{status_of}
 use Rattle.lay_front.specs.declared.command.Status.{Status}
 use Rattle.lay_front.specs.declared.command.Status.TheVariants.{Done, Differs, Usage, ReadFailed, Refused, WriteFailed, TooLong, NoMemory}
 
--- why an input is refused, behind the place
+-- why an input is refused, after the place
 abbrev pub reason : Refusal → List ℕ
 reason (NotUtf8 at) = codes ": not UTF-8\n"
 reason (NoToken at) = codes ": no token\n"

@@ -61,7 +61,7 @@ pub const LIMIT: usize = 16_777_216;
 /// `--sample SEED --items N` makes a sample, formats it, and writes one line that sums it up. Every other outcome is told in one
 /// line on `err`.
 ///
-/// The program is to end behind its run: what an input was read to isn't taken apart, and its memory not given back.
+/// The program is to end after its run: what an input was read to isn't taken apart, and its memory not given back.
 pub fn run<I: Inputs, K: Sink, E: Sink>(
     alloc: Global,
     words: &[Text],
@@ -223,7 +223,7 @@ fn format_input<I: Inputs, K: Sink>(
         Err(stop) => return Err(stop),
     };
     let written = write_file(alloc, &given.1, out);
-    // The program ends behind its run, so the tree isn't taken apart.
+    // The program ends after its run, so the tree isn't taken apart.
     forget(given);
     match written {
         Ok(()) => Ok(()),
@@ -246,7 +246,7 @@ fn check_input<I: Inputs>(alloc: Global, which: Which, inputs: &mut I) -> Result
         Err(stop) => return Err(stop),
     };
     let compared = is_text(alloc, &file, bytes);
-    // The program ends behind its run, so the tree isn't taken apart.
+    // The program ends after its run, so the tree isn't taken apart.
     forget(file);
     match compared {
         Ok(true) => Ok(()),
@@ -276,7 +276,7 @@ fn map_input<I: Inputs, K: Sink>(
         Err(stop) => return Err(stop),
     };
     let written = write_map(alloc, given.0.as_slice(), &given.1, out);
-    // The program ends behind its run, so the tree isn't taken apart.
+    // The program ends after its run, so the tree isn't taken apart.
     forget(given);
     match written {
         Ok(()) => Ok(()),

@@ -30,7 +30,7 @@ struct Comparer {
     expected: List<u8>,
     /// How many of the bytes have been met.
     met: usize,
-    /// The first wrong byte, which stands behind those that were met.
+    /// The first wrong byte, which stands after those that were met.
     wrong: Option<u8>,
     faults: u64,
     ghost within: { met ≤ length expected },
@@ -97,7 +97,7 @@ impl Sink for Comparer {
     }
 }
 
-/// How many bytes at the front of a piece are those that are expected.
+/// How many bytes at the beginning of a piece are those that are expected.
 fn same_front(piece: &[u8], expected: &[u8]) -> usize
     ensures in_piece { result ≤ length piece.now }
     ensures in_expected { result ≤ length expected.now }

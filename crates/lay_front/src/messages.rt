@@ -28,7 +28,7 @@ pub fn tell<E: Sink>(ended: Result<(), Stop>, err: &mut E)
     let _ = write_line(stop, err);
 }
 
-/// Says on `err` that a write failed: its line, or a front of it where `err` fails too.
+/// Says on `err` that a write failed: its line, or a prefix of it where `err` fails too.
 pub fn tell_failed_write<E: Sink>(err: &mut E)
     ensures part { GrewByPrefix (E.written err.old) (E.written err.new)
         (message [] Status.WriteFailed) }
@@ -72,7 +72,7 @@ fn write_refusal<E: Sink>(refusal: Refusal, place: Place2, err: &mut E) -> Resul
     write_number(place.column, reason(refusal), err)
 }
 
-/// Writes a number in decimal digits, and a piece behind it.
+/// Writes a number in decimal digits, and a piece after it.
 fn write_number<E: Sink>(number: usize, behind: &[u8], err: &mut E) -> Result<(), Failed>
     ensures bytes { Writes (E.written err.old) (E.written err.new) result
         (decimal number ++ behind.now) }
@@ -86,7 +86,7 @@ fn write_number<E: Sink>(number: usize, behind: &[u8], err: &mut E) -> Result<()
     err.write(behind)
 }
 
-/// Why an input is refused, behind the place.
+/// Why an input is refused, after the place.
 fn reason(refusal: Refusal) -> &'static [u8]
     ensures { result.now ≡ reason refusal }
 {

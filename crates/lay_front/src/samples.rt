@@ -64,7 +64,7 @@ fn summary_of(alloc: Global, items: u32, bytes: &[u8], file: &File) -> Result<Te
     Ok(line)
 }
 
-/// Adds a piece and a number in decimal digits behind it.
+/// Adds a piece and a number in decimal digits after it.
 fn add(line: &mut Text, piece: &[u8], number: u64) -> Result<(), NoMemory>
     ensures { IfOk result (λ _. line.new ≡ line.old ++ (piece.now ++ decimal number)) }
 {

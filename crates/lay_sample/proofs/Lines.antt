@@ -2,7 +2,7 @@
 use Rattle.std.proofs.Common.{◌≡◌, ℕ, List, ◌++◌, Result, OnOk, ap, ◌∙◌, append_assoc}
 use Rattle.std.proofs.lemmas.Result.{IfOk-equal}
 
--- a piece, a number and a piece behind a text are a line behind it
+-- a piece, a number and a piece after a text are a line after it
 pub one_number : {T E : Type 0} (r : Result T E) (old before number behind middle new : List ℕ)
     → middle ≡ old ++ before ++ number → OnOk r (new ≡ middle ++ behind)
     → OnOk r (new ≡ old ++ (before ++ number ++ behind))

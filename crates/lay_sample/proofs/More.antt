@@ -3,7 +3,7 @@ use Rattle.std.proofs.Common.{◌≡◌, ℕ, zero, suc, ◌+◌, List, ◌++◌
 use Rattle.std.specs.List.{range_with_len}
 use Rattle.lay_sample.specs.Sample.{item_at, line_of, sample_text, state_before, state_behind}
 
--- what is made of a range, and of the number behind it
+-- what is made of a range, and of the number after it
 range_more : (f : ℕ → List ℕ) (a n j : ℕ) → a + n ≡ j
     → flat_map f (range_with_len a (suc n)) ≡ flat_map f (range_with_len a n) ++ f j
 range_more f a zero j e = append-nil (f a) ∙ ap f (omega arith)
@@ -17,6 +17,6 @@ pub sample_more : (seed i : ℕ)
 sample_more seed i =
     rw add-one (range_more (λ k. line_of k (item_at (state_before seed k))) 0 i i (omega arith))
 
--- the state before the item behind is the one behind the item
+-- the state before the item after is the one after the item
 pub state_more : (seed i : ℕ) → state_before seed (i + 1) ≡ state_behind (state_before seed i)
 state_more seed i = ap (state_before seed) (add-one i)

@@ -5,11 +5,11 @@ use Rattle.std.specs.List.{range_with_len}
 use Rattle.lay_sample.specs.declared.items.Item.{Item}
 use Rattle.lay_sample.specs.declared.items.Item.TheVariants.{Struct, Use, Function, Constant}
 
--- the state behind a draw, by the linear congruential generator of Knuth's MMIX
+-- the state after a draw, by the linear congruential generator of Knuth's MMIX
 abbrev pub next_state : ℕ → ℕ
 next_state state = (state * 6364136223846793005 + 1442695040888963407) % 2 ^ 64
 
--- what a draw of n gives: the upper bits of the state behind it, modulo n
+-- what a draw of n gives: the upper bits of the state after it, modulo n
 abbrev pub draw : ℕ → ℕ → ℕ
 draw n state = next_state state / 2 ^ 33 % n
 
@@ -25,7 +25,7 @@ item_of kind state =
 abbrev pub item_at : ℕ → Item
 item_at state = item_of (draw 4 state) (next_state state)
 
--- the state behind the item that is drawn at a state: a struct takes one draw, every other item two
+-- the state after the item that is drawn at a state: a struct takes one draw, every other item two
 abbrev pub state_behind : ℕ → ℕ
 state_behind state = if draw 4 state == 0 then next_state state else next_state (next_state state)
 

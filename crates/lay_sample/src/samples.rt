@@ -50,7 +50,7 @@ fn push_line(text: &mut Text, i: u64, item: Item) -> Result<(), NoMemory>
     }
 }
 
-/// Adds bytes, and a number in decimal digits behind them.
+/// Adds bytes, and a number in decimal digits after them.
 fn push_number(text: &mut Text, before: &[u8], number: u64) -> Result<(), NoMemory>
     ensures { OnOk result (text.new ≡ text.old ++ before.now ++ decimal number) }
 {

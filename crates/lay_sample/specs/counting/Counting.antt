@@ -1,4 +1,4 @@
--- The counts of a text. A line ends at an LF, which is no part of it. Behind the last LF stands one more line, which is
+-- The counts of a text. A line ends at an LF, which is no part of it. After the last LF stands one more line, which is
 -- empty where the text ends there.
 use Rattle.std.specs.Prelude.{ℕ, Bool, ◌==◌, max, List, [], ◌∷◌, length, map, fold, count_by}
 use Rattle.std.specs.List.{slice_split}

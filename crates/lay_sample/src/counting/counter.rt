@@ -7,7 +7,7 @@ use crate::counting::tally::Tally;
 use lay_io::{Failed, Sink};
 use std::marker::Model;
 
-/// The counts of a text. A line ends at an LF, which is no part of it. Behind the last LF stands one more line, which is
+/// The counts of a text. A line ends at an LF, which is no part of it. After the last LF stands one more line, which is
 /// empty where the text ends there.
 #[derive(Clone, Copy, Debug, PartialEq, Eq)]
 pub struct Counts {

@@ -23,7 +23,7 @@ impl Seen {
         Seen {}
     }
 
-    /// A piece was written behind it.
+    /// A piece was written after it.
     pub(crate) fn and(&self, piece: &[u8]) -> Seen
         ensures { result.text ≡ self.now.text ++ piece.now }
     {

@@ -36,7 +36,7 @@ impl Tally {
         bytes as u64 <= u64::MAX - self.bytes
     }
 
-    /// Counts a piece behind the text.
+    /// Counts a piece after the text.
     pub(crate) fn add(&mut self, piece: &[u8])
         requires { self.old.bytes + length piece.now < 2 ^ 64 }
         ensures { (text : List ℕ) → IsTallyOf self.old text
@@ -47,7 +47,7 @@ impl Tally {
         }
     }
 
-    /// Counts a byte behind the text.
+    /// Counts a byte after the text.
     fn push(&mut self, byte: u8)
         requires { self.old.bytes + 1 < 2 ^ 64 }
         ensures one { self.new.bytes ≡ self.old.bytes + 1 }

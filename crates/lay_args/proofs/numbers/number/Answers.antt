@@ -16,7 +16,7 @@ of_digits = numerals_by_value _ (search rules)
 abbrev Parses : List ℕ → Result ℕ ℕ → Type 0
 Parses = ParsesUnsigned 64 10
 
--- what `parse` reads in a text without a plus in front
+-- what `parse` reads in a text without a leading plus
 parsed : (text : List ℕ) (r : Result ℕ ℕ) → slice_index text 0 ≢ 43 → Parses text r
     → OkIff r ((list_all is_ascii_digit text ≡ true) × (0 < length text) × (number text < 2 ^ 64)) (number text)
 parsed text r plain parses = parse_plain of_digits 64 text r parses plain

@@ -1,4 +1,4 @@
--- the bytes so far are counted behind each text
+-- the bytes so far are counted after each text
 use Rattle.std.proofs.Common.{◌≡◌, ◌+◌, ◌++◌, ℕ, List, take}
 use Rattle.lay_sample.specs.counting.Tallies.{IsTallyOf}
 use Rattle.lay_sample.proofs.counting.tally.Tally.add.Given as goal
