@@ -96,7 +96,7 @@ fn window_of(alloc: Global, bytes: &[u8]) -> Option<usize> {
     }
 }
 
-// A window ends behind the brace of a module, which is left out, and before that stands its head.
+// A window ends after the brace of a module, which is left out, and before that stands its head.
 #[test]
 fn windows(rt: HostRuntime) {
     let alloc = rt.alloc();

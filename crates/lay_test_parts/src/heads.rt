@@ -36,7 +36,7 @@ fn kind(alloc: Global, at: &mut Cursor<'_>, number: u8) -> Result<ItemKind, Read
     }
 }
 
-/// Lays it out, and behind it its fields or variants by themselves.
+/// Lays it out, and after it its fields or variants by themselves.
 fn put_kind(out: &mut Printer<QuietSink>, kind: &ItemKind) -> Result<(), PrintError> {
     match kind {
         ItemKind::ExternCrate { item } => put_extern_crate(out, &Vis::Inherited, item),

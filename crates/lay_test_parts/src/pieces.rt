@@ -1,4 +1,4 @@
-//! What stands behind a gap, and the text of a piece.
+//! What follows a gap, and the text of a piece.
 
 use crate::fixtures::is;
 use lay_lex::{after_gap, text_of_piece};

@@ -16,7 +16,7 @@ fn text(rt: &impl Abort, alloc: Global, bytes: &[u8]) -> Text {
     made(rt, Text::from_bytes(alloc, bytes))
 }
 
-/// An entry behind another, and taken from the front.
+/// An entry after another, and taken from the front.
 fn ring(rt: &impl Abort, alloc: Global) {
     let mut ring = made(rt, Ring::new(alloc, 1));
     let tok = Tok::Text(text(rt, alloc, b"a"));

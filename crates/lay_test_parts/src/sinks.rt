@@ -51,7 +51,7 @@ fn quiet_sinks(rt: &impl Abort, alloc: Global) {
     is(rt, sink.bytes(), b"abc");
 }
 
-/// A sink whose second write fails, behind two bytes.
+/// A sink whose second write fails, after two bytes.
 fn failing_sink(rt: &impl Abort, alloc: Global) {
     let fail = List::from_vec(made(rt, vec![in alloc; 1u64]));
     let mut sink = made(rt, MemorySink::new(alloc, 6, fail, 2));
