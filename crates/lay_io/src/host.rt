@@ -1,4 +1,5 @@
-//! The trusted edge: the system's streams and files. These objects tell nothing of content.
+//! The trusted edge: the system's streams and files. Contracts don't see what these objects read or
+//! wrote.
 ghost use Rattle.std.specs.Prelude.{◌≡◌, ◌≢◌, ◌<◌, length, [], None, Some, IfOk, OnOk, OnErr, IsSome};
 ghost use Rattle.std.specs.Io.{ReadsAtMost};
 ghost use Rattle.lay_io.specs.Calls.{Takes, left_of};
@@ -15,9 +16,9 @@ use std::io::Read;
 use std::rt::Files;
 use std::{fs, str};
 
-/// The system's inputs: standard input and the files that have a name. A named file is opened in its first read. A
-/// read fails where the name isn't UTF-8, or the file can't be opened or can't be read, and the next read tries again.
-/// What the bytes are isn't promised, nor that two reads are of one state of the file.
+/// The system's inputs: standard input, and files by name. A file is opened by its first read. A
+/// read fails if the name isn't UTF-8, or if the file can't be opened or read; the next read tries
+/// again. Nothing is promised about the bytes, nor that two reads see one state of the file.
 #[derive(Drop)]
 pub struct HostInputs<'a, R: Input + Files> {
     runtime: &'a R,
@@ -28,7 +29,7 @@ pub struct HostInputs<'a, R: Input + Files> {
 }
 
 impl<'a, R: Input + Files> HostInputs<'a, R> {
-    /// Inputs of which none is chosen, and no file is open.
+    /// Inputs with none chosen and no file open.
     pub fn new(runtime: &'a R) -> HostInputs<'a, R>
         ensures chosen { ⟦<HostInputs<'a, R> as Inputs>⟧.chosen result ≡ None }
         ensures faults { ⟦<HostInputs<'a, R> as Inputs>⟧.faults result ≡ 0 }
@@ -42,7 +43,7 @@ impl<'a, R: Input + Files> HostInputs<'a, R> {
         }
     }
 
-    /// Reads the chosen input once.
+    /// Reads once from the chosen input.
     fn read_once(&mut self, buf: &mut [u8]) -> Result<usize, Failed>
         ensures bound { ReadsAtMost result buf.new }
         ensures chosen { self.new.chosen ≡ self.old.chosen }
@@ -55,7 +56,7 @@ impl<'a, R: Input + Files> HostInputs<'a, R> {
     }
 }
 
-/// Reads once from the file, which is opened if it isn't open.
+/// Reads once from the file, and opens it first if it isn't open.
 fn read_file<R: Files>(
     runtime: &R,
     file: &mut Option<R::File>,
@@ -73,7 +74,7 @@ fn read_file<R: Files>(
     }
 }
 
-/// Opens the file of this name.
+/// Opens the file with this name.
 fn open<R: Files>(runtime: &R, name: &Text) -> Result<R::File, Failed> {
     let path = str::from_utf8(name.as_bytes()).map_err(|_| Failed)?;
     fs::open(runtime, path).map_err(|_| Failed)
@@ -120,21 +121,22 @@ impl<'a, R: Input + Files> Inputs for HostInputs<'a, R> {
     }
 }
 
-/// How many bytes standard output gathers before they are handed to the system.
+/// How many bytes standard output buffers before they are handed to the system.
 const GATHERED: usize = 65536;
 
-/// Which of the system's streams takes the bytes.
+/// The stream that takes the bytes.
 #[derive(Drop)]
 enum Stream {
-    /// Standard output, with the bytes that wait for it.
+    /// Standard output, with the bytes that wait in its buffer.
     Stdout(Room),
     /// Standard error.
     Stderr,
 }
 
-/// Standard output or standard error. Each failure is counted once. A failure may be of bytes that an earlier write
-/// took, and nothing that was handed to the system is handed to it again. How much of a piece has reached the system
-/// isn't promised, not even where the sink is dropped: [`HostSink::flush`] says whether it took what was gathered.
+/// Standard output or standard error. Each failure is counted once. A failure may concern bytes of
+/// an earlier write, and no byte is handed to the system twice. How much of a piece has reached the
+/// system isn't promised, not even when the sink is dropped: [`HostSink::flush`] says whether the
+/// system took what was buffered.
 #[derive(Drop)]
 pub struct HostSink<'a, R: Print + Eprint> {
     runtime: &'a R,
@@ -145,9 +147,9 @@ pub struct HostSink<'a, R: Print + Eprint> {
 impl<'a, R: Print + Eprint> HostSink<'a, R> {
     ghost use Rattle.lay_io.specs.Gathered.{IsHandedOver};
 
-    /// Standard output. It gathers up to 64 KiB in room that is taken here, so that small pieces cost no call of the
-    /// system each. A piece that fits waits. Where one doesn't fit, what waits is written first, and then the piece
-    /// waits, or is written itself if it has 64 KiB or more.
+    /// Standard output with a buffer of 64 KiB, which is allocated here, so that small pieces don't
+    /// cost a system call each. A piece that fits is buffered. If one doesn't fit, the buffer is
+    /// written first; then the piece is buffered, or written at once if it has 64 KiB or more.
     pub fn stdout(alloc: Global, runtime: &'a R) -> Result<HostSink<'a, R>, NoMemory>
         ensures faults { IfOk result (λ sink. ⟦<HostSink<'a, R> as Sink>⟧.faults sink ≡ 0) }
         ensures waits { IfOk result (λ sink. IsHandedOver sink) }
@@ -159,7 +161,7 @@ impl<'a, R: Print + Eprint> HostSink<'a, R> {
         })
     }
 
-    /// Standard error. It gathers nothing and takes no memory. It takes text: a piece that isn't UTF-8 fails.
+    /// Standard error. It has no buffer and allocates nothing. A piece that isn't UTF-8 fails.
     pub fn stderr(runtime: &'a R) -> HostSink<'a, R>
         ensures { ⟦<HostSink<'a, R> as Sink>⟧.faults result ≡ 0 }
     {
@@ -170,7 +172,8 @@ impl<'a, R: Print + Eprint> HostSink<'a, R> {
         }
     }
 
-    /// Writes what waits. After it nothing waits, whatever the answer. A failure is counted.
+    /// Writes the buffer. Afterwards the buffer is empty, whatever the result. A failure is
+    /// counted.
     pub fn flush(&mut self) -> Result<(), Failed>
         ensures once { CountsOnce (⟦<HostSink<'a, R> as Sink>⟧.faults self.old)
             (⟦<HostSink<'a, R> as Sink>⟧.faults self.new) result }
@@ -183,7 +186,7 @@ impl<'a, R: Print + Eprint> HostSink<'a, R> {
         self.count(answer)
     }
 
-    /// Counts a failure.
+    /// Counts the failure, if it is one, and gives the result back.
     fn count(&mut self, answer: Result<(), Failed>) -> Result<(), Failed>
         ensures same { result ≡ answer }
         ensures stream { self.new.stream ≡ self.old.stream }
@@ -197,7 +200,7 @@ impl<'a, R: Print + Eprint> HostSink<'a, R> {
     }
 }
 
-/// Writes what waits to standard output. After it nothing waits, whatever the answer.
+/// Writes the buffer to standard output. Afterwards the buffer is empty, whatever the result.
 fn write_waiting<R: Print>(runtime: &R, waiting: &mut Room) -> Result<(), Failed>
     ensures { (kept_in waiting.new).bytes ≡ Some [] }
 {
@@ -206,7 +209,8 @@ fn write_waiting<R: Print>(runtime: &R, waiting: &mut Room) -> Result<(), Failed
     answer.map_err(|_| Failed)
 }
 
-/// Keeps the piece after what waits, or writes what waits first. After a failure nothing waits.
+/// Appends the piece to the buffer, or writes the buffer first if it doesn't fit. After a failure
+/// the buffer is empty.
 #[inline]
 fn gather<R: Print>(runtime: &R, waiting: &mut Room, piece: &[u8]) -> Result<(), Failed>
     ensures kept { OnOk result (Waits (kept_in waiting.old) piece.now (kept_in waiting.new).bytes) }
@@ -219,8 +223,8 @@ fn gather<R: Print>(runtime: &R, waiting: &mut Room, piece: &[u8]) -> Result<(),
     write_through(runtime, waiting, piece)
 }
 
-/// A piece for which there isn't room: what waits is written, and then the piece waits, or is written too where it would fill the
-/// room. After a failure nothing waits.
+/// Takes a piece that doesn't fit: writes the buffer, and then buffers the piece, or writes it too
+/// if it would fill the buffer. After a failure the buffer is empty.
 #[cold]
 #[inline(never)]
 fn write_through<R: Print>(runtime: &R, waiting: &mut Room, piece: &[u8]) -> Result<(), Failed>

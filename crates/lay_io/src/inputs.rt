@@ -10,7 +10,7 @@ use crate::outside::{Failed, Inputs, Which};
 use crate::stored::{NamedFile, content, content_or_empty, take_next};
 use lay_text::List;
 
-/// Inputs that never fail. A file that isn't in the list is empty.
+/// Inputs in memory that never fail. A file that isn't in the list is empty.
 #[derive(Debug, Drop)]
 pub struct QuietInputs {
     stdin: List<u8>,
@@ -21,7 +21,7 @@ pub struct QuietInputs {
 }
 
 impl QuietInputs {
-    /// Inputs of which none is chosen, with these bytes to come.
+    /// Inputs with none chosen, and these bytes to be read.
     pub fn new(stdin: List<u8>, files: List<NamedFile>) -> QuietInputs
         ensures chosen { ⟦<QuietInputs as Inputs>⟧.chosen result ≡ None }
         ensures left { (which : Which) → ⟦<QuietInputs as Inputs>⟧.left result which
@@ -50,7 +50,7 @@ impl Inputs for QuietInputs {
     fn read(&mut self, buf: &mut [u8]) -> Result<usize, Failed>
         requires { IsSome (⟦<QuietInputs as Inputs>⟧.chosen self.old) }
 
-        // As for all inputs.
+        // As the trait promises for all inputs.
         ensures bound { ReadsAtMost result buf.new }
         ensures chosen { ⟦<QuietInputs as Inputs>⟧.chosen self.new
             ≡ ⟦<QuietInputs as Inputs>⟧.chosen self.old }
@@ -74,8 +74,8 @@ impl Inputs for QuietInputs {
     }
 }
 
-/// Inputs of which the reads with these numbers fail, counted from 0. A file that isn't in the list of files
-/// fails at each read. Each failure is counted once.
+/// Inputs in memory of which the reads with the numbers in `fail`, counted from 0, fail. A file
+/// that isn't in the list fails at each read. Each failure is counted once.
 #[derive(Debug, Drop)]
 pub struct MemoryInputs {
     stdin: List<u8>,
@@ -91,7 +91,7 @@ pub struct MemoryInputs {
 impl MemoryInputs {
     ghost use Rattle.lay_io.specs.Devices.{failing_reads, reads_of};
 
-    /// Inputs of which none is chosen, with these bytes to come.
+    /// Inputs with none chosen, and these bytes to be read.
     pub fn new(stdin: List<u8>, files: List<NamedFile>, fail: List<u64>) -> MemoryInputs
         ensures chosen { ⟦<MemoryInputs as Inputs>⟧.chosen result ≡ None }
         ensures left { (which : Which) → ⟦<MemoryInputs as Inputs>⟧.left result which
@@ -137,7 +137,7 @@ impl Inputs for MemoryInputs {
     fn read(&mut self, buf: &mut [u8]) -> Result<usize, Failed>
         requires { IsSome (⟦<MemoryInputs as Inputs>⟧.chosen self.old) }
 
-        // As for all inputs.
+        // As the trait promises for all inputs.
         ensures bound { ReadsAtMost result buf.new }
         ensures chosen { ⟦<MemoryInputs as Inputs>⟧.chosen self.new
             ≡ ⟦<MemoryInputs as Inputs>⟧.chosen self.old }
@@ -150,12 +150,14 @@ impl Inputs for MemoryInputs {
         ensures cause { HasCause (⟦<MemoryInputs as Inputs>⟧.faults self.old)
             (⟦<MemoryInputs as Inputs>⟧.faults self.new) result }
 
-        // A read fails exactly where its number is among those that fail, or the chosen input isn't there.
+        // A read fails exactly if its number is in the list of failing reads, or the chosen file
+        // isn't there.
         ensures failed { IsErr result ↔ (Contains (failing_reads self.old) (reads_of self.old)
             ⊎ IsNone (left_of (⟦<MemoryInputs as Inputs>⟧.chosen self.old)
             (⟦<MemoryInputs as Inputs>⟧.left self.old))) }
 
-        // Each failure is counted once, and each read; which reads fail stays as it was.
+        // Each failure is counted once, and each read is counted. The list of failing reads stays
+        // as it was.
         ensures once { CountsOnce (⟦<MemoryInputs as Inputs>⟧.faults self.old)
             (⟦<MemoryInputs as Inputs>⟧.faults self.new) result }
         ensures numbered { reads_of self.new ≡ one_more (reads_of self.old) }

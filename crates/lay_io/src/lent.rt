@@ -1,10 +1,10 @@
-//! A sink that is lent.
+//! A sink behind a mutable reference.
 ghost use Rattle.std.specs.Prelude.{◌≡◌};
 
 use crate::outside::{Failed, Sink};
 
-/// A sink each of whose writes is one write of the sink that was lent, with its answer. So a sink that was
-/// handed in by reference serves where one is asked for.
+/// A sink that passes each write on to the sink that was lent, and gives its result. So a `&mut`
+/// sink can be used where a sink is asked for.
 #[derive(Drop)]
 pub struct Lent<'a, K: Sink> {
     sink: &'a mut K,
@@ -13,7 +13,7 @@ pub struct Lent<'a, K: Sink> {
 impl<'a, K: Sink> Lent<'a, K> {
     ghost use Rattle.lay_io.specs.Lending.{lent_sink, loan_of};
 
-    /// Stands for the sink, as long as it is lent. It takes no memory.
+    /// Wraps the sink for as long as it is lent. It allocates nothing.
     pub fn new(sink: &'a mut K) -> Lent<'a, K>
         ensures now { lent_sink result ≡ sink.entry.now }
         ensures same_reference { loan_of result ≡ sink.entry.ghost_name }

@@ -1,4 +1,4 @@
-//! What the outside is to a caller.
+//! The traits of inputs and outputs.
 ghost use Rattle.std.specs.Prelude.{◌≡◌, ◌≢◌, ℕ, List, Option, None, Some, IsSome, Result};
 ghost use Rattle.std.specs.Io.{ReadsAtMost};
 ghost use Rattle.lay_io.specs.Faults.{HasCause, SameLoan};
@@ -23,24 +23,25 @@ pub struct Failed;
 
 /// Inputs, of which one is chosen and then read, piece by piece, to its end.
 pub trait Inputs {
-    /// The bytes still to come of an input, where the object tells them.
+    /// The bytes of an input that are still to be read, if the object shows them.
     ghost left: { Self → Which → Option (List ℕ) };
 
     /// The input that is read. A new object has chosen none.
     ghost chosen: { Self → Option Which };
 
-    /// How often a read has failed. The count has 64 bits and stays at its last value.
+    /// How many reads have failed. The count has 64 bits and stays at its last value.
     ghost faults: { Self → ℕ };
 
-    /// Chooses the input that is read from now on. It can be called once. It takes no memory.
+    /// Chooses the input that is read from now on. It may be called once. It allocates nothing.
     fn choose(&mut self, which: Which)
         requires { chosen self.old ≡ None }
         ensures chosen { chosen self.new ≡ Some which }
         ensures left { (w : Which) → left self.new w ≡ left self.old w }
         ensures faults { faults self.new ≡ faults self.old };
 
-    /// Moves the next bytes of the chosen input into the beginning of the buffer, and says how many: 0 only at the
-    /// end or where the buffer is empty. `Failed` takes none, and is counted.
+    /// Moves the next bytes of the chosen input to the beginning of the buffer, and gives their
+    /// number: 0 only at the end of the input, or if the buffer is empty. `Failed` moves no byte,
+    /// and is counted.
     fn read(&mut self, buf: &mut [u8]) -> Result<usize, Failed>
         requires { IsSome (chosen self.old) }
         ensures bound { ReadsAtMost result buf.new }
@@ -52,20 +53,20 @@ pub trait Inputs {
         ensures cause { HasCause (faults self.old) (faults self.new) result };
 }
 
-/// What takes bytes, piece by piece.
+/// An output: it takes bytes, piece by piece.
 pub trait Sink {
-    /// What was written, where the object tells it.
+    /// What was written, if the object shows it.
     ghost written: { Self → Option (List ℕ) };
 
-    /// How often a write has failed. The count has 64 bits and stays at its last value.
+    /// How many writes have failed. The count has 64 bits and stays at its last value.
     ghost faults: { Self → ℕ };
 
-    /// Which loan the object holds, if it is lent: the name of the reference. A write leaves it as it is, so
-    /// that the owner knows which sink comes back.
+    /// Which loan the object holds, if it is lent: the name of the reference. A write doesn't
+    /// change it, so the owner knows which sink comes back.
     ghost loan: { Self → ℕ } = { λ _. 0 };
 
-    /// What an object says of a write of its own, beside what all sinks say: of the object before, the piece, the
-    /// answer and the object after. If it says nothing, this holds of every write.
+    /// What an object promises of a write beside what all sinks promise: a relation of the object
+    /// before, the piece, the result and the object after. By default it holds of every write.
     ghost wrote: { Self → List ℕ → Result (Unit {0}) Failed → Self → Type 0 } = { λ _ _ _ _. Unit {0} };
 
     /// Appends the piece. `Failed` appends a prefix of it, and is counted.

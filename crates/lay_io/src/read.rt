@@ -16,12 +16,12 @@ pub enum ReadError {
     ReadFailed,
     /// The input holds more bytes than the limit.
     TooLong,
-    /// Memory was not found.
+    /// Memory could not be allocated.
     NoMemory,
 }
 
-/// Reads the chosen input to its end, if it holds at most `limit` bytes. Each turn but the last takes at
-/// least one byte, so there are at most `limit + 1`.
+/// Reads the chosen input to its end, if it holds at most `limit` bytes. Each read but the last
+/// gives at least one byte, so there are at most `limit + 1` reads.
 pub fn read_all<I: Inputs>(
     alloc: Global,
     inputs: &mut I,
@@ -30,7 +30,8 @@ pub fn read_all<I: Inputs>(
     requires chosen { IsSome (I.chosen inputs.old) }
     requires small { limit < 2 ^ 32 }
 
-    // What each answer leaves: of the chosen input an end of what was left, and of each other what was left.
+    // Of the chosen input what is left is a suffix of what was left; of each other input it is
+    // unchanged.
     ensures same { I.chosen inputs.new ≡ I.chosen inputs.old }
     ensures rest { IsEnd (left_of (I.chosen inputs.old) (I.left inputs.old))
         (left_of (I.chosen inputs.old) (I.left inputs.new)) }
@@ -38,7 +39,7 @@ pub fn read_all<I: Inputs>(
         → I.left inputs.new w ≡ I.left inputs.old w }
     ensures later { I.faults inputs.old ≤ I.faults inputs.new }
 
-    // Ok is all that was left, read to its end.
+    // `Ok` holds all that was left: the input was read to its end.
     ensures ok { IfOk result (λ bytes. TellsAs
         (left_of (I.chosen inputs.old) (I.left inputs.old)) bytes) }
     ensures at_end { OnOk result (TellsAs (left_of (I.chosen inputs.old) (I.left inputs.new)) []) }

@@ -1,4 +1,4 @@
-//! Bytes that are kept in room which was taken first.
+//! A byte buffer of fixed capacity.
 ghost use Rattle.std.specs.Prelude.{◌≡◌, ◌+◌, ◌<◌, ◌≤◌, ◌++◌, length, take, IfOk, IfSome};
 ghost use Rattle.std.specs.Box.{boxed_slice_len};
 
@@ -6,7 +6,7 @@ use lay_text::NoMemory;
 use std::alloc::Global;
 use std::boxed::BoxedSlice;
 
-/// Room of a fixed length, how much of it is used, and whether every piece has fitted.
+/// A buffer of fixed capacity, how much of it is used, and whether every piece has fitted so far.
 #[derive(Debug, Drop)]
 pub struct Room {
     pub bytes: BoxedSlice<u8>,
@@ -19,7 +19,7 @@ impl Room {
     ghost use Rattle.lay_io.specs.Told.{GrewBy};
     ghost use Rattle.lay_io.specs.Kept.{empty, kept_behind, kept_in, untold};
 
-    /// No room.
+    /// A buffer with no capacity.
     pub fn new(alloc: Global) -> Room
         ensures { kept_in result ≡ empty 0 }
     {
@@ -30,7 +30,7 @@ impl Room {
         }
     }
 
-    /// Room for so many bytes.
+    /// A buffer with a capacity of `n` bytes.
     pub fn with_room(alloc: Global, n: usize) -> Result<Room, NoMemory>
         ensures { IfOk result (λ room. kept_in room ≡ empty n) }
     {
@@ -51,14 +51,14 @@ impl Room {
         self.bytes.len() - self.used
     }
 
-    /// What is kept: what was put, where every piece has fitted.
+    /// The bytes in the buffer: all that was put, if every piece has fitted.
     pub fn kept(&self) -> &[u8]
         ensures { IfSome (kept_in self.now).bytes (λ bytes. result.now ≡ bytes) }
     {
         &self.bytes.as_slice()[..self.used]
     }
 
-    /// Keeps nothing any more, in the same room.
+    /// Empties the buffer, and keeps its capacity.
     pub fn clear(&mut self)
         ensures { kept_in self.new ≡ empty (boxed_slice_len self.old.bytes) }
     {
@@ -66,7 +66,8 @@ impl Room {
         self.fits = true;
     }
 
-    /// Keeps the piece. Where it doesn't fit, nothing is told any more. It takes no memory.
+    /// Appends the piece, if it fits. If it doesn't, contracts say nothing of the content any more.
+    /// It allocates nothing.
     pub fn put(&mut self, piece: &[u8])
         ensures fits { length piece.now ≤ (kept_in self.old).spare
             → kept_in self.new ≡ kept_behind (kept_in self.old) piece.now }
@@ -83,7 +84,7 @@ impl Room {
     }
 }
 
-/// Puts a piece after the bytes that are used.
+/// Copies a piece into the buffer after the bytes that are used.
 fn put_at(bytes: &mut [u8], used: usize, piece: &[u8])
     requires { used + length piece.now ≤ length bytes.old }
     ensures { take (used + length piece.now) bytes.new ≡ take used bytes.old ++ piece.now }

@@ -1,4 +1,4 @@
-//! Sinks in memory. What they keep stands in room that was taken first.
+//! Sinks in memory, with buffers of fixed capacity.
 ghost use Rattle.std.specs.Prelude.{◌≡◌, IfOk, IfSome};
 ghost use Rattle.lay_io.specs.Kept.{empty};
 
@@ -8,8 +8,8 @@ use lay_text::{List, NoMemory};
 use std::alloc::Global;
 use std::marker::Model;
 
-/// A sink that never fails, and keeps bytes in room that was taken first. Contracts see what was written,
-/// unless a piece didn't fit, and how many more bytes fit.
+/// A sink that never fails and keeps what is written in a buffer of fixed capacity. Contracts see
+/// what was written, unless a piece didn't fit, and how many more bytes fit.
 #[derive(Debug, Drop)]
 pub struct QuietSink {
     room: Room,
@@ -24,7 +24,7 @@ impl Model for QuietSink {
 }
 
 impl QuietSink {
-    /// A sink without room. It takes no memory.
+    /// A sink with no capacity. It allocates nothing.
     pub fn new(alloc: Global) -> QuietSink
         ensures { result ≡ empty 0 }
     {
@@ -33,7 +33,7 @@ impl QuietSink {
         }
     }
 
-    /// A sink with room for `n` bytes.
+    /// A sink with a capacity of `n` bytes.
     pub fn with_room(alloc: Global, n: usize) -> Result<QuietSink, NoMemory>
         ensures { IfOk result (λ sink. sink ≡ empty n) }
     {
@@ -43,7 +43,7 @@ impl QuietSink {
         }
     }
 
-    /// What the sink keeps: what was written, where it still tells that.
+    /// What was written, if every piece has fitted.
     pub fn bytes(&self) -> &[u8]
         ensures { IfSome self.now.bytes (λ bytes. result.now ≡ bytes) }
     {
@@ -66,8 +66,9 @@ impl Sink for QuietSink {
     }
 }
 
-/// A sink of which the writes with these numbers fail, counted from 0. A failing write keeps at most `keep`
-/// bytes of its piece, and is counted. Bytes are kept in room that was taken first.
+/// A sink of which the writes with the numbers in `fail`, counted from 0, fail. A failing write
+/// keeps at most `keep` bytes of its piece, and is counted. Bytes are kept in a buffer of fixed
+/// capacity.
 #[derive(Debug, Drop)]
 pub struct MemorySink {
     room: Room,
@@ -87,7 +88,7 @@ impl Model for MemorySink {
 }
 
 impl MemorySink {
-    /// A sink with room for so many bytes.
+    /// A sink with a capacity of `room` bytes.
     pub fn new(
         alloc: Global,
         room: usize,
@@ -108,7 +109,7 @@ impl MemorySink {
         }
     }
 
-    /// What the sink keeps: what was written, where it still tells that.
+    /// What was written, if every piece has fitted.
     pub fn bytes(&self) -> &[u8]
         ensures { IfSome self.now.kept.bytes (λ bytes. result.now ≡ bytes) }
     {

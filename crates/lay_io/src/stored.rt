@@ -1,4 +1,4 @@
-//! Bytes that stand for inputs.
+//! The content of inputs in memory.
 ghost use Rattle.std.specs.Prelude.{◌≡◌, ◌+◌, ◌<◌, ◌≤◌, ◌++◌, [], option_map, min, find, length, take, drop, unwrap_or};
 ghost use Rattle.std.specs.Option.{option_copied};
 ghost use Rattle.std.specs.Str.{bytes_eq};
@@ -7,7 +7,7 @@ ghost use Rattle.lay_io.specs.Stored.{content_of};
 use crate::outside::Which;
 use lay_text::{List, Text};
 
-/// A file of an object in memory.
+/// A file in memory.
 #[derive(Debug, Drop)]
 pub struct NamedFile {
     pub name: Text,
@@ -21,7 +21,7 @@ fn named<'a>(files: &'a [NamedFile], name: &[u8]) -> Option<&'a NamedFile>
     files.iter().find(|file| file.name.as_bytes() == name)
 }
 
-/// The bytes of an input, if it is there.
+/// The content of an input, if it is there.
 pub fn content<'a>(
     stdin: &'a List<u8>,
     files: &'a List<NamedFile>,
@@ -38,7 +38,7 @@ pub fn content<'a>(
     }
 }
 
-/// The bytes of an input, where one that isn't there is empty.
+/// The content of an input; of one that isn't there, nothing.
 pub fn content_or_empty<'a>(
     stdin: &'a List<u8>,
     files: &'a List<NamedFile>,
@@ -52,7 +52,7 @@ pub fn content_or_empty<'a>(
     }
 }
 
-/// Moves bytes to the beginning of the buffer, as many as fit.
+/// Copies bytes to the beginning of the buffer, as many as fit, and gives their number.
 fn fill(buf: &mut [u8], from: &[u8]) -> usize
     ensures count { result ≡ min (length buf.old) (length from.now) }
     ensures bytes { take result buf.new ≡ take result from.now }
@@ -62,7 +62,8 @@ fn fill(buf: &mut [u8], from: &[u8]) -> usize
     count
 }
 
-/// Moves the next bytes to the beginning of the buffer, and counts them as taken.
+/// Copies the next bytes to the beginning of the buffer, counts them as taken, and gives their
+/// number.
 pub fn take_next(all: &[u8], taken: &mut usize, buf: &mut [u8]) -> usize
     ensures bound { (result ≤ length buf.new) × (result ≡ length (take result buf.new)) }
     ensures bytes { drop taken.old all.now ≡ take result buf.new ++ drop taken.new all.now }

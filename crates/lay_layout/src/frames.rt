@@ -1,4 +1,4 @@
-//! What a frame makes of a break and of a group in it.
+//! How a frame lays out a break, and a group nested in it.
 ghost use Rattle.std.specs.Prelude.{◌≡◌, ◌<◌, ◌≤◌, Bool, IsFalse};
 ghost use Rattle.lay_layout.specs.Document.{State, break_in, enter, shift};
 ghost use Rattle.lay_layout.specs.Indents.{IsKept};
@@ -6,7 +6,7 @@ ghost use Rattle.lay_layout.specs.Margins.{greatest_indent};
 
 use crate::layout::{Break, Frame};
 
-/// The greatest indent of a frame, in blanks.
+/// The greatest indent of a frame, in columns.
 pub const GREATEST_INDENT: u64 = 240;
 
 /// The frame outside all groups.
@@ -15,7 +15,7 @@ pub const OUTSIDE: Frame = Frame::Broken {
     indent: 0,
 };
 
-/// What an indent and an offset make, or 0 where that is below 0.
+/// The sum of an indent and an offset, or 0 if the sum is negative.
 #[inline]
 pub fn shifted(indent: u64, offset: i8) -> u64
     requires { indent ≤ greatest_indent }
@@ -26,7 +26,8 @@ pub fn shifted(indent: u64, offset: i8) -> u64
     if sum < 0 { 0 } else { sum as u64 }
 }
 
-/// The frame of a group in a frame; `big` says that its measure is greater than the space.
+/// The frame of a group that begins in `frame`; `big` says that the group's width up to the next
+/// break is greater than the space that is left.
 #[inline]
 pub fn entered(frame: Frame, consistent: bool, offset: i8, big: bool) -> Frame
     requires { IsKept frame }
@@ -51,7 +52,8 @@ pub fn entered(frame: Frame, consistent: bool, offset: i8, big: bool) -> Frame
     }
 }
 
-/// Whether it counts for a break in a frame that its measure is greater than the space.
+/// Whether laying out a break in this frame depends on its width being greater than the space that
+/// is left.
 #[inline(always)]
 pub fn asks_at_break(frame: Frame, brk: Break) -> bool
     ensures { IsFalse result → (big other : Bool) (s : State)

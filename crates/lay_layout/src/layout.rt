@@ -1,4 +1,4 @@
-//! The tokens of a layout.
+//! Layout tokens: texts, breaks and groups.
 ghost use Rattle.std.specs.Prelude.{◌≡◌, ◌+◌, ◌++◌, ◌∷◌, Bool, List, ℤ, length};
 ghost use Rattle.lay_layout.specs.declared.layout.Break.{Break};
 ghost use Rattle.lay_layout.specs.declared.layout.Tok.{Tok};
@@ -9,7 +9,7 @@ ghost use Rattle.lay_layout.specs.Machine.{IsClosed, measure, reach, shown, spac
 
 use lay_text::Text;
 
-/// What is written at a break beside its blanks.
+/// What a break writes beside blanks and a newline.
 #[derive(Clone, Copy, Debug, PartialEq, Eq)]
 pub enum Mark {
     /// Nothing.
@@ -22,10 +22,10 @@ pub enum Mark {
     CloseBrace,
 }
 
-/// A place where a line may end.
+/// A place where a line may be broken.
 ///
-/// Where it is a newline, `before` stands at the line's end, and the next line begins with the indent and
-/// `offset` in blanks and then `after`. Where it is none, `blank` blanks and `instead` stand in its place.
+/// If the line is broken here, `before` ends it, and the next line begins with the indent plus
+/// `offset` in blanks and then `after`. If it isn't, `blank` blanks and then `instead` are written.
 #[derive(Clone, Copy, Debug, PartialEq, Eq)]
 pub struct Break {
     pub offset: i8,
@@ -33,41 +33,42 @@ pub struct Break {
     pub before: Mark,
     pub after: Mark,
     pub instead: Mark,
-    /// It is never a newline, but ends what is measured.
+    /// The line is never broken here; but the width that is measured before it ends here.
     pub never: bool,
 }
 
-/// One token of a layout.
+/// One layout token.
 #[derive(Debug, Drop)]
 pub enum Tok {
     /// A text, written as it is.
     Text(Text),
-    /// A place where a line may end.
+    /// A place where a line may be broken.
     Break(Break),
-    /// A group begins. It is laid out flat, or broken at each of its breaks where it is consistent, and where
-    /// it isn't at those after which too little fits.
+    /// A group begins. It is laid out flat if it fits. Otherwise all its breaks are newlines if it
+    /// is consistent; if it isn't, only those after which the next part doesn't fit.
     Begin { consistent: bool, offset: i8 },
-    /// The group that was begun last ends.
+    /// The innermost open group ends.
     End,
 }
 
-/// How what stands in a group is laid out.
+/// How the content of a group is laid out.
 #[derive(Clone, Copy, Debug, PartialEq, Eq)]
 pub enum Frame {
     /// No break is a newline.
     Flat,
-    /// Breaks are newlines; `indent` counts blanks.
+    /// Breaks may be newlines: all of them if `consistent`. `indent` counts blanks.
     Broken { consistent: bool, indent: u64 },
 }
 
-/// The laws of layouts, for every document and every list of tokens.
+/// The laws of layouts, for every document and every list of layout tokens. (No code runs.)
 ///
-/// The text that the machine over tokens gives to a document's flattening is the text of the document. A
-/// list of tokens is the flattening of a document exactly where each of its groups is closed, and then of
-/// one document only. Of a group and of a break in it the machine measures what the document does: the flat width,
-/// and what is ahead of it. Where a document's tokens stand at the beginning of others, the text and the space after them are
-/// the document's, before what follows it. The text of a document is one of those that it may be laid out as where the
-/// space decides nothing.
+/// Laying out the tokens of a document one by one gives the text of the document. A list of tokens
+/// is the flattening of a document exactly if each of its groups is closed, and then of one
+/// document only. What is measured is the same in tokens and in documents: of a group its flat
+/// width, of a break its own width, each plus what is ahead up to the next break. If the tokens of
+/// a document come before others, the text and the space after them are those of the document
+/// before what follows it. If no choice depends on the space, the text of a document is one of
+/// those that it may be laid out as.
 pub fn layout_law()
     ensures same_text { (d : Document) → text (stream d) ≡ text_of d }
     ensures closed { (d : Document) → IsClosed 0 (stream d) }

@@ -1,4 +1,4 @@
-//! Texts of documentation.
+//! Whether documentation can be written as a comment, and as which one.
 ghost use Rattle.std.specs.Prelude.{◌≡◌, ◌<◌, ◌≤◌, ◌+◌, ◌^◌, ◌==◌, ◌||◌, ◌++◌, codes, Some, None, IfSome, MatchOption};
 ghost use Rattle.std.specs.List.{list_any};
 ghost use Rattle.lay_piece.specs.Chars.{begins};
@@ -7,22 +7,24 @@ ghost use Rattle.lay_piece.specs.Quoted.{Deep, deep_step, doc_step};
 ghost use Rattle.lay_piece.specs.Forms.{is_line_doc, is_block_doc, is_whole};
 ghost use Rattle.lay_piece.specs.Docs.{depth, doc_form, ends_in_blank, goes, in_block, is_line_text, is_block_text};
 
-/// How a text of documentation may be written, so that the text is read again (Rust Reference, "Doc comments").
+/// How documentation can be written so that the same text is read back (Rust Reference, "Doc
+/// comments").
 #[derive(Clone, Copy, Debug, PartialEq, Eq)]
 pub enum DocForm {
-    /// On one line, after `///` or `//!`.
+    /// As a line comment, after `///` or `//!`.
     Line,
-    /// On several lines, between `/**` or `/*!` and `*/`.
+    /// As a block comment, between `/**` or `/*!` and `*/`.
     Block,
-    /// As the string of an attribute alone.
+    /// Only as the string of a `doc` attribute.
     Neither,
 }
 
-/// The form of a text of documentation; `inner` says that it documents what it stands in.
+/// How a text of documentation can be written; `inner` says that it documents the item that it
+/// stands in, as `//!` does.
 ///
-/// A line holds no line end, no CR and no blank at its end. A block holds a line end and no CR, and each
-/// comment in it is closed. Where it documents what follows it, a line doesn't begin with `/`, and a block
-/// neither with `/` nor with `*`.
+/// A line comment holds no LF, no CR and no blank at its end. A block comment holds an LF and no
+/// CR, and each comment nested in it is closed. Of outer documentation a line doesn't begin with
+/// `/`, and a block begins neither with `/` nor with `*`.
 #[tactic(auto, unfolding(crate::specs::Docs::doc_form))]
 pub fn doc_form(text: &[u8], inner: bool) -> DocForm
     ensures { result ≡ doc_form inner text.now }
@@ -36,7 +38,7 @@ pub fn doc_form(text: &[u8], inner: bool) -> DocForm
     }
 }
 
-/// Whether documentation of this text may stand on a line.
+/// Whether the text can be written as a line comment.
 fn is_line_text(text: &[u8], inner: bool) -> bool
     ensures { result ≡ is_line_text inner text.now }
 {
@@ -53,7 +55,7 @@ fn has_line_end(text: &[u8]) -> bool
     text.contains(&b'\n') || text.contains(&b'\r')
 }
 
-/// Whether the text begins with a byte.
+/// Whether the text begins with this byte.
 fn begins_with(byte: u8, text: &[u8]) -> bool
     ensures { result ≡ begins (λ c. c == byte) text.now }
 {
@@ -74,7 +76,7 @@ fn ends_in_blank(text: &[u8]) -> bool
     }
 }
 
-/// Whether documentation of this text may stand in a block.
+/// Whether the text can be written as a block comment.
 fn is_block_text(text: &[u8], inner: bool) -> bool
     ensures { result ≡ is_block_text inner text.now }
 {
@@ -87,8 +89,8 @@ fn is_block_text(text: &[u8], inner: bool) -> bool
     closes_at_end(text)
 }
 
-/// Whether an end of a comment after the text closes the comment in which the text stands, and nothing in the
-/// text does. Comments nest, and a CR spoils them.
+/// Whether a `*/` after the text closes the comment that the text stands in, and nothing in the
+/// text closes it before. Comments nest, and a CR is not allowed.
 fn closes_at_end(text: &[u8]) -> bool
     ensures { result ≡ is_whole (run doc_step (Deep 0) (text.now ++ codes "*/")) }
 {
@@ -102,7 +104,7 @@ fn closes_at_end(text: &[u8]) -> bool
     place.ends()
 }
 
-/// How far a block comment is read, within so many more.
+/// The state within a block comment; the number counts the comments that are open around this one.
 #[derive(Clone, Copy, Debug, PartialEq, Eq)]
 enum InComment {
     Deep(usize),
@@ -113,7 +115,8 @@ enum InComment {
 }
 
 impl InComment {
-    /// After one more byte, unless it closes the comment or spoils it.
+    /// The state after one more byte, or `None` if the byte closes the outermost comment or is a
+    /// CR.
     #[tactic(auto, unfolding(crate::specs::Quoted::doc_step, crate::specs::Quoted::block_step))]
     fn step(self, byte: u8) -> Option<InComment>
         requires { depth self < 2 ^ 63 }
@@ -141,7 +144,7 @@ impl InComment {
         }
     }
 
-    /// After a byte that neither opens nor closes a comment.
+    /// The state after a byte that neither opens nor closes a comment.
     fn within(around: usize, byte: u8) -> InComment
         ensures moved { deep_step around byte ≡ Go (in_block result) }
         ensures around { depth result ≡ around }
@@ -153,7 +156,7 @@ impl InComment {
         }
     }
 
-    /// Whether an end of a comment closes the comment here.
+    /// Whether a `*/` here closes the outermost comment.
     #[tactic(auto, unfolding(crate::specs::Scan::run, crate::specs::Quoted::doc_step, crate::specs::Quoted::block_step))]
     fn ends(self) -> bool
         ensures { result ≡ is_whole (run doc_step (in_block self) (codes "*/")) }

@@ -1,4 +1,4 @@
-//! The piece at the beginning of a text.
+//! The piece (lexeme) at the beginning of a text.
 ghost use Rattle.std.specs.Prelude.{◌≡◌, ◌≢◌, ℕ, Bool, List, [], ◌∷◌, ◌++◌, length, IsTrue, IfSome, IsSomeAnd, encode_utf8_all};
 ghost use Rattle.std.specs.Str.{chars};
 ghost use Rattle.lay_piece.specs.Forms.{Had, had, is_punct_char};
@@ -16,16 +16,17 @@ mod words;
 use crate::kind::{Delim, Kind};
 use chars::{CharSet, first};
 
-/// The kind of a piece and its length in bytes.
+/// A piece: its kind and its length in bytes.
 #[derive(Clone, Copy, Debug, PartialEq, Eq)]
 pub struct Piece {
     pub kind: Kind,
     pub len: usize,
 }
 
-/// The piece that stands at the beginning of a text, if one does (Rust Reference, "Tokens").
+/// The piece at the beginning of a text, or `None` if there is none (Rust Reference, "Tokens").
 ///
-/// `index` says that the text follows the `.` of a field, where digits may be the index of a tuple's field.
+/// `index` says that the text follows the `.` of a field access, where digits may be the index of a
+/// tuple field.
 #[inline(always)]
 pub fn piece_at(rest: &str, index: bool) -> Option<Piece>
     ensures found { IfSome result (λ p. (piece more : List ℕ) × (chars rest.now ≡ piece ++ more)
@@ -41,10 +42,10 @@ pub fn piece_at(rest: &str, index: bool) -> Option<Piece>
     })
 }
 
-/// The laws of pieces and gaps, for every text.
+/// The laws of pieces and gaps, for every text. (No code runs.)
 ///
-/// No gap begins with a piece, and no piece with a gap. What follows a piece matters to it by two characters
-/// at most. At most one kind and length fit at a place.
+/// No gap begins with a piece, and no piece with a gap. Whether a piece ends there depends on at
+/// most two characters after it. At most one kind and one length fit at a place.
 pub fn piece_law()
     ensures no_gap { (kind : Kind) (piece rest : List ℕ) (index : Bool)
         → Had kind piece rest index → BeginsNoGap (piece ++ rest) }
@@ -57,7 +58,7 @@ pub fn piece_law()
         → (kind ≡ other) × (piece ≡ longer) }
 {}
 
-/// The kind of the piece at the beginning, and what follows it.
+/// The kind of the piece at the beginning, and the text after it.
 #[inline(always)]
 #[tactic(auto, unfolding(crate::specs::Found::front_of))]
 fn front(index: bool, s: &str) -> Option<(Kind, &str)>

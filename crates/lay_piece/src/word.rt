@@ -1,13 +1,13 @@
-//! The words of the language.
+//! The keywords of the language.
 ghost use Rattle.std.specs.Prelude.{◌≡◌, ◌∷◌};
 ghost use Rattle.lay_piece.specs.Word.{class_of, is_path_word};
 
-/// What a word is in Rust's edition 2021 (Rust Reference, "Keywords").
+/// What a word is in edition 2021 (Rust Reference, "Keywords").
 #[derive(Clone, Copy, Debug, PartialEq, Eq)]
 pub enum Class {
-    /// No keyword: a word that may be a name.
+    /// No keyword, so it may be a name.
     Plain,
-    /// `crate`, `self`, `super` or `Self`, which may stand in a path.
+    /// `crate`, `self`, `super` or `Self`: a keyword that may stand in a path.
     PathWord,
     /// Any other strict keyword, as `fn`.
     Strict,
@@ -25,7 +25,7 @@ pub fn is_path_word(word: &[u8]) -> bool
     }
 }
 
-/// The class of a word: of an identifier that isn't raw.
+/// The class of an identifier that isn't raw.
 pub fn word_class(word: &[u8]) -> Class
     ensures { result ≡ class_of word.now }
 {
@@ -35,7 +35,7 @@ pub fn word_class(word: &[u8]) -> Class
     }
 }
 
-/// The class of a word of this first byte, by what follows it.
+/// The class of the word that begins with the byte `first` and goes on with `rest`.
 fn class_behind(first: u8, rest: &[u8]) -> Class
     ensures { result ≡ class_of (first ∷ rest.now) }
 {

@@ -1,6 +1,6 @@
-//! Texts and lists, and why no text is given.
+//! Byte strings, lists, and the errors of reading and formatting.
 //!
-//! The crate promises that a [`Text`] is a list of bytes and a [`List`] a list of items.
+//! Contracts see a [`Text`] as a list of bytes and a [`List`] as a list of items.
 #![tactic(auto)]
 
 pub mod list;

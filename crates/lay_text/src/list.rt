@@ -1,12 +1,12 @@
-//! Lists of items.
+//! [`List`], a growable list of items.
 ghost use Rattle.std.specs.Prelude.{◌≡◌, ◌++◌, ◌∷◌, [], OnOk, OnErr, IfErr};
 ghost use Rattle.std.specs.Borrow.{sem};
 
 use std::alloc::Global;
 use std::marker::Model;
 
-/// A list of items, on std's vector. Contracts see the list alone, and neither room nor place, so two lists
-/// with the same items are equal.
+/// A list of items, kept in a `Vec`. Contracts see the items alone: neither the capacity nor the
+/// address, so two lists with the same items are equal.
 #[derive(Debug, Drop)]
 pub struct List<T> {
     items: Vec<T>,
@@ -26,7 +26,7 @@ impl<T> Model for List<T> {
 impl<T> List<T> {
     ghost use Rattle.lay_text.specs.Lending.{LendsItems};
 
-    /// The empty list.
+    /// The empty list. It doesn't allocate.
     pub fn new(alloc: Global) -> List<T>
         ensures { result ≡ [] }
     {
@@ -35,8 +35,8 @@ impl<T> List<T> {
         }
     }
 
-    /// Adds an item at the end. `Err` hands the item back for want of memory. The first item takes room for itself alone, since
-    /// a tree has many lists of one item.
+    /// Appends an item. `Err` gives the item back if memory is out. The first push allocates room
+    /// for one item only, since a tree has many lists of one item.
     pub fn push(&mut self, item: T) -> Result<(), T>
         ensures ok { OnOk result (self.new ≡ self.old ++ item ∷ []) }
         ensures err { OnErr result (self.new ≡ self.old) }
@@ -51,14 +51,14 @@ impl<T> List<T> {
         }
     }
 
-    /// All the items.
+    /// All items, as a slice.
     pub fn as_slice(&self) -> &[T]
         ensures { result.now ≡ self.now }
     {
         self.items.as_slice()
     }
 
-    /// All the items, lent to be changed.
+    /// All items, as a slice that can be changed.
     pub fn as_mut_slice(&mut self) -> &mut [T]
         ensures* lent { sem 𝓛 (LendsItems T.row self.entry result) }
         ensures value { result.now ≡ self.old }
@@ -66,14 +66,14 @@ impl<T> List<T> {
         self.items.as_mut_slice()
     }
 
-    /// The list of a vector's items.
+    /// Makes a list of a vector, with the same items.
     pub fn from_vec(items: Vec<T>) -> List<T>
         ensures { result ≡ items.items }
     {
         List { items }
     }
 
-    /// The vector of the list's items.
+    /// Gives the vector that holds the items.
     pub fn into_vec(self) -> Vec<T>
         ensures { result.items ≡ self }
     {

@@ -1,4 +1,4 @@
-//! Texts: lists of bytes.
+//! [`Text`], a growable byte string.
 ghost use Rattle.std.specs.Prelude.{◌≡◌, ◌+◌, ◌<◌, ◌≤◌, ◌++◌, ◌∷◌, [], length, IsOk, IfOk, OnOk, OnErr};
 
 use crate::refusal::NoMemory;
@@ -6,10 +6,10 @@ use smallvec::SmallVec;
 use std::alloc::Global;
 use std::marker::Model;
 
-/// How many bytes a text keeps in the value itself.
+/// How many bytes a text keeps inline, without allocating.
 const INLINE: usize = 22;
 
-/// A list of bytes. Up to 22 of them are kept in the value itself, where no memory is taken.
+/// A byte string. Up to 22 bytes are kept inline, without allocating.
 #[derive(Debug, Drop)]
 pub struct Text {
     bytes: SmallVec<u8, 22>,
@@ -35,7 +35,7 @@ impl Text {
         }
     }
 
-    /// A copy of the bytes. At most 22 bytes take no memory.
+    /// A copy of the bytes. It allocates only for more than 22 bytes.
     #[inline(always)]
     pub fn from_bytes(alloc: Global, bytes: &[u8]) -> Result<Text, NoMemory>
         ensures ok { IfOk result (λ text. text ≡ bytes.now) }
@@ -66,7 +66,7 @@ impl Text {
         Text { bytes: copy }
     }
 
-    /// A copy of the bytes, with no more room than it needs.
+    /// A copy of the bytes, allocated with no spare room.
     fn long(alloc: Global, bytes: &[u8]) -> Result<Text, NoMemory>
         ensures { IfOk result (λ text. text ≡ bytes.now) }
     {
@@ -76,7 +76,7 @@ impl Text {
         Ok(text)
     }
 
-    /// Adds a byte at the end. A text of fewer than 22 bytes takes no memory for it.
+    /// Appends a byte. It doesn't allocate while the text has fewer than 22 bytes.
     #[inline]
     pub fn push(&mut self, byte: u8) -> Result<(), NoMemory>
         ensures ok { OnOk result (self.new ≡ self.old ++ byte ∷ []) }
@@ -89,7 +89,7 @@ impl Text {
         }
     }
 
-    /// Adds bytes at the end. A text of at most 22 bytes with them takes no memory for them.
+    /// Appends bytes. It doesn't allocate if the text then has at most 22 bytes.
     pub fn push_bytes(&mut self, bytes: &[u8]) -> Result<(), NoMemory>
         ensures ok { OnOk result (self.new ≡ self.old ++ bytes.now) }
         ensures err { OnErr result (self.new ≡ self.old) }
@@ -101,7 +101,7 @@ impl Text {
         }
     }
 
-    /// All the bytes.
+    /// All bytes, as a slice.
     pub fn as_bytes(&self) -> &[u8]
         ensures { result.now ≡ self.now }
     {

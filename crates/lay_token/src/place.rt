@@ -1,16 +1,18 @@
-//! Places in a text by line and column.
+//! Places in a text as line and column.
 ghost use Rattle.std.specs.Prelude.{◌≡◌, length, count_by, reverse, take_while};
 ghost use Rattle.lay_token.specs.Place.{is_in_line, is_line_feed, place_of};
 
-/// A place in a text, as an editor shows it: both numbers are counted from 1, and columns in bytes.
+/// A place in a text, as an editor shows it. Line and column are counted from 1, and columns in
+/// bytes.
 #[derive(Clone, Copy, Debug, PartialEq, Eq)]
 pub struct Place2 {
     pub line: usize,
     pub column: usize,
 }
 
-/// The line and the column of the byte number `at` of a text: 1 more than the LFs before it, and 1 more than the bytes
-/// since the last of them. A number beyond the text stands for its end.
+/// The line and column of the byte with index `at`. The line is 1 more than the number of LFs
+/// before it, the column 1 more than the number of bytes since the last of them. An index beyond
+/// the text stands for its end.
 pub fn place_of(text: &[u8], at: usize) -> Place2
     ensures { result ≡ place_of text.now at }
 {
@@ -21,14 +23,14 @@ pub fn place_of(text: &[u8], at: usize) -> Place2
     }
 }
 
-/// How many LFs there are.
+/// How many LFs the bytes hold.
 fn line_feeds(bytes: &[u8]) -> usize
     ensures { result ≡ count_by is_line_feed bytes.now }
 {
     bytes.iter().filter(|byte| **byte == b'\n').count()
 }
 
-/// How many bytes stand after the last LF.
+/// How many bytes follow the last LF.
 fn since_line_feed(bytes: &[u8]) -> usize
     ensures { result ≡ length (take_while is_in_line (reverse bytes.now)) }
 {

@@ -1,4 +1,4 @@
-//! Tokens, and the pieces of a text that they stand for.
+//! Tokens of a text.
 ghost use Rattle.std.specs.Prelude.{◌≡◌, ℕ, List};
 ghost use Rattle.lay_token.specs.Lexes.{Lexes, NoTokenAt};
 ghost use Rattle.lay_token.specs.declared.token.Token.{Token};
@@ -10,18 +10,20 @@ use lay_text::Text;
 #[derive(Debug, Drop)]
 pub struct Token {
     pub kind: Kind,
-    /// It and the next are punctuation with no gap between them, and neither is `,` or `;`.
+    /// Whether this token and the next are punctuation with no gap between them, and neither is `,`
+    /// or `;`.
     pub joint: bool,
-    /// The piece; of a raw identifier without `r#`, and of documentation without its marks and the blanks at
-    /// the end of one line.
+    /// The piece as it is written; but a raw identifier without its `r#`, and documentation without
+    /// its marks, of which a line has no blanks at its end either.
     pub text: Text,
-    /// Where the piece begins, in bytes of the text.
+    /// Where the piece begins: a byte offset in the text.
     pub at: usize,
-    /// The bytes of the piece.
+    /// The length of the piece in bytes.
     pub len: usize,
 }
 
-/// A text lexes to at most one list of tokens, or there is no token at one place at most, and never both.
+/// A text lexes to at most one list of tokens, or there is no token at one place at most, and never
+/// both. (No code runs.)
 pub fn tokens_law()
     ensures one_list { (bytes : List ℕ) (start : ℕ) (tokens others : List Token)
         → Lexes bytes start tokens → Lexes bytes start others → tokens ≡ others }

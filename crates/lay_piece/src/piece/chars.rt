@@ -1,4 +1,4 @@
-//! The characters at the beginning of a text, and runs of them.
+//! Sets of characters, the first character of a text, and runs of characters.
 ghost use Rattle.std.specs.Prelude.{◌≡◌, ◌≤◌, ◌<◌, ◌∷◌, ◌==◌, [], length, MatchOption, IfSome, IsFalse};
 ghost use Rattle.std.specs.Str.{chars};
 ghost use Rattle.lay_piece.specs.Chars.{after, begins, in_word};
@@ -9,31 +9,31 @@ use crate::piece::numbers::Base;
 /// A set of characters.
 #[derive(Clone, Copy, Debug, PartialEq, Eq)]
 pub enum CharSet {
-    /// What may begin a word.
+    /// What may begin an identifier: XID_Start or `_`.
     WordStart,
-    /// What may go on with a word.
+    /// What an identifier may go on with: XID_Continue.
     Word,
-    /// A quote or a `#`, which makes a word before it a prefix.
+    /// A quote or a `#`: after a word it makes the word a prefix, as in `b"x"`.
     Mark,
-    /// A `'` or a `#`, before which no lifetime ends.
+    /// A `'` or a `#`, which may not follow a lifetime.
     Tick,
-    /// A sign of an exponent.
+    /// The sign of an exponent: `+` or `-`.
     Sign,
-    /// The letter of an exponent.
+    /// The letter of an exponent: `e` or `E`.
     ExponentLetter,
-    /// A character of a line of documentation.
+    /// A character of a line of documentation: any but LF and CR.
     DocLine,
-    /// What a backslash before a line's end skips.
+    /// White space that a backslash at the end of a line skips.
     Skipped,
-    /// What follows `/**` where it is no documentation.
+    /// `*` or `/`: what follows `/**` if that begins no documentation.
     StarOrSlash,
-    /// A digit of a base.
+    /// A digit of this base.
     Digit(Base),
-    /// A digit of a base, or an underscore.
+    /// A digit of this base, or an underscore.
     Digits(Base),
-    /// What a run of digits goes on with.
+    /// What a number of this base goes on with: digits that may be wrong for the base included.
     Run(Base),
-    /// This character alone.
+    /// Only this character.
     Only(char),
 }
 
@@ -60,7 +60,7 @@ impl CharSet {
         }
     }
 
-    /// What follows the longest run of its characters at the beginning.
+    /// The text after the longest run of the set's characters at the beginning.
     #[inline(always)]
     pub fn after(self, s: &str) -> &str
         ensures run { chars result.now ≡ after (in_set self) (chars s.now) }
@@ -86,7 +86,7 @@ impl CharSet {
         rest
     }
 
-    /// Whether the text begins with one of its characters.
+    /// Whether the text begins with a character of the set.
     #[inline(always)]
     pub(crate) fn begins(self, s: &str) -> bool
         ensures { result ≡ begins (in_set self) (chars s.now) }
@@ -98,7 +98,7 @@ impl CharSet {
     }
 }
 
-/// Whether the character may begin a word. Most characters are ASCII, and need no table.
+/// Whether the character may begin an identifier. ASCII is tested first, without the table.
 #[inline(always)]
 #[tactic(auto, unfolding(crate::specs::Chars::starts_word), using(crate::proofs::Ascii::ascii_starts))]
 fn is_word_start(c: char) -> bool
@@ -111,7 +111,7 @@ fn is_word_start(c: char) -> bool
     }
 }
 
-/// Whether a word may go on with the character.
+/// Whether an identifier may go on with the character.
 #[inline(always)]
 #[tactic(auto, unfolding(crate::specs::Chars::in_word), using(crate::proofs::Ascii::ascii_in_word))]
 fn is_in_word(c: char) -> bool
@@ -124,7 +124,7 @@ fn is_in_word(c: char) -> bool
     }
 }
 
-/// What follows the longest run of a word's characters at the beginning.
+/// The text after the longest run of identifier characters at the beginning.
 fn after_word(s: &str) -> &str
     ensures run { chars result.now ≡ after in_word (chars s.now) }
     ensures shorter { length result.now ≤ length s.now }
@@ -139,7 +139,7 @@ fn after_word(s: &str) -> &str
     rest
 }
 
-/// The first character, and what follows it.
+/// The first character, and the text after it.
 #[inline]
 pub fn first(s: &str) -> Option<(char, &str)>
     ensures parts { MatchOption result (chars s.now ≡ []) (λ p. chars s.now ≡ p.0 ∷ chars p.1.now) }
@@ -150,7 +150,7 @@ pub fn first(s: &str) -> Option<(char, &str)>
     Some((c, rest.as_str()))
 }
 
-/// What follows this character, if the text begins with it.
+/// The text after this character, if it begins with it.
 pub fn behind(c: char, s: &str) -> Option<&str>
     ensures rest { MatchOption result (IsFalse (begins (λ d. d == c) (chars s.now)))
         (λ r. chars s.now ≡ c ∷ chars r.now) }

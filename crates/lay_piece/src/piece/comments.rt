@@ -1,4 +1,4 @@
-//! Documentation, and the slash.
+//! Documentation comments, and a slash by itself.
 ghost use Rattle.std.specs.Prelude.{◌≡◌, ◌≤◌, length, IfSome};
 ghost use Rattle.std.specs.Str.{chars};
 ghost use Rattle.lay_piece.specs.Scan.{run};
@@ -8,7 +8,8 @@ ghost use Rattle.lay_piece.specs.Found.{Finds, Leaves, slash, line_comment, line
 use crate::kind::Kind;
 use crate::piece::chars::{CharSet, behind, first};
 
-/// A slash after which documentation may follow, but no plain comment.
+/// The token that a `/` begins: documentation, or the operator; `None` if it begins a plain
+/// comment. `tail` is the text after the slash.
 pub fn slash(tail: &str) -> Option<(Kind, &str)>
     ensures { Finds (slash (chars tail.now)) result }
 {
@@ -19,7 +20,7 @@ pub fn slash(tail: &str) -> Option<(Kind, &str)>
     }
 }
 
-/// A line of documentation, after `//`.
+/// A line of documentation; `s` is the text after `//`.
 fn line_comment(s: &str) -> Option<(Kind, &str)>
     ensures { Finds (line_comment (chars s.now)) result }
 {
@@ -52,7 +53,7 @@ fn line_doc(inner: bool, s: &str) -> Option<(Kind, &str)>
     }
 }
 
-/// A block of documentation, after `/*`.
+/// A block of documentation; `s` is the text after `/*`.
 fn block_comment(s: &str) -> Option<(Kind, &str)>
     ensures { Finds (block_comment (chars s.now)) result }
 {
@@ -75,7 +76,8 @@ fn block_doc(inner: bool, s: &str) -> Option<(Kind, &str)>
     Some((Kind::Doc { inner, block: true }, rest))
 }
 
-/// What follows the end of a block that holds no CR, in which blocks nest.
+/// The text after the end of a block comment, in which blocks nest; `None` if it is never closed or
+/// holds a CR.
 fn after_doc(s: &str) -> Option<&str>
     ensures { Leaves (run doc_step (Deep 0) (chars s.now)) result }
 {

@@ -1,4 +1,4 @@
-//! Numbers.
+//! Number literals.
 ghost use Rattle.std.specs.Prelude.{◌≡◌, ◌∷◌};
 ghost use Rattle.std.specs.Str.{chars};
 ghost use Rattle.lay_piece.specs.Number.{base_of, digits_of, in_base, in_run, is_decimal, begins_point};
@@ -7,7 +7,7 @@ ghost use Rattle.lay_piece.specs.Found.{Finds, Leaves, number, plain_number, aft
 use crate::kind::Kind;
 use crate::piece::chars::{CharSet, first};
 
-/// The base of a number.
+/// The base of a number literal.
 #[derive(Clone, Copy, Debug, PartialEq, Eq)]
 pub enum Base {
     Binary,
@@ -17,7 +17,7 @@ pub enum Base {
 }
 
 impl Base {
-    /// Whether the character is a digit of the base.
+    /// Whether the character is a digit of this base.
     pub fn has_digit(self, c: char) -> bool
         ensures { result ≡ in_base self c }
     {
@@ -38,7 +38,8 @@ impl Base {
         }
     }
 
-    /// Whether a run of digits goes on with the character, which needn't be one of the base.
+    /// Whether a run of digits goes on with the character, which may be a digit that this base
+    /// doesn't have.
     pub fn goes_on(self, c: char) -> bool
         ensures { result ≡ in_run self c }
     {
@@ -49,8 +50,8 @@ impl Base {
     }
 }
 
-/// A number, of which `s` is the whole text and `c` the first character. Where `index` is true, it is the digits
-/// at the beginning if no more of a word follows them.
+/// A number literal, or a tuple index; `s` is the whole text. If `index` is true, it is the leading
+/// digits, where no letter follows them.
 pub fn number(index: bool, s: &str) -> Option<(Kind, &str)>
     ensures { Finds (number index (chars s.now)) result }
 {
@@ -70,7 +71,7 @@ fn plain_number(s: &str) -> Option<(Kind, &str)>
     whole(base, after_run(base, digits)?)
 }
 
-/// The base of a number, and its digits with what follows them.
+/// The base of a number, and its digits with the text after them.
 fn split_base(s: &str) -> (Base, &str)
     ensures base { result.0 ≡ base_of (chars s.now) }
     ensures digits { chars result.1.now ≡ digits_of (base_of (chars s.now)) (chars s.now) }
@@ -86,7 +87,8 @@ fn split_base(s: &str) -> (Base, &str)
     }
 }
 
-/// What follows a run of digits and underscores, if it holds a digit and none outside the base.
+/// The text after a run of digits and underscores; `None` if it has no digit, or one that the base
+/// doesn't have.
 fn after_run(base: Base, s: &str) -> Option<&str>
     ensures { Leaves (after_run base (chars s.now)) result }
 {
@@ -101,7 +103,7 @@ fn after_run(base: Base, s: &str) -> Option<&str>
     Some(rest)
 }
 
-/// What follows the digits of a number: a point or an exponent makes a decimal one a Float.
+/// The number after its whole part: a point or an exponent makes a decimal number a Float.
 fn whole(base: Base, s: &str) -> Option<(Kind, &str)>
     ensures { Finds (whole base (chars s.now)) result }
 {
@@ -123,7 +125,8 @@ fn whole(base: Base, s: &str) -> Option<(Kind, &str)>
     }
 }
 
-/// Whether a character is a point that makes a number a Float: not one of a range, a field or a method.
+/// Whether `c`, before `tail`, is the point of a Float, and not that of a range, a field or a
+/// method call.
 fn is_point(c: char, tail: &str) -> bool
     ensures { result ≡ begins_point (c ∷ chars tail.now) }
 {
@@ -136,7 +139,7 @@ fn is_point(c: char, tail: &str) -> bool
     }
 }
 
-/// What follows the point of a Float.
+/// The number after the point of a Float.
 fn point(s: &str) -> Option<(Kind, &str)>
     ensures { Finds (point (chars s.now)) result }
 {
@@ -147,7 +150,7 @@ fn point(s: &str) -> Option<(Kind, &str)>
     }
 }
 
-/// What follows the digits of a fraction.
+/// The number after the digits of its fraction.
 fn fraction(s: &str) -> Option<(Kind, &str)>
     ensures { Finds (fraction (chars s.now)) result }
 {
@@ -161,7 +164,7 @@ fn fraction(s: &str) -> Option<(Kind, &str)>
     }
 }
 
-/// An exponent, after its letter.
+/// The number after the letter of its exponent.
 fn exponent(s: &str) -> Option<(Kind, &str)>
     ensures { Finds (exponent (chars s.now)) result }
 {
@@ -170,7 +173,7 @@ fn exponent(s: &str) -> Option<(Kind, &str)>
     suffixed(Kind::Float, after_run(Base::Decimal, digits)?)
 }
 
-/// A number that may have a suffix here.
+/// The number with its suffix, if one follows.
 fn suffixed(kind: Kind, s: &str) -> Option<(Kind, &str)>
     ensures { Finds (suffixed kind (chars s.now)) result }
 {

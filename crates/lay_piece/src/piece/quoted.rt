@@ -1,4 +1,4 @@
-//! Characters, strings and raw strings, after their opening.
+//! Character, string and raw string literals, after their opening quote.
 ghost use Rattle.std.specs.Prelude.{◌≡◌, ◌≢◌, ◌≤◌, ◌<◌, ◌∷◌, length, IfSome, MatchOption, IsTrue, IsFalse, None};
 ghost use Rattle.std.specs.Str.{chars};
 ghost use Rattle.std.specs.Char.{is_ascii_hexdigit};
@@ -11,12 +11,12 @@ ghost use Rattle.lay_piece.specs.Found.{Leaves, after_suffix, hashes, behind_has
 use crate::kind::Kind;
 use crate::piece::chars::{CharSet, behind, first};
 
-/// What a literal may hold.
+/// What a literal may hold, and which escapes it has.
 #[derive(Clone, Copy, Debug, PartialEq, Eq)]
 pub enum Contents {
     /// Characters.
     Chars,
-    /// Bytes, written in ASCII.
+    /// Bytes, written in ASCII or as escapes.
     Bytes,
     /// Characters and bytes other than NUL.
     CChars,
@@ -77,7 +77,7 @@ impl Contents {
     }
 }
 
-/// A literal that leaves this rest, with its suffix if one follows.
+/// A literal before `rest`: its kind, and the text after its suffix, if one follows.
 pub fn literal(kind: Kind, rest: &str) -> (Kind, &str)
     ensures kind { result.0 ≡ kind }
     ensures rest { chars result.1.now ≡ after_suffix (chars rest.now) }
@@ -95,7 +95,7 @@ fn after_suffix(s: &str) -> &str
     }
 }
 
-/// Whether the text begins with an identifier, which a lone underscore isn't.
+/// Whether the text begins with an identifier that is more than a lone underscore.
 pub fn begins_suffix(s: &str) -> bool
     ensures { result ≡ begins_suffix (chars s.now) }
 {
@@ -113,7 +113,7 @@ pub fn begins_suffix(s: &str) -> bool
     }
 }
 
-/// What follows a string.
+/// The text after a string literal; `s` follows its opening quote.
 pub fn after_string(of: Contents, s: &str) -> Option<&str>
     ensures { Leaves (after_string of (chars s.now)) result }
 {
@@ -127,7 +127,7 @@ pub fn after_string(of: Contents, s: &str) -> Option<&str>
     None
 }
 
-/// What follows a character of a string, which an escape may write.
+/// The text after one character of a string, or after the escape that writes it.
 #[tactic(auto, using(crate::proofs::Runs::string_escape, crate::proofs::Runs::string_skip), unfolding(crate::specs::Scan::run, crate::specs::Quoted::string_step))]
 fn after_string_char(of: Contents, c: char, tail: &str) -> Option<&str>
     requires { c ≢ 34 }
@@ -145,7 +145,7 @@ fn after_string_char(of: Contents, c: char, tail: &str) -> Option<&str>
     }
 }
 
-/// What follows a character.
+/// The text after a character literal; `s` follows its opening quote.
 #[tactic(auto, using(crate::proofs::Runs::char_escape), unfolding(crate::specs::Scan::run, crate::specs::Quoted::char_step))]
 pub fn after_char(of: Contents, s: &str) -> Option<&str>
     ensures { Leaves (after_char of (chars s.now)) result }
@@ -160,7 +160,7 @@ pub fn after_char(of: Contents, s: &str) -> Option<&str>
     }
 }
 
-/// What follows an escape, after its backslash.
+/// The text after an escape; `s` follows its backslash.
 #[tactic(auto, unfolding(crate::specs::Scan::run, crate::specs::Quoted::escape_step))]
 fn after_escape(of: Contents, s: &str) -> Option<&str>
     ensures rest { Leaves (run (escape_step of) Backslash (chars s.now)) result }
@@ -178,7 +178,7 @@ fn after_escape(of: Contents, s: &str) -> Option<&str>
     }
 }
 
-/// What follows the two digits after `\x`.
+/// The text after the two digits of `\x`.
 #[tactic(auto, unfolding(crate::specs::Scan::run, crate::specs::Quoted::escape_step))]
 fn after_byte_value(of: Contents, s: &str) -> Option<&str>
     ensures rest { Leaves (run (escape_step of) Hex (chars s.now)) result }
@@ -195,7 +195,7 @@ fn after_byte_value(of: Contents, s: &str) -> Option<&str>
     }
 }
 
-/// What follows the digits after `\u{`, and their brace.
+/// The text after the digits of `\u{` and their closing brace.
 fn after_char_value(of: Contents, s: &str) -> Option<&str>
     ensures rest { Leaves (run (escape_step of) (Digits 0 0) (chars s.now)) result }
     ensures shorter { IfSome result (λ r. length r.now ≤ length s.now) }
@@ -246,7 +246,7 @@ fn hex_value(c: char) -> Option<u32>
     }
 }
 
-/// What follows a raw string, after its `r`.
+/// The text after a raw string literal; `s` follows its `r`.
 pub fn after_raw(of: Contents, s: &str) -> Option<&str>
     ensures { Leaves (after_raw of (chars s.now)) result }
 {
@@ -267,7 +267,7 @@ pub fn after_raw(of: Contents, s: &str) -> Option<&str>
     None
 }
 
-/// How many `#` come next, up to a number of them, and what follows these.
+/// How many `#` come next, up to `most`, and the text after these.
 fn hashes(most: usize, s: &str) -> (usize, &str)
     ensures count { result.0 ≡ hashes most (chars s.now) }
     ensures rest { chars result.1.now ≡ behind_hashes most (chars s.now) }

@@ -1,4 +1,4 @@
-//! Words, lifetimes, and literals whose prefix is a word.
+//! Identifiers, keywords, lifetimes, and literals with a word as their prefix.
 ghost use Rattle.std.specs.Prelude.{◌≡◌, ◌≤◌, ◌-◌, length, take};
 ghost use Rattle.std.specs.Str.{chars};
 ghost use Rattle.lay_piece.specs.Found.{Finds, word, prefixed, raw_word, raw_name, byte_word, c_word, lifetime, quote};
@@ -8,7 +8,8 @@ use crate::piece::chars::{CharSet, behind, first};
 use crate::piece::quoted::{Contents, after_char, after_raw, after_string, begins_suffix, literal};
 use crate::word::is_path_word;
 
-/// A word after its first character. Before a quote or a `#` it is the prefix of a literal, or no token.
+/// The word that begins with `c`; `tail` is the text after `c`. Before a quote or a `#` the word is
+/// the prefix of a literal, or there is no token.
 #[inline(always)]
 pub fn word(c: char, tail: &str) -> Option<(Kind, &str)>
     ensures { Finds (word c (chars tail.now)) result }
@@ -34,7 +35,7 @@ fn prefixed(c: char, tail: &str) -> Option<(Kind, &str)>
     }
 }
 
-/// A raw string or a raw identifier, after its `r`.
+/// A raw string or a raw identifier; `s` follows its `r`.
 fn raw_word(s: &str) -> Option<(Kind, &str)>
     ensures { Finds (raw_word (chars s.now)) result }
 {
@@ -47,7 +48,7 @@ fn raw_word(s: &str) -> Option<(Kind, &str)>
     }
 }
 
-/// A raw identifier, after its `r#`.
+/// A raw identifier; `s` follows its `r#`.
 fn raw_name(s: &str) -> Option<(Kind, &str)>
     ensures { Finds (raw_name (chars s.now)) result }
 {
@@ -61,7 +62,7 @@ fn raw_name(s: &str) -> Option<(Kind, &str)>
     Some((Kind::RawIdent, rest))
 }
 
-/// The bytes of a text before what it ends in.
+/// The bytes of a text before its end `rest`.
 fn before<'a>(s: &'a str, rest: &str) -> &'a [u8]
     requires { length rest.now ≤ length s.now }
     ensures { result.now ≡ take (length s.now - length rest.now) s.now }
@@ -69,7 +70,7 @@ fn before<'a>(s: &'a str, rest: &str) -> &'a [u8]
     &s.as_bytes()[..s.len() - rest.len()]
 }
 
-/// A literal of bytes, after its `b`.
+/// A byte or a byte string literal; `s` follows its `b`.
 fn byte_word(s: &str) -> Option<(Kind, &str)>
     ensures { Finds (byte_word (chars s.now)) result }
 {
@@ -82,7 +83,7 @@ fn byte_word(s: &str) -> Option<(Kind, &str)>
     }
 }
 
-/// A C string, after its `c`.
+/// A C string literal; `s` follows its `c`.
 fn c_word(s: &str) -> Option<(Kind, &str)>
     ensures { Finds (c_word (chars s.now)) result }
 {
@@ -94,7 +95,7 @@ fn c_word(s: &str) -> Option<(Kind, &str)>
     }
 }
 
-/// A character or a lifetime, after its quote.
+/// A character or a lifetime; `s` follows its quote.
 pub fn quote(s: &str) -> Option<(Kind, &str)>
     ensures { Finds (quote (chars s.now)) result }
 {
