@@ -1,4 +1,4 @@
-//! The texts that tokens stand for.
+//! The values of string literals.
 ghost use Rattle.std.specs.Prelude.{◌≡◌, ◌<◌, ◌==◌, IfOk, IsUtf8, not};
 ghost use Rattle.std.specs.Str.{chars};
 ghost use Rattle.lay_piece.specs.Value.{value_of};
@@ -11,17 +11,17 @@ use crate::strings::{next, push_value};
 use lay_token::{Kind, NoMemory, Text, Token};
 use std::alloc::Global;
 
-/// What a token says as a string.
+/// The value of a token as a string.
 #[derive(Debug, Drop)]
 pub enum Cooked {
     /// The value of a string literal without suffix.
     Str(Text),
-    /// No text: the token is no string literal, or one with a suffix.
+    /// None: the token is no string literal, or one with a suffix.
     NotText,
 }
 
-/// The value of a string literal without suffix (Rust Reference, "String literals", "Raw string literals").
-/// Only memory can be wanting.
+/// The value of a string literal without suffix (Rust Reference, "String literals", "Raw string
+/// literals"). The only error is out of memory.
 pub fn cook(alloc: Global, token: &Token) -> Result<Cooked, NoMemory>
     requires text { IsString token.now }
     ensures { IfOk result (CookedAs (value_of token.now.kind (chars token.now.text))) }
@@ -33,7 +33,7 @@ pub fn cook(alloc: Global, token: &Token) -> Result<Cooked, NoMemory>
     }
 }
 
-/// The piece that a text holds.
+/// The text as a `str`.
 fn piece_of(text: &Text) -> &str
     requires { IsUtf8 text.now }
     ensures { result.now ≡ text.now }
@@ -41,7 +41,7 @@ fn piece_of(text: &Text) -> &str
     unsafe { std::str::from_utf8_unchecked(text.as_bytes()) }
 }
 
-/// The value of a string, unless it has a suffix.
+/// The value of a string literal, unless it has a suffix.
 fn cook_string(alloc: Global, piece: &str) -> Result<Cooked, NoMemory>
     requires { IsLiteral kind.Str (chars piece.now) }
     ensures { IfOk result (CookedAs (value_of kind.Str (chars piece.now))) }
@@ -55,7 +55,7 @@ fn cook_string(alloc: Global, piece: &str) -> Result<Cooked, NoMemory>
     Ok(Cooked::Str(value))
 }
 
-/// The value of a raw string, unless it has a suffix.
+/// The value of a raw string literal, unless it has a suffix.
 fn cook_raw(alloc: Global, piece: &str) -> Result<Cooked, NoMemory>
     requires { IsLiteral kind.RawStr (chars piece.now) }
     ensures { IfOk result (CookedAs (value_of kind.RawStr (chars piece.now))) }
@@ -68,14 +68,14 @@ fn cook_raw(alloc: Global, piece: &str) -> Result<Cooked, NoMemory>
     Ok(Cooked::Str(value))
 }
 
-/// Whether a string ends in a suffix: without one, it ends in a quote or a hash.
+/// Whether a string literal ends in a suffix: without one, it ends in a quote or a `#`.
 fn has_suffix(piece: &str) -> bool
     ensures { result ≡ not (ends_in_mark (chars piece.now)) }
 {
     !(ends_in('"', piece) || ends_in('#', piece))
 }
 
-/// Whether the text ends in this character.
+/// Whether the text ends with this ASCII character.
 fn ends_in(mark: char, s: &str) -> bool
     requires { mark < 128 }
     ensures { result ≡ ends (λ c. c == mark) (chars s.now) }

@@ -1,4 +1,4 @@
-//! The values of strings, from after their opening quote to their end.
+//! The values of string literals; the functions get the text after the opening quote.
 ghost use Rattle.std.specs.Prelude.{◌≡◌, ◌≢◌, ◌≤◌, ◌<◌, ◌∷◌, ◌++◌, [], length, IsTrue, OnOk, encode_utf8_all, option_to_list};
 ghost use Rattle.std.specs.Str.{chars};
 ghost use Rattle.std.specs.Char.{is_ascii_hexdigit};
@@ -11,7 +11,7 @@ ghost use Rattle.lay_cook.specs.Steps.{Closes, Reads, is_unmarked};
 use lay_token::piece::chars::{CharSet, behind, first};
 use lay_token::{NoMemory, Text};
 
-/// Adds the value of a string to a text.
+/// Appends the value of a string literal to a text.
 pub fn push_value(value: &mut Text, inside: &str) -> Result<(), NoMemory>
     requires { Closes Plain (chars inside.now) }
     ensures { OnOk result (value.new ≡ value.old
@@ -32,7 +32,7 @@ pub fn push_value(value: &mut Text, inside: &str) -> Result<(), NoMemory>
     }
 }
 
-/// The characters at the beginning that stand for themselves, and what follows them.
+/// The leading characters that stand for themselves, and the text after them.
 fn run(s: &str) -> (&[u8], &str)
     ensures run { result.0.now ≡ encode_utf8_all (front is_unmarked (chars s.now)) }
     ensures rest { chars result.1.now ≡ after is_unmarked (chars s.now) }
@@ -42,7 +42,7 @@ fn run(s: &str) -> (&[u8], &str)
     (&s.as_bytes()[..s.len() - rest.len()], rest)
 }
 
-/// What follows the characters at the beginning that stand for themselves.
+/// The text after the leading characters that stand for themselves.
 fn after_run(s: &str) -> &str
     ensures run { chars result.now ≡ after is_unmarked (chars s.now) }
     ensures shorter { length result.now ≤ length s.now }
@@ -57,7 +57,7 @@ fn after_run(s: &str) -> &str
     rest
 }
 
-/// Adds what an escape stands for.
+/// Appends the character that an escape stands for, if it stands for one.
 fn push_escaped(value: &mut Text, escaped: Option<char>) -> Result<(), NoMemory>
     ensures { OnOk result (value.new ≡ value.old ++ encode_utf8_all (option_to_list escaped)) }
 {
@@ -67,8 +67,8 @@ fn push_escaped(value: &mut Text, escaped: Option<char>) -> Result<(), NoMemory>
     }
 }
 
-/// The character that an escape stands for, after its backslash, and what follows it. A skipped line end stands
-/// for none.
+/// The character that an escape stands for, and the text after it; `s` follows the backslash. An
+/// escaped line end stands for no character.
 fn escape(s: &str) -> (Option<char>, &str)
     requires { Closes Turned (chars s.now) }
     ensures value { Reads Turned (chars s.now) (option_to_list result.0) (chars result.1.now) }
@@ -89,7 +89,7 @@ fn escape(s: &str) -> (Option<char>, &str)
     }
 }
 
-/// The character that an escape of one letter or mark stands for.
+/// The character that an escape of one letter or mark stands for, as `\n`.
 fn short_escape(c: char) -> char
     requires { IsTrue (is_short_escape of.Chars c) }
     ensures { result ∷ [] ≡ short_escape c }
@@ -103,7 +103,7 @@ fn short_escape(c: char) -> char
     }
 }
 
-/// The character of the two digits after `\x`, and what follows them.
+/// The character of the two digits after `\x`, and the text after them.
 fn byte_value(s: &str) -> (char, &str)
     requires { Closes (Escape Hex) (chars s.now) }
     ensures value { Reads (Escape Hex) (chars s.now) (result.0 ∷ []) (chars result.1.now) }
@@ -114,7 +114,7 @@ fn byte_value(s: &str) -> (char, &str)
     ((16 * digit(high) + digit(low)) as char, rest)
 }
 
-/// The character of the digits after `\u`, and what follows their closing brace.
+/// The character of the digits after `\u`, and the text after their closing brace.
 fn char_value(s: &str) -> (char, &str)
     requires { Closes (Escape Open) (chars s.now) }
     ensures value { Reads (Escape Open) (chars s.now) (result.0 ∷ []) (chars result.1.now) }
@@ -147,7 +147,7 @@ fn digit(c: char) -> u8
     }
 }
 
-/// The first character of a text that has one, and what follows it.
+/// The first character of a text that isn't empty, and the text after it.
 pub fn next(s: &str) -> (char, &str)
     requires { chars s.now ≢ [] }
     ensures parts { chars s.now ≡ result.0 ∷ chars result.1.now }

@@ -1,11 +1,12 @@
-//! Where a window may end.
+//! Where a window of tokens may end.
 ghost use Rattle.std.specs.Prelude.{IfSome, IsFalse, IsSome, IsTrue};
 ghost use Rattle.lay_lex.specs.Window.{ends_in_stop, is_end};
 
 use crate::window::Stop;
 use lay_token::{Delim, Kind, Token};
 
-/// Whether a window of so many tokens at least ends before the next token, where so many groups are open.
+/// Whether a window of at least `least` tokens may end before the token `next`, while `open` groups
+/// are open.
 #[inline]
 pub fn ends_before(
     least: Option<usize>,
@@ -25,7 +26,8 @@ pub fn ends_before(
     }
 }
 
-/// What a window ends after, if a window may end after the last token; this many groups were open before that token.
+/// Why a window ends after its last token, if it does. It does if `open`, the number of groups that are
+/// open before that token, is 0, and the token is the opening brace of a module or a closing brace.
 #[inline]
 pub fn ends_behind(least: Option<usize>, open: usize, tokens: &[Token]) -> Option<Stop>
     ensures stops { IsSome result → IsTrue (ends_in_stop tokens.now) }
@@ -49,7 +51,8 @@ pub fn open_behind(open: usize, kind: Kind) -> usize {
     }
 }
 
-/// Whether the last token is the opening brace of a module, or a closing brace.
+/// How a window ends after its last token, if that is the opening brace of a module or a closing
+/// brace.
 #[inline]
 fn ends_in_brace(tokens: &[Token]) -> Option<Stop>
     ensures stops { IsSome result → IsTrue (ends_in_stop tokens.now) }
@@ -77,7 +80,7 @@ fn ends_in_module(tokens: &[Token]) -> bool {
     }
 }
 
-/// Whether the last token may end an item, which goes on after it in few ways.
+/// Whether the last token may end an item: it is a `}` or a `;`.
 fn ends_item(tokens: &[Token]) -> bool
     ensures { IsTrue result → IsTrue (ends_in_stop tokens.now) }
 {
@@ -91,7 +94,7 @@ fn ends_item(tokens: &[Token]) -> bool
     }
 }
 
-/// Whether the piece begins an item, and goes on with none.
+/// Whether the piece may begin an item and can't go on with one after a `}`.
 fn begins_item(kind: Kind, piece: &str) -> bool {
     match kind {
         Kind::Ident => !matches!(piece.as_bytes(), b"else" | b"as" | b"where"),

@@ -1,4 +1,4 @@
-//! The ends of texts, and texts without them.
+//! A text without its first or last characters.
 ghost use Rattle.std.specs.Prelude.{◌≡◌, ◌<◌, ◌-◌, ◌==◌, ◌∷◌, [], length, take, drop, encode_utf8_all, MatchOption, IfSome};
 ghost use Rattle.std.specs.List.{list_any};
 ghost use Rattle.std.specs.Str.{chars};
@@ -27,7 +27,7 @@ pub fn before_last(s: &str) -> &str
     }
 }
 
-/// The bytes of the text without this ASCII character at its end, as often as it stands there.
+/// The bytes of the text without this ASCII character at its end, however often it stands there.
 pub fn without_end(byte: u8, s: &str) -> &[u8]
     requires { byte < 128 }
     ensures { result.now ≡ encode_utf8_all (without_end byte (chars s.now)) }

@@ -9,7 +9,8 @@ ghost use Rattle.lay_lex.specs.Gap.{depth, in_comment, in_gap, open_around, rest
 
 use lay_token::piece::chars::first;
 
-/// White space (Rust Reference, "Whitespace"). Most characters are a blank or can be seen, and are told first.
+/// Whether the character is white space (Rust Reference, "Whitespace"). Blanks and printable ASCII
+/// are tested first.
 #[inline]
 #[tactic(auto, using(crate::proofs::Gaps::graphic_stays))]
 pub fn is_white(c: char) -> bool
@@ -18,7 +19,7 @@ pub fn is_white(c: char) -> bool
     c == ' ' || (!c.is_ascii_graphic() && is_rare_white(c))
 }
 
-/// White space, of a character that is no blank.
+/// Whether a character other than a blank is white space.
 fn is_rare_white(c: char) -> bool
     requires { c ≢ 32 }
     ensures { result ≡ is_white c }
@@ -29,7 +30,7 @@ fn is_rare_white(c: char) -> bool
     )
 }
 
-/// How far a gap is read.
+/// The state within a gap.
 #[derive(Clone, Copy)]
 enum State {
     /// Between comments.
@@ -48,11 +49,11 @@ enum State {
     BlockStar,
     /// In a plain block comment.
     Within(InBlock),
-    /// In what is no gap.
+    /// Not inside white space or a comment.
     Spoilt,
 }
 
-/// How far a block comment is read, within so many more.
+/// The state within a block comment; the number counts the comments that are open around this one.
 #[derive(Clone, Copy)]
 enum InBlock {
     Deep(usize),
@@ -63,7 +64,7 @@ enum InBlock {
 }
 
 impl State {
-    /// After one more character.
+    /// The state after one more character.
     #[tactic(auto, unfolding(lay_piece::specs::Gap::gap_step, lay_piece::specs::Quoted::block_step))]
     fn step(self, c: char) -> State
         requires { depth self < 2 ^ 63 }
@@ -110,7 +111,7 @@ impl State {
         }
     }
 
-    /// Whether a text may end there.
+    /// Whether a text may end in this state.
     fn may_end(self) -> bool
         ensures { result ≡ is_closed_or_line (in_gap self) }
     {
@@ -124,7 +125,7 @@ impl State {
 }
 
 impl InBlock {
-    /// After one more character.
+    /// The state after one more character.
     #[tactic(auto, unfolding(lay_piece::specs::Quoted::block_step))]
     fn step(self, c: char) -> State
         requires { open_around self < 2 ^ 63 }
@@ -148,7 +149,7 @@ impl InBlock {
         }
     }
 
-    /// After a character that goes with none before it.
+    /// The state after a character that makes no token with the one before it.
     fn lone(more: usize, c: char) -> State
         ensures moved { in_gap result ≡ in_block (deep_step more c) }
         ensures same_depth { depth result ≡ more }
@@ -161,7 +162,7 @@ impl InBlock {
     }
 }
 
-/// What follows the longest gap at the beginning; nothing where a gap ends the whole text.
+/// The text after the longest gap at the beginning; `None` if a gap reaches the end of the text.
 #[inline(always)]
 pub fn after_gap(s: &str) -> Option<&str>
     ensures { Leaves (rest_of Outside (chars s.now) (chars s.now)) result }
@@ -179,7 +180,8 @@ pub fn after_gap(s: &str) -> Option<&str>
     None
 }
 
-/// What follows the longest gap at the beginning, which may hold comments.
+/// The text after the longest gap at the beginning, which may hold comments; `None` if it reaches
+/// the end.
 fn after_comments(s: &str) -> Option<&str>
     ensures { Leaves (rest_of Outside (chars s.now) (chars s.now)) result }
 {

@@ -1,4 +1,4 @@
-//! The tokens of a text.
+//! Lexing: the tokens of a text.
 ghost use Rattle.std.specs.Prelude.{◌≡◌, ◌⊎◌, ℕ, List as Items, ◌++◌, IfOk, IsUtf8};
 ghost use Rattle.std.specs.Str.{chars, IsCharBoundary};
 ghost use Rattle.lay_token.specs.Lexes.{Lexes, NoTokenAt, size};
@@ -14,9 +14,9 @@ use crate::window::{Stop, Window};
 use lay_token::{FormatError, List, Refusal, Token, piece_at};
 use std::alloc::Global;
 
-/// The tokens of a text, from its start on (Rust Reference, "Lexical structure").
+/// Lexes a text from where its shebang line ends (Rust Reference, "Lexical structure").
 ///
-/// It refuses the first place past gaps where no token is had.
+/// The only syntax error is `NoToken`, at the first place after a gap where no token begins.
 pub fn lex(alloc: Global, source: &Source) -> Result<List<Token>, FormatError>
     requires text { IsUtf8 source.now.text }
     requires border { IsCharBoundary source.now.text source.now.start }
@@ -31,7 +31,7 @@ pub fn lex(alloc: Global, source: &Source) -> Result<List<Token>, FormatError>
     tokens_of(alloc, text, source.start)
 }
 
-/// The tokens of a text from this place on.
+/// The tokens of a text from the byte `start` on.
 fn tokens_of(alloc: Global, text: &str, start: usize) -> Result<List<Token>, FormatError>
     requires { IsCharBoundary text.now start }
     ensures { LexedAs text.now start result }
@@ -42,11 +42,13 @@ fn tokens_of(alloc: Global, text: &str, start: usize) -> Result<List<Token>, For
     }
 }
 
-/// The tokens of a text from a place on, and how far they go: to the end, or, after so many tokens at least, to where an item
-/// may end and another begin outside all groups. They end after the opening brace of a module too, and after a closing
-/// brace that is the partner of none of them.
+/// Lexes a window: the tokens of a text from the byte `start` on, and where they end. They end at
+/// the end of the text; or, after at least `least` tokens, where one item may end and another begin
+/// outside all groups; or after the opening brace of a module, or after a closing brace whose
+/// opener isn't among them.
 ///
-/// It refuses the first place past gaps where no token is had, if it comes to that.
+/// The only syntax error is `NoToken`, at the first place after a gap where no token begins, if
+/// lexing gets there.
 pub fn lex_window(
     alloc: Global,
     text: &str,
@@ -59,7 +61,7 @@ pub fn lex_window(
     window_of(alloc, text, start, Some(least))
 }
 
-/// The tokens of a text from this place on: all of them, or those of a window.
+/// The tokens of a text from the byte `start` on: all of them, or those of a window.
 fn window_of(
     alloc: Global,
     text: &str,
@@ -100,7 +102,7 @@ fn window_of(
     Ok(tokens.window(Stop::End, text.len()))
 }
 
-/// The tokens for which room is taken at once, where so many bytes are ahead.
+/// For how many tokens memory is allocated at once, if `ahead` bytes are left.
 fn room(least: Option<usize>, ahead: usize) -> usize {
     match least {
         Some(least) => least.saturating_add(least / 4).min(ahead),
@@ -108,7 +110,7 @@ fn room(least: Option<usize>, ahead: usize) -> usize {
     }
 }
 
-/// The characters that take so many bytes, and what follows them.
+/// The first `len` bytes of a text, and the text after them.
 pub fn cut(s: &str, len: usize) -> (&str, &str)
     requires { (piece : Items ℕ) × (more : Items ℕ) × (chars s.now ≡ piece ++ more)
         × (len ≡ size piece) }

@@ -1,4 +1,4 @@
-//! What is lexed of an input.
+//! From an input to the text that is lexed.
 ghost use Rattle.std.specs.Prelude.{◌≡◌, ◌==◌, codes, true, false, IfOk, IsUtf8, encode_utf8_all};
 ghost use Rattle.std.specs.List.{list_any};
 ghost use Rattle.std.specs.Str.{chars, IsCharBoundary};
@@ -12,19 +12,19 @@ use lay_token::piece::chars::first;
 use lay_token::{FormatError, List, NoMemory, Refusal, Text};
 use std::alloc::Global;
 
-/// What is lexed of an input.
+/// An input, prepared for lexing.
 #[derive(Debug, Drop)]
 pub struct Source {
-    /// The shebang line, without the LF that ends it and without CRs before that.
+    /// The shebang line, without the LF that ends it and without any CR before that.
     pub shebang: Option<Text>,
-    /// The whole text, without a byte order mark and with each CR LF as one LF.
+    /// The whole text, without a byte order mark and with one LF for each CR LF.
     pub text: List<u8>,
-    /// Where lexing begins, after a shebang line.
+    /// The byte offset where lexing begins: after the shebang line.
     pub start: usize,
 }
 
 impl Source {
-    /// The whole text.
+    /// The whole text, as a `str`.
     pub fn as_str(&self) -> &str
         requires { IsUtf8 self.now.text }
         ensures { result.now ≡ self.now.text }
@@ -33,7 +33,8 @@ impl Source {
     }
 }
 
-/// What is lexed of an input (Rust Reference, "Input format"). Bytes that are no UTF-8 are refused.
+/// Prepares an input for lexing (Rust Reference, "Input format"). The only syntax error is
+/// `NotUtf8`.
 pub fn normalise(alloc: Global, bytes: &[u8]) -> Result<Source, FormatError>
     ensures answer { Answers (source bytes.now) result }
     // The text can be lexed from its start on.
@@ -53,7 +54,7 @@ pub fn normalise(alloc: Global, bytes: &[u8]) -> Result<Source, FormatError>
     }
 }
 
-/// What is lexed of a text.
+/// Prepares a text for lexing.
 fn source_of(alloc: Global, s: &str) -> Result<Source, NoMemory>
     ensures { IfOk result (λ given. seen given ≡ source_of (folded (without_mark (chars s.now)))) }
 {
@@ -67,7 +68,7 @@ fn source_of(alloc: Global, s: &str) -> Result<Source, NoMemory>
     })
 }
 
-/// The text without a byte order mark at its start.
+/// The text without a byte order mark at its beginning.
 fn without_mark(s: &str) -> &str
     ensures { chars result.now ≡ without_mark (chars s.now) }
 {
@@ -77,7 +78,7 @@ fn without_mark(s: &str) -> &str
     }
 }
 
-/// The text with each CR LF as one LF.
+/// The text with one LF for each CR LF.
 fn folded(alloc: Global, s: &str) -> Result<Vec<u8>, NoMemory>
     ensures { IfOk result (λ text. (text.items ≡ encode_utf8_all (folded (chars s.now)))
         × (chars text.items ≡ folded (chars s.now)) × IsUtf8 text.items) }
@@ -114,7 +115,7 @@ fn begins_line_feed(bytes: &[u8]) -> bool
     }
 }
 
-/// The shebang of a text, and where lexing begins.
+/// The shebang line of a text, if it has one, and the byte offset where lexing begins.
 fn shebang(alloc: Global, text: &str) -> Result<(Option<Text>, usize), NoMemory>
     ensures { IfOk result (λ given. (given.0 ≡ (source_of (chars text.now)).shebang)
         × (given.1 ≡ (source_of (chars text.now)).start)) }
@@ -135,7 +136,8 @@ fn shebang(alloc: Global, text: &str) -> Result<(Option<Text>, usize), NoMemory>
     Ok((Some(shebang), start))
 }
 
-/// Whether the text begins with `#!`. Of others no line is looked for, which may be all of the text.
+/// Whether the text begins with `#!`. If it doesn't, no line end is searched, which might be far
+/// away.
 fn begins_shebang(text: &str) -> bool
     ensures { result ≡ behind false (codes "#!") (λ _. true) (chars text.now) }
 {
@@ -155,7 +157,7 @@ fn first_line(s: &str) -> &str
     &s[..s.len() - after_line(s).len()]
 }
 
-/// What follows the first line, from the LF on that ends it.
+/// The text after the first line, with the LF that ends the line.
 fn after_line(s: &str) -> &str
     ensures { chars result.now ≡ after is_in_line (chars s.now) }
 {
@@ -182,7 +184,7 @@ fn is_shebang(line: &str) -> bool
     }
 }
 
-/// Whether nothing stands there, or what begins an attribute or a comment.
+/// Whether the text is empty, or begins an attribute or a comment.
 fn is_no_command(s: &str) -> bool
     ensures { result ≡ is_no_command (chars s.now) }
 {
@@ -196,7 +198,7 @@ fn is_no_command(s: &str) -> bool
     }
 }
 
-/// What follows the white space at the beginning.
+/// The text after the leading white space.
 fn after_white(s: &str) -> &str
     ensures { chars result.now ≡ after is_white (chars s.now) }
 {

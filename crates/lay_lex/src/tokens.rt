@@ -1,4 +1,4 @@
-//! The tokens of pieces.
+//! From pieces to tokens: their texts, and which tokens are joint.
 ghost use Rattle.std.specs.Prelude.{◌≡◌, ◌&&◌, ◌<◌, Bool, codes, cond, if◌then◌else◌, true, false, length, vec_len, vec_capacity, IfOk, OnOk, encode_utf8_all};
 ghost use Rattle.std.specs.Str.{bytes_eq, chars};
 ghost use Rattle.lay_token.specs.Lexes as lexes;
@@ -10,19 +10,20 @@ use crate::window::{Stop, Window};
 use lay_token::{Kind, List, NoMemory, Text, Token};
 use std::alloc::Global;
 
-/// What stands before a place.
+/// What stands before a place, as far as it decides whether a number there may be a tuple index.
 #[derive(Clone, Copy, Debug, PartialEq, Eq)]
 pub enum Before {
     /// Anything but a point, or nothing.
     Other,
     /// A point.
     Point,
-    /// A point after a joint point.
+    /// A point that is joint with a point before it.
     Points,
 }
 
 impl Before {
-    /// What follows punctuation, which is a point or isn't; `touches` says that no gap stands before it.
+    /// The state after punctuation; `point` says that it is a point, `touches` that no gap stands
+    /// before it.
     pub fn behind(self, point: bool, touches: bool) -> Before
         ensures { before result ≡ cond point (cond
             (is_point (before self) && touches) lexes.Points lexes.Point) lexes.Other }
@@ -51,7 +52,7 @@ fn is_separator(bytes: &[u8]) -> bool
     matches!(bytes, b"," | b";")
 }
 
-/// The token of a piece, which is not joint.
+/// The token of a piece. It is not joint.
 fn token_of(alloc: Global, kind: Kind, piece: &str, at: usize) -> Result<Token, NoMemory>
     ensures { IfOk result (λ token. token ≡ token_of at kind (chars piece.now)) }
 {
@@ -65,7 +66,7 @@ fn token_of(alloc: Global, kind: Kind, piece: &str, at: usize) -> Result<Token, 
     })
 }
 
-/// The text of a token of this piece.
+/// The text of the token that a piece makes.
 #[inline(always)]
 pub fn text_of_piece(kind: Kind, piece: &str) -> &[u8]
     ensures { result.now ≡ encode_utf8_all (text_of_piece kind (chars piece.now)) }
@@ -77,7 +78,7 @@ pub fn text_of_piece(kind: Kind, piece: &str) -> &[u8]
     }
 }
 
-/// What documentation says.
+/// The text of documentation, without its marks.
 fn doc_text(block: bool, piece: &str) -> &[u8]
     ensures { result.now ≡ encode_utf8_all (doc_text block (chars piece.now)) }
 {
@@ -89,7 +90,7 @@ fn doc_text(block: bool, piece: &str) -> &[u8]
     }
 }
 
-/// What stands within the marks of documentation.
+/// What stands between the marks of documentation.
 fn within(block: bool, piece: &str) -> &str
     ensures { chars result.now ≡ within block (chars piece.now) }
 {
@@ -101,14 +102,14 @@ fn within(block: bool, piece: &str) -> &str
     }
 }
 
-/// Whether what may be joint is joint with what follows it.
+/// Whether a token is joint with the next: both are punctuation, and no gap stands between them.
 fn is_joint(mark: bool, next: bool, touches: bool) -> bool
     ensures { result ≡ (touches && next && mark) }
 {
     touches && next && mark
 }
 
-/// Makes the last of the tokens joint, if it is joint with what follows.
+/// Makes the last token joint, if `joint`.
 fn join_last(tokens: &mut Vec<Token>, joint: bool)
     requires { joint ≡ true → 0 < length tokens.old.items }
     ensures items { tokens.new.items ≡ (if joint then last_joint tokens.old.items else tokens.old.items) }
@@ -121,22 +122,22 @@ fn join_last(tokens: &mut Vec<Token>, joint: bool)
     }
 }
 
-/// The tokens read so far. The next tells whether the last of them is joint.
+/// The tokens that were lexed so far. Whether the last of them is joint depends on the next.
 #[derive(Drop)]
 pub struct Tokens {
     read: Vec<Token>,
     before: Before,
-    /// Whether the last token may be joint.
+    /// Whether the last token may be joint with the next.
     mark: bool,
     ghost last: { mark ≡ ends_in_mark read.items },
-    // It isn't so far.
+    // The last token isn't joint yet.
     ghost apart: { ends_joint read.items ≡ false },
 }
 
 impl Tokens {
     ghost use Rattle.lay_lex.specs.Tokens.{Adds, IsBegun, so_far};
 
-    /// No tokens, before the first place, and room for so many.
+    /// No tokens, at the beginning of a text, with memory for `room` of them.
     pub fn new(alloc: Global, room: usize) -> Result<Tokens, NoMemory>
         ensures { IfOk result IsBegun }
     {
@@ -147,14 +148,14 @@ impl Tokens {
         })
     }
 
-    /// Whether a number after the tokens may be an index.
+    /// Whether a number after the tokens may be a tuple index.
     pub fn is_index_place(&self) -> bool
         ensures { result ≡ is_index_place (before self.now.before) }
     {
         self.before == Before::Point
     }
 
-    /// Adds the token of a piece; `touches` says that no gap stands before it.
+    /// Appends the token of a piece; `touches` says that no gap stands before it.
     pub fn add(
         &mut self,
         alloc: Global,
@@ -173,7 +174,7 @@ impl Tokens {
         }
     }
 
-    /// Adds a token that is no punctuation, and so is joint with nothing.
+    /// Appends a token that is no punctuation, and so is joint with nothing.
     fn push(&mut self, token: Token) -> Result<(), NoMemory>
         requires kind { is_punct token.kind ≡ false }
         requires apart { token.joint ≡ false }
@@ -185,7 +186,7 @@ impl Tokens {
         Ok(())
     }
 
-    /// Adds punctuation with this text, which is not joint.
+    /// Appends punctuation with this text. It is not joint yet.
     fn push_punct(&mut self, token: Token, text: &[u8], touches: bool) -> Result<(), NoMemory>
         requires kind { is_punct token.kind ≡ true }
         requires text { token.text ≡ text.now }
@@ -210,7 +211,7 @@ impl Tokens {
         self.read.as_slice()
     }
 
-    /// All the tokens, as a window that ends there.
+    /// A window of all the tokens, which ends at the byte `end` for the reason `stop`.
     pub fn window(self, stop: Stop, end: usize) -> Window
         ensures { result ≡ record { tokens = so_far self; stop = stop; end = end } }
     {

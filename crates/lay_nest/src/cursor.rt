@@ -1,4 +1,4 @@
-//! A walk over nested tokens.
+//! A cursor over nested tokens.
 ghost use Rattle.std.specs.Prelude.{◌≡◌, ◌↔◌, ◌<◌, ◌≤◌, ◌++◌, ◌∷◌, List, IsTrue, length, drop, slice_get, option_copied, MatchOption};
 ghost use Rattle.lay_token.specs.Operators.{is_op};
 ghost use Rattle.lay_nest.specs.Ahead.{SpannedAhead};
@@ -9,11 +9,12 @@ use crate::operator::is_op;
 use lay_token::{Kind, Token};
 use std::marker::Model;
 
-/// A place in the tokens, seen as the list of the tokens ahead. It takes no memory.
+/// A cursor over tokens. Contracts see it as the list of the tokens ahead. It allocates nothing.
 #[derive(Debug, Drop)]
 pub struct Cursor<'a> {
     tokens: &'a [Token],
-    /// Of each token ahead, if it is an opener, how many tokens stand between it and its partner, and else 0.
+    /// For each token ahead: the number of tokens between it and its partner if it is an opener,
+    /// else 0.
     spans: &'a [usize],
 }
 
@@ -30,7 +31,8 @@ impl<'a> Model for Cursor<'a> {
 }
 
 impl<'a> Cursor<'a> {
-    /// A cursor before the first of these tokens, which have these spans.
+    /// A cursor before the first of these tokens; `spans` has the distance of each opener to its
+    /// partner.
     pub(crate) fn new(tokens: &'a [Token], spans: &'a [usize]) -> Cursor<'a>
         requires { SpannedAhead tokens.now spans.now }
         ensures { result ≡ tokens.now }
@@ -48,7 +50,7 @@ impl<'a> Cursor<'a> {
         }
     }
 
-    /// The token after this many others, or `None` where no more than so many are ahead.
+    /// The token after `ahead` others, or `None` if there is none.
     pub fn peek(&self, ahead: usize) -> Option<&'a Token>
         ensures token { option_copied result ≡ slice_get self.now ahead }
         ensures within { MatchOption result (length self.now ≤ ahead)
@@ -64,14 +66,16 @@ impl<'a> Cursor<'a> {
         self.tokens.is_empty()
     }
 
-    /// Whether the operator at the beginning is this one (Rust Reference, "Punctuation").
+    /// Whether the next tokens are this operator: the longest that they begin with (Rust Reference,
+    /// "Punctuation").
     pub fn op_is(&self, op: &[u8]) -> bool
         ensures { result ≡ is_op op.now self.now }
     {
         is_op(self.tokens, op)
     }
 
-    /// Moves past one token, past an opener alone too. The closer of that is then ahead as any other token.
+    /// Moves past one token. Past an opener it moves into the group, whose closer is then ahead as
+    /// any other token.
     pub fn step(&mut self)
         requires { 0 < length self.old }
         ensures { self.new ≡ drop 1 self.old }
@@ -80,7 +84,7 @@ impl<'a> Cursor<'a> {
         self.spans = behind_first(self.spans);
     }
 
-    /// Moves past the group at the beginning, and gives what is inside its delimiters.
+    /// Moves past the next group, and gives a cursor over what is between its delimiters.
     pub fn group(&mut self) -> Cursor<'a>
         requires { IsTrue (begins_group self.old) }
         ensures { Grouped self.old result self.new }
@@ -93,8 +97,8 @@ impl<'a> Cursor<'a> {
         Cursor { tokens, spans }
     }
 
-    /// Moves past the token tree at the beginning, and gives its tokens: one token, or a group with its delimiters
-    /// (Rust Reference, "Macros": token trees).
+    /// Moves past the next token tree and gives its tokens: one token, or a group with its
+    /// delimiters (Rust Reference, "Macros": token trees).
     pub fn tree(&mut self) -> &'a [Token]
         requires { IsTrue (begins_tree self.old) }
         ensures whole { self.old ≡ result.now ++ self.new }
@@ -106,7 +110,7 @@ impl<'a> Cursor<'a> {
         &tokens[..tokens.len() - self.as_slice().len()]
     }
 
-    /// Moves past the token tree at the beginning.
+    /// Moves past the next token tree.
     fn pass_tree(&mut self)
         requires { IsTrue (begins_tree self.old) }
         ensures { BehindTree self.old self.new }
@@ -133,7 +137,7 @@ fn is_opener(token: &Token) -> bool
     matches!(token.kind, Kind::Opener(_))
 }
 
-/// What follows the first item.
+/// The items without the first.
 fn behind_first<T>(items: &[T]) -> &[T]
     requires { 0 < length items.now }
     ensures { result.now ≡ drop 1 items.now }
@@ -141,7 +145,8 @@ fn behind_first<T>(items: &[T]) -> &[T]
     &items[1..]
 }
 
-/// What stands between the delimiters of the group at the beginning, which has this span, and what follows it.
+/// The items between the delimiters of the leading group, which has this span, and the items after
+/// the group.
 fn split_group<T>(items: &[T], span: usize) -> (&[T], &[T])
     requires { (opener closer : T) × (inside : List T) × (behind : List T)
         × (items.now ≡ opener ∷ (inside ++ closer ∷ behind)) × (span ≡ length inside) }

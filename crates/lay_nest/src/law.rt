@@ -1,10 +1,11 @@
-//! The laws of delimiters.
+//! The theorem about balanced delimiters.
 ghost use Rattle.std.specs.Prelude.{◌≡◌, ◌++◌, ◌∷◌, ℕ, List, IsTrue};
 ghost use Rattle.lay_token.specs.Delimiters.{Balanced, UnbalancedAt, is_closer};
 ghost use Rattle.lay_token.specs.declared.token.Token.{Token};
 
-/// Tokens are unbalanced at one place at most, and never balanced too; and what stands before the first closer
-/// without an opener of its own is one (Rust Reference, "Macros": token trees).
+/// Tokens are unbalanced at one place at most, and then not balanced. If a list begins with
+/// balanced tokens and then a closer, there is only one such place in it (Rust Reference, "Macros":
+/// token trees). (No code runs.)
 pub fn nesting_law()
     ensures one_place { (tokens : List Token) (at other : ℕ)
         → UnbalancedAt tokens at → UnbalancedAt tokens other → at ≡ other }

@@ -1,4 +1,4 @@
-//! Balanced tokens, and the partner of each delimiter.
+//! Balanced tokens, with the partner of each delimiter.
 ghost use Rattle.std.specs.Prelude.{◌≡◌, ◌⊎◌, ℕ, Ok, Err};
 ghost use Rattle.lay_text.specs.declared.refusal.Refusal.TheVariants as refusal;
 ghost use Rattle.lay_token.specs.Delimiters.{Balanced, UnbalancedAt};
@@ -10,11 +10,11 @@ use lay_token::{FormatError, List, Token};
 use std::alloc::Global;
 use std::marker::Model;
 
-/// Tokens whose delimiters are balanced, and each delimiter's partner. Contracts see the tokens alone.
+/// Tokens whose delimiters are balanced, with the partner of each. Contracts see the tokens only.
 #[derive(Debug, Drop)]
 pub struct Nested {
     tokens: List<Token>,
-    /// Of each token, if it is an opener, how many tokens stand between it and its partner, and else 0.
+    /// For each token: the number of tokens between it and its partner if it is an opener, else 0.
     spans: List<usize>,
 }
 
@@ -40,10 +40,10 @@ impl Nested {
     }
 }
 
-/// The tokens with each delimiter's partner (Rust Reference, "Macros": token trees).
+/// Finds the partner of each delimiter (Rust Reference, "Macros": token trees).
 ///
-/// It refuses the place of the first closer that isn't the partner of the last opener still open; with no such
-/// closer, that of the last opener left open.
+/// The only syntax error is `Unbalanced`, at the first closer that isn't the partner of the last
+/// opener that is open; without such a closer, at the last opener that is never closed.
 pub fn nest(alloc: Global, tokens: List<Token>) -> Result<Nested, FormatError>
     ensures answer { NestedAs tokens result }
     ensures balanced { Balanced tokens → (result ≡ Ok tokens)

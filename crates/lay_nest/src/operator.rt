@@ -1,4 +1,4 @@
-//! The operator at the beginning of tokens.
+//! Which operator the next tokens are.
 ghost use Rattle.std.specs.Prelude.{◌≡◌, true, ◌&&◌, ◌∷◌, []};
 ghost use Rattle.std.specs.Str.{bytes_eq};
 ghost use Rattle.lay_token.specs.Lexes.{is_punct};
@@ -8,7 +8,7 @@ ghost use Rattle.lay_nest.specs.Marks.{first_mark, is_same_first, mark, may_begi
 
 use lay_token::{Kind, Token};
 
-/// Whether the operator at the beginning of the tokens is this one: the longest that they begin with (Rust Reference,
+/// Whether the tokens begin with this operator, and with no longer one (Rust Reference,
 /// "Punctuation").
 pub fn is_op(tokens: &[Token], op: &[u8]) -> bool
     ensures { result ≡ is_op op.now tokens.now }
@@ -19,7 +19,8 @@ pub fn is_op(tokens: &[Token], op: &[u8]) -> bool
     }
 }
 
-/// Whether the operator may begin with the token: it is punctuation, and their first characters are the same.
+/// Whether the operator may begin with the token: the token is punctuation, and their first
+/// characters are equal.
 fn may_begin(token: &Token, op: &[u8]) -> bool
     ensures { result ≡ may_begin token.now op.now }
 {
@@ -29,7 +30,7 @@ fn may_begin(token: &Token, op: &[u8]) -> bool
     }
 }
 
-/// Whether two texts have the same first byte, or neither has any.
+/// Whether two texts have the same first byte, or both are empty.
 fn is_same_first(text: &[u8], op: &[u8]) -> bool
     ensures { result ≡ is_same_first text.now op.now }
 {
@@ -40,7 +41,7 @@ fn is_same_first(text: &[u8], op: &[u8]) -> bool
     }
 }
 
-/// Whether the operator at the beginning of the tokens is this one.
+/// Whether the tokens `front` and then `behind` begin with this operator, and with no longer one.
 #[inline(never)]
 fn is_begun(front: &Token, behind: &[Token], op: &[u8]) -> bool
     ensures { result ≡ is_op op.now (front.now ∷ behind.now) }
@@ -52,7 +53,7 @@ fn is_begun(front: &Token, behind: &[Token], op: &[u8]) -> bool
     }
 }
 
-/// Whether the longest operator that begins with a joint token is this one.
+/// Whether the longest operator that begins with the joint token `front` is this one.
 fn is_longest(front: &Token, behind: &[Token], op: &[u8]) -> bool
     requires { front.now.joint ≡ true }
     ensures { result ≡ is_op op.now (front.now ∷ behind.now) }
@@ -69,7 +70,7 @@ fn is_longest(front: &Token, behind: &[Token], op: &[u8]) -> bool
     }
 }
 
-/// Whether the token alone is this operator.
+/// Whether the token by itself is this operator.
 fn is_alone(token: &Token, op: &[u8]) -> bool
     ensures { result ≡ (is_punct token.now.kind && bytes_eq op.now token.now.text) }
 {
@@ -79,7 +80,7 @@ fn is_alone(token: &Token, op: &[u8]) -> bool
     }
 }
 
-/// The character of a token that is punctuation, and else 0.
+/// The character of a token that is punctuation, else 0.
 fn mark(token: &Token) -> u8
     ensures { result ≡ mark token.now }
 {
@@ -89,7 +90,7 @@ fn mark(token: &Token) -> u8
     }
 }
 
-/// The one byte of a text, or else 0.
+/// The only byte of a text that has one byte, else 0.
 fn one(text: &[u8]) -> u8
     ensures { result ≡ one text.now }
 {
@@ -117,7 +118,7 @@ fn second_mark(tokens: &[Token]) -> u8
     }
 }
 
-/// Whether the characters are an operator.
+/// Whether the three characters are an operator.
 fn is_three(first: u8, second: u8, third: u8) -> bool
     ensures { result ≡ is_among threes (first ∷ second ∷ third ∷ []) }
 {
@@ -131,7 +132,7 @@ fn is_three(first: u8, second: u8, third: u8) -> bool
     }
 }
 
-/// Whether the characters are an operator.
+/// Whether the two characters are an operator.
 fn is_two(first: u8, second: u8) -> bool
     ensures { result ≡ is_among twos (first ∷ second ∷ []) }
 {

@@ -1,4 +1,4 @@
-//! How far each opener is from its partner.
+//! The distance of each opener to its partner.
 ghost use Rattle.std.specs.Prelude.{◌≡◌, ◌+◌, ◌-◌, ◌<◌, ◌++◌, ◌∷◌, [], length, slice_set, slice_get, Some, IfOk, OnOk};
 ghost use Rattle.lay_token.specs.Delimiters.{is_opener, is_closer, is_pair};
 ghost use Rattle.lay_nest.specs.Partial.{SoFar, AddedAs};
@@ -7,7 +7,7 @@ ghost use Rattle.lay_nest.specs.Nested.{SpannedAs};
 use lay_token::{FormatError, Kind, List, NoMemory, Refusal, Token};
 use std::alloc::Global;
 
-/// Of each token, if it is an opener, how many tokens stand between it and its partner, and else 0.
+/// For each token: the number of tokens between it and its partner if it is an opener, else 0.
 pub fn spans_of(alloc: Global, tokens: &[Token]) -> Result<List<usize>, FormatError>
     ensures { SpannedAs tokens.now result }
 {
@@ -28,7 +28,7 @@ pub fn spans_of(alloc: Global, tokens: &[Token]) -> Result<List<usize>, FormatEr
     }
 }
 
-/// The token at this place.
+/// The token with this index.
 fn token_at(tokens: &[Token], place: usize) -> &Token
     requires { place < length tokens.now }
     ensures { slice_get tokens.now place ≡ Some result.now }
@@ -36,14 +36,14 @@ fn token_at(tokens: &[Token], place: usize) -> &Token
     &tokens[place]
 }
 
-/// The refusal of a delimiter that has no partner.
+/// The error for a delimiter that has no partner.
 fn unbalanced(token: &Token) -> FormatError
     ensures { result ≡ FormatError.Refused (Refusal.Unbalanced token.now.at) }
 {
     FormatError::Refused(Refusal::Unbalanced { at: token.at })
 }
 
-/// Whether the second is the partner of the first.
+/// Whether the kinds are an opener and the closer that matches it.
 fn is_pair(first: Kind, second: Kind) -> bool
     ensures { result ≡ is_pair first second }
 {
@@ -53,17 +53,17 @@ fn is_pair(first: Kind, second: Kind) -> bool
     }
 }
 
-/// The partners among the tokens read so far.
+/// The partners among the tokens that were read so far.
 #[derive(Drop)]
 struct Reading {
-    /// The spans of the tokens; of an opener that is still open, 0.
+    /// The spans of the tokens; 0 for an opener that is still open.
     spans: Vec<usize>,
-    /// Where the openers stand that are still open, the last one last.
+    /// The indices of the openers that are still open, the innermost last.
     places: Vec<usize>,
 }
 
 impl Reading {
-    /// Before the first of so many tokens.
+    /// The state before the first of `len` tokens.
     fn new(alloc: Global, len: usize) -> Result<Reading, NoMemory>
         ensures spans { IfOk result (λ reading. reading.spans.items ≡ []) }
         ensures places { IfOk result (λ reading. reading.places.items ≡ []) }
@@ -106,7 +106,7 @@ impl Reading {
         self.pass()
     }
 
-    /// Adds the partner of the opener at this place, which is no longer among the open ones.
+    /// Adds the closer of the opener with this index, which was taken from the open ones.
     fn close(&mut self, place: usize) -> Result<(), NoMemory>
         requires { place < length self.old.spans.items }
         ensures spans { OnOk result (self.new.spans.items

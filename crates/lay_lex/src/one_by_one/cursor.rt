@@ -1,4 +1,4 @@
-//! A place in a text, and the token that comes next.
+//! A cursor that lexes as it moves.
 ghost use Rattle.std.specs.Prelude.{◌≡◌, ◌≤◌, length};
 ghost use Rattle.std.specs.Str.{chars};
 ghost use Rattle.lay_piece.specs.Chars.{is_nil};
@@ -8,24 +8,24 @@ ghost use Rattle.lay_lex.specs.Added.{before as seen};
 use crate::{Before, after_gap, cut, is_point, text_of_piece};
 use lay_token::{Kind, piece_at};
 
-/// A token whose text is lent. It doesn't tell whether the next one is joint.
+/// A token that borrows its text. It doesn't say whether it is joint with the next one.
 #[derive(Clone, Copy, Debug)]
 pub struct Lexeme<'a> {
     pub kind: Kind,
-    /// The text that the token has: of a raw identifier without `r#`, and of documentation without its marks and the blanks at the
-    /// end of one line.
+    /// The text of the token: a raw identifier without its `r#`, and documentation without its
+    /// marks, of which a line has no blanks at its end either.
     pub text: &'a [u8],
-    /// Where the piece begins, in bytes of the text.
+    /// Where the piece begins: a byte offset in the text.
     pub at: usize,
-    /// The bytes of the piece.
+    /// The length of the piece in bytes.
     pub len: usize,
 }
 
-/// A place in a text, of which what is ahead is lexed as it is asked for.
+/// A place in a text. What is ahead is lexed token by token.
 #[derive(Clone, Copy, Debug)]
 pub struct Cursor<'a> {
     ahead: &'a str,
-    /// How many bytes the whole text has.
+    /// The length of the whole text in bytes.
     end: usize,
     before: Before,
     ghost within: { length ahead.now ≤ end },
@@ -38,7 +38,7 @@ impl<'a> Cursor<'a> {
     ghost use Rattle.lay_token.specs.declared.token.Token.{Token as TokenValue};
     ghost use Rattle.lay_lex.specs.one_by_one.Ahead.{IsNext, tokens_ahead};
 
-    /// The place in the text from which on it is lexed.
+    /// A cursor at the byte `start` of the text.
     pub fn new(text: &'a str, start: usize) -> Cursor<'a>
         requires { IsCharBoundary text.now start }
         ensures { (tokens : List TokenValue) → Lexes text.now start tokens
@@ -51,7 +51,8 @@ impl<'a> Cursor<'a> {
         }
     }
 
-    /// Goes past the next token and tells it; or nothing, where the text ends or no token is had.
+    /// Gives the next token and moves past it; `None` at the end of the text, or if no token begins
+    /// there.
     #[inline(always)]
     pub fn next(&mut self) -> Option<Lexeme<'a>>
         ensures { IsNext (tokens_ahead self.old) result (tokens_ahead self.new) }
@@ -72,7 +73,7 @@ impl<'a> Cursor<'a> {
     }
 }
 
-/// Whether a number may be an index.
+/// Whether a number here may be a tuple index.
 #[inline]
 fn is_index_place(before: Before) -> bool
     ensures { result ≡ is_index_place (seen before) }
@@ -80,7 +81,7 @@ fn is_index_place(before: Before) -> bool
     before == Before::Point
 }
 
-/// What follows a piece; `touches` says that no gap stands before it.
+/// What precedes the place after this piece; `touches` says that no gap stands before the piece.
 #[inline]
 fn behind_piece(before: Before, kind: Kind, piece: &str, touches: bool) -> Before
     ensures { (part : Part) → part.kind ≡ kind → part.piece ≡ chars piece.now
