@@ -28,7 +28,7 @@ impl Drop for Block {
 }
 
 impl Block {
-    /// The statements.
+    /// Takes the statements out of the block.
     pub fn into_stmts(self) -> List<Stmt>
         ensures { result ≡ self.stmts }
     {
@@ -40,7 +40,7 @@ impl Block {
 /// A statement (Rust Reference, "Statements").
 #[cycle(code)]
 pub enum Stmt {
-    /// `let a: B = c else { d };`, where `else` stands after a value alone
+    /// `let a: B = c else { d };`, with an `else` only after a value
     Let {
         attrs: List<Attr>,
         pat: Pat,
@@ -93,7 +93,7 @@ impl Drop for Stmt {
 }
 
 impl Stmt {
-    /// The expression, where it is one.
+    /// Takes the expression out of the statement, if it is one.
     pub fn into_expr(self) -> Option<Boxed<Expr>>
         ensures { result ≡ expr_of self }
     {
@@ -108,7 +108,8 @@ impl Stmt {
     }
 }
 
-/// A condition, and the block that it leads to (Rust Reference, "`if` and `if let` expressions").
+/// One `if` of a chain of them: a condition and its block (Rust Reference, "`if` and `if let`
+/// expressions").
 #[cycle(code)]
 pub struct Branch {
     pub condition: Condition,
@@ -125,7 +126,7 @@ impl Drop for Branch {
 }
 
 impl Branch {
-    /// Its condition and its block.
+    /// Takes the condition and the block out of the branch.
     pub fn into_parts(self) -> (Condition, Block)
         ensures { result ≡ (self.condition, self.body) }
     {

@@ -1,4 +1,4 @@
-//! Conditions: links with `&&` between them.
+//! Conditions, which may hold `let` links joined by `&&`.
 ghost use Rattle.std.specs.Prelude.{◌≡◌};
 
 use crate::drops::{discard_boxed, discard_links};
@@ -6,8 +6,9 @@ use crate::exprs::Expr;
 use lay_node::{Boxed, Pat};
 use lay_token::List;
 
-/// What decides a branch or a loop (Rust Reference, "`if` and `if let` expressions"): one link, or two or more with `&&` between
-/// them, at least one of which is a `let`. Expressions with `&&` between them are one link, a chain.
+/// The condition of an `if` or a `while` (Rust Reference, "`if` and `if let` expressions"): one
+/// link, or at least two links joined by `&&`, at least one of which is a `let`. Without a `let`,
+/// expressions joined by `&&` are one link: a `Chain`.
 #[cycle(code)]
 pub struct Condition {
     pub links: List<Link>,
@@ -22,7 +23,7 @@ impl Drop for Condition {
 }
 
 impl Condition {
-    /// The links.
+    /// Takes the links out of the condition.
     pub fn into_links(self) -> List<Link>
         ensures { result ≡ self.links }
     {
@@ -31,7 +32,7 @@ impl Condition {
     }
 }
 
-/// A part of a condition.
+/// A link of a condition.
 #[cycle(code)]
 pub enum Link {
     /// `a`

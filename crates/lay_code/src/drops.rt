@@ -1,7 +1,8 @@
-//! What is dropped with an expression, a block or an item: each node within it, down its tree.
+//! Dropping of trees: each node drops the nodes within it.
 //!
-//! What a pattern leaves would be dropped in line where its arm ends, over flags that tell what has moved. That code is dear to
-//! prove, so the nodes take themselves apart whole, and hand on each part.
+//! Parts that a pattern leaves unbound would be dropped where its match arm ends, guarded by drop
+//! flags. Such code is costly to prove. So each node is taken apart completely, and a function here
+//! drops each part.
 use crate::blocks::{Arm, Block, Branch, Stmt};
 use crate::conditions::Link;
 use crate::exprs::{Expr, FieldExpr, Step};
@@ -10,13 +11,13 @@ use crate::operators::Op;
 use lay_node::Boxed;
 use lay_token::List;
 
-/// What a box holds.
+/// Drops the boxed expression.
 #[cycle(drops)]
 pub(crate) fn discard_boxed(node: Boxed<Expr>) {
     drop(node.into_inner());
 }
 
-/// Each of these.
+/// Drops the expressions.
 #[cycle(drops)]
 pub(crate) fn discard_exprs(nodes: List<Expr>) {
     let mut left = nodes.into_vec();
@@ -26,7 +27,7 @@ pub(crate) fn discard_exprs(nodes: List<Expr>) {
     left.destroy_empty();
 }
 
-/// Each of these.
+/// Drops the fields of a struct literal.
 #[cycle(drops)]
 pub(crate) fn discard_fields(nodes: List<FieldExpr>) {
     let mut left = nodes.into_vec();
@@ -36,7 +37,7 @@ pub(crate) fn discard_fields(nodes: List<FieldExpr>) {
     left.destroy_empty();
 }
 
-/// What follows `..`, if anything is.
+/// Drops the base of a struct literal, if there is one.
 #[cycle(drops)]
 pub(crate) fn discard_base(node: Option<Option<Boxed<Expr>>>) {
     match node {
@@ -46,7 +47,7 @@ pub(crate) fn discard_base(node: Option<Option<Boxed<Expr>>>) {
     }
 }
 
-/// Each operand after its operator.
+/// Drops the operands of a chain.
 #[cycle(drops)]
 pub(crate) fn discard_operands(nodes: List<(Op, Boxed<Expr>)>) {
     let mut left = nodes.into_vec();
@@ -56,7 +57,7 @@ pub(crate) fn discard_operands(nodes: List<(Op, Boxed<Expr>)>) {
     left.destroy_empty();
 }
 
-/// An operand, a value or a guard, if it is there.
+/// Drops an optional expression: an operand, a value or a guard.
 #[cycle(drops)]
 pub(crate) fn discard_operand(node: Option<Boxed<Expr>>) {
     match node {
@@ -65,7 +66,7 @@ pub(crate) fn discard_operand(node: Option<Boxed<Expr>>) {
     }
 }
 
-/// Each target before its operator.
+/// Drops the targets of an assignment.
 #[cycle(drops)]
 pub(crate) fn discard_targets(nodes: List<(Boxed<Expr>, Op)>) {
     let mut left = nodes.into_vec();
@@ -75,7 +76,7 @@ pub(crate) fn discard_targets(nodes: List<(Boxed<Expr>, Op)>) {
     left.destroy_empty();
 }
 
-/// Each of these.
+/// Drops postfix steps.
 #[cycle(drops)]
 pub(crate) fn discard_steps(nodes: List<Step>) {
     let mut left = nodes.into_vec();
@@ -85,7 +86,7 @@ pub(crate) fn discard_steps(nodes: List<Step>) {
     left.destroy_empty();
 }
 
-/// Each of these.
+/// Drops branches.
 #[cycle(drops)]
 pub(crate) fn discard_branches(nodes: List<Branch>) {
     let mut left = nodes.into_vec();
@@ -95,7 +96,7 @@ pub(crate) fn discard_branches(nodes: List<Branch>) {
     left.destroy_empty();
 }
 
-/// Each of these.
+/// Drops the links of a condition.
 #[cycle(drops)]
 pub(crate) fn discard_links(nodes: List<Link>) {
     let mut left = nodes.into_vec();
@@ -105,7 +106,7 @@ pub(crate) fn discard_links(nodes: List<Link>) {
     left.destroy_empty();
 }
 
-/// A block, if it is there.
+/// Drops an optional block.
 #[cycle(drops)]
 pub(crate) fn discard_otherwise(node: Option<Block>) {
     match node {
@@ -114,7 +115,7 @@ pub(crate) fn discard_otherwise(node: Option<Block>) {
     }
 }
 
-/// Each of these.
+/// Drops the arms of a match.
 #[cycle(drops)]
 pub(crate) fn discard_arms(nodes: List<Arm>) {
     let mut left = nodes.into_vec();
@@ -124,19 +125,19 @@ pub(crate) fn discard_arms(nodes: List<Arm>) {
     left.destroy_empty();
 }
 
-/// What a box holds.
+/// Drops the boxed item.
 #[cycle(drops)]
 pub(crate) fn discard_boxed_item(node: Boxed<Item>) {
     drop(node.into_inner());
 }
 
-/// What a box holds.
+/// Drops the boxed kind of an item.
 #[cycle(drops)]
 pub(crate) fn discard_kind(node: Boxed<ItemKind>) {
     drop(node.into_inner());
 }
 
-/// Each of these.
+/// Drops statements.
 #[cycle(drops)]
 pub(crate) fn discard_stmts(nodes: List<Stmt>) {
     let mut left = nodes.into_vec();
@@ -146,7 +147,7 @@ pub(crate) fn discard_stmts(nodes: List<Stmt>) {
     left.destroy_empty();
 }
 
-/// Each of these.
+/// Drops items.
 #[cycle(drops)]
 pub(crate) fn discard_items(nodes: List<Item>) {
     let mut left = nodes.into_vec();

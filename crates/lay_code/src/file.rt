@@ -1,14 +1,14 @@
-//! Files.
+//! Source files.
 use crate::item::Item;
 use lay_node::Attr;
 use lay_token::{List, Text};
 
-/// A file (Rust Reference, "Crates and source files").
+/// A source file (Rust Reference, "Crates and source files").
 #[derive(Drop)]
 pub struct File {
-    /// The first line, without its line end, where it tells the system what runs the file.
+    /// The shebang line, without its line end.
     pub shebang: Option<Text>,
-    /// Inner attributes, which say something of the file.
+    /// The inner attributes of the file.
     pub attrs: List<Attr>,
     pub items: List<Item>,
 }

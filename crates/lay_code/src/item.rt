@@ -8,11 +8,12 @@ use lay_node::{
 };
 use lay_token::List;
 
-/// An item with its outer attributes (Rust Reference, "Items"). One within another stands one level deeper.
+/// An item with its outer attributes (Rust Reference, "Items"). An item within another counts one
+/// level of depth more.
 #[cycle(code)]
 pub struct Item {
     pub attrs: List<Attr>,
-    /// Nothing, where it is a macro call or declares a macro.
+    /// `Inherited` for macro calls and macro definitions.
     pub vis: Vis,
     pub kind: Boxed<ItemKind>,
 }
@@ -27,18 +28,18 @@ impl Drop for Item {
     }
 }
 
-/// What an item is.
+/// The kinds of items.
 #[cycle(code)]
 pub enum ItemKind {
     /// `extern crate a;`
     ExternCrate {
         item: ExternCrate,
     },
-    /// `use a::{b, c};` The box keeps other items small.
+    /// `use a::{b, c};` The tree is boxed to keep `ItemKind` small.
     Import {
         tree: Boxed<UseTree>,
     },
-    /// `mod a;`, a module in a file of its own
+    /// `mod a;`, a module in another file
     FileModule {
         name: Name,
     },

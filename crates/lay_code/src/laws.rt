@@ -1,4 +1,4 @@
-//! What holds of every expression, item and file.
+//! The theorems about expressions, items and files. (No code runs.)
 ghost use Rattle.std.specs.Prelude.{◌≡◌, ◌&&◌, ◌||◌, not, ◌∷◌, ℕ, Bool, List, Option, Some, Ok, IsTrue};
 ghost use Rattle.lay_token.specs.Source.{Source, source};
 ghost use Rattle.lay_token.specs.declared.token.Token.{Token};
@@ -20,8 +20,8 @@ ghost use Rattle.lay_code.specs.declared.item.Item.{Item};
 ghost use Rattle.lay_code.specs.declared.operators.Op.{Op};
 ghost use Rattle.lay_code.specs.declared.operators.Prefix.{Prefix};
 
-/// The functions that read expressions and items read exactly what stands at the beginning of the tokens; and the shebang line of
-/// each source is one that a file may have.
+/// The readers of expressions and items read exactly the node that the next tokens spell, and none
+/// if they spell none. The shebang line of every source is one that a file may have.
 pub fn reading_law()
     ensures exprs { (place : Place) → Exact (expr_at place)
         (λ (x : Expr). ExprFront place (about_expr x)) }
@@ -30,8 +30,9 @@ pub fn reading_law()
         → IsTrue (is_good_shebang from.shebang) }
 {}
 
-/// The table of the places of expressions. A place where an operator follows asks that of each expression that ends where the
-/// node ends: the definitions ask it of what the node ends in, and this table hands it down to the last child.
+/// The table of the places of the parts of expressions. If an operator follows a place, it also
+/// follows each expression that ends where the node ends. The definitions require this of what the
+/// node ends in; the table passes it down to the last child.
 pub fn places_law()
     ensures unary { (place : Place) (ops : List Prefix) (operand : ExprFacts)
         → Iff (IsTrue (placed (expr_facts (Expr-F.Unary ops operand)) place))
@@ -51,10 +52,11 @@ pub fn places_law()
         → is_typed node.tail ≡ node.typed → ByRoot place node }
 {}
 
-/// The bodies of closures. Braces that aren't in the tree stand around such a body where it may be a statement, and are taken off
-/// where what is within them may stand in the body's place. The form and the reader ask this of three facts, and these answer for
-/// the places: of what stands where a body stands, `starts` and `tight` say whether it may be a statement; of what may be a
-/// statement, `structless` says whether it may stand where no struct literal may.
+/// The bodies of closures. Around a body that may be a statement the layout may put braces that
+/// aren't in the tree; the reader takes such braces off if their content may stand as the body. The
+/// form and the reader decide this by three facts of the body. For a body `starts` and `tight` say
+/// whether it may be a statement. For a statement `structless` says whether it may stand where no
+/// struct literal is allowed.
 pub fn body_law()
     ensures as_statement { (node : Expr) (no_struct : Bool)
         → IsTrue (placed (about_expr node) (plain 0 no_struct))
@@ -65,7 +67,8 @@ pub fn body_law()
         ≡ placed (about_expr node) (plain 0 no_struct) }
 {}
 
-/// At most one expression or item and one count of tokens fit at a place, and one file a list of tokens.
+/// At a place at most one expression or item, of one length in tokens, is spelled, and at most one
+/// file by a list of tokens.
 pub fn node_law()
     ensures one_expr { (node other : Expr) (place : Place) (ts : List Token) (n m depth : ℕ)
         → ExprFront place (about_expr node) ts n depth

@@ -1,8 +1,8 @@
-//! Operators of expressions.
+//! Binary and prefix operators.
 ghost use Rattle.std.specs.Prelude.{◌≡◌};
 ghost use Rattle.lay_code.specs.Operators as operators;
 
-/// An operator between two operands (Rust Reference, "Operator expressions").
+/// A binary operator (Rust Reference, "Operator expressions").
 #[derive(Clone, Copy)]
 pub enum Op {
     /// `=`
@@ -70,7 +70,7 @@ pub enum Op {
 }
 
 impl Op {
-    /// Its text.
+    /// The operator as it is written.
     #[inline]
     pub fn text(self) -> &'static [u8]
         ensures { result.now ≡ operators.op_text self }
@@ -111,7 +111,8 @@ impl Op {
     }
 }
 
-/// An operator before its operand (Rust Reference, "Borrow operators", "Dereference operator", "Negation operators").
+/// A prefix operator (Rust Reference, "Borrow operators", "Dereference operator", "Negation
+/// operators").
 #[derive(Clone, Copy)]
 pub enum Prefix {
     /// `-`

@@ -3,10 +3,11 @@ use crate::simple_path::SimplePath;
 use crate::tokens::{Group, Tokens};
 use lay_token::Text;
 
-/// An attribute (Rust Reference, "Attributes"). An inner one says something of what it stands in.
+/// An attribute (Rust Reference, "Attributes"). An inner one documents or changes the item that it
+/// stands in.
 #[derive(Debug, Drop)]
 pub enum Attr {
-    /// Documentation. It may be spelled as a comment or as `#[doc = "text"]`.
+    /// Documentation. It can be spelled as a comment or as `#[doc = "text"]`.
     Doc {
         inner: bool,
         text: Text,
@@ -19,7 +20,7 @@ pub enum Attr {
     },
 }
 
-/// What an attribute is called.
+/// The name of an attribute.
 #[derive(Debug, Drop)]
 pub enum MetaPath {
     /// `a::b`
@@ -28,13 +29,13 @@ pub enum MetaPath {
     Unsafe,
 }
 
-/// What an attribute is given.
+/// The input of an attribute.
 #[derive(Debug, Drop)]
 pub enum MetaInput {
     /// Nothing.
     Bare,
     /// `(a, b = "x")`
     Group(Group),
-    /// ` = "x"`, of one token at least.
+    /// ` = "x"`, with at least one token
     Value(Tokens),
 }

@@ -1,4 +1,4 @@
-//! Boxes, through which a tree holds trees of its own type.
+//! Boxes, so that a node can hold nodes of its own type.
 ghost use Rattle.std.specs.Prelude.{◌≡◌, IfOk};
 ghost use Rattle.std.specs.Borrow.{sem};
 
@@ -6,7 +6,7 @@ use lay_token::NoMemory;
 use std::alloc::Global;
 use std::marker::Model;
 
-/// A box that contracts see as its value, so two boxes of equal values are equal, wherever they lie.
+/// A box that contracts see as its value: two boxes of equal values are equal.
 #[derive(Debug, Drop)]
 pub struct Boxed<T> {
     inner: Box<T>,
@@ -23,14 +23,14 @@ impl<T> Model for Boxed<T> {
 impl<T> Boxed<T> {
     ghost use Rattle.lay_node.specs.Lending.{LendsInner};
 
-    /// The value, lent.
+    /// The value.
     pub fn get(&self) -> &T
         ensures { result.now ≡ self.now }
     {
         &self.inner
     }
 
-    /// The value, lent to be changed.
+    /// The value, to be changed.
     pub fn get_mut(&mut self) -> &mut T
         ensures* lent { sem 𝓛 (LendsInner T.row self.entry result) }
         ensures value { result.now ≡ self.old }
@@ -38,7 +38,7 @@ impl<T> Boxed<T> {
         &mut self.inner
     }
 
-    /// The value; the box is freed.
+    /// Takes the value out; the box is freed.
     pub fn into_inner(self) -> T
         ensures { result ≡ self }
     {
@@ -48,7 +48,7 @@ impl<T> Boxed<T> {
 }
 
 impl<T: Drop> Boxed<T> {
-    /// A box of this value. `Err` for want of memory, and then the value is dropped.
+    /// Boxes the value. `Err` if memory is out; then the value is dropped.
     pub fn new(alloc: Global, value: T) -> Result<Boxed<T>, NoMemory>
         ensures { IfOk result (λ boxed. boxed ≡ value) }
     {

@@ -6,16 +6,16 @@ use crate::token::{Lifetime, Name};
 use crate::types::{Abi, Ty};
 use lay_token::List;
 
-/// What a function says of its safety.
+/// The word before `fn` that says whether a function is safe to call.
 #[derive(Clone, Copy)]
 pub enum Safety {
     /// `unsafe`
     Unsafe,
-    /// `safe`, which a function of a foreign block may say
+    /// `safe`, which only a function in a foreign block may have
     Safe,
 }
 
-/// The head of a function (Rust Reference, "Functions"): all up to its where clause.
+/// The head of a function (Rust Reference, "Functions"): everything before its where clause.
 #[derive(Drop)]
 pub struct FnHead {
     pub is_const: bool,
@@ -24,7 +24,7 @@ pub struct FnHead {
     pub abi: Option<Abi>,
     pub name: Name,
     pub generics: Generics,
-    /// A receiver stands first alone, and `...` last alone.
+    /// A receiver may only stand first, and `...` only last.
     pub params: List<Param>,
     pub output: Option<Ty>,
 }
@@ -36,7 +36,7 @@ pub struct Param {
     pub kind: ParamKind,
 }
 
-/// What a parameter of a function is.
+/// The pattern and type of a parameter, or a receiver.
 #[derive(Drop)]
 pub enum ParamKind {
     /// `&'a mut self`

@@ -33,20 +33,20 @@ pub enum GenericParam {
     },
 }
 
-/// What a parameter that is a constant is by default.
+/// The default of a const parameter.
 #[derive(Drop)]
 pub enum ConstDefault {
     Arg(ConstArg),
     Name(Name),
 }
 
-/// A where clause (Rust Reference, "Where clauses"), of no predicates where there is none.
+/// A where clause (Rust Reference, "Where clauses"). Without one there are no predicates.
 #[derive(Drop)]
 pub struct Wheres {
     pub predicates: List<Predicate>,
 }
 
-/// What a where clause says of a lifetime or of a type.
+/// A predicate of a where clause.
 #[derive(Drop)]
 pub enum Predicate {
     /// `'a: 'b + 'c`

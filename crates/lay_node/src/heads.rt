@@ -1,11 +1,11 @@
-//! The heads of items, and the items that are heads alone.
+//! The heads of items, and the items that consist of a head alone.
 use crate::fields::{Field, Fields, Variant};
 use crate::generics::{Generics, Wheres};
 use crate::token::{GivenName, Name, Word};
 use crate::types::{Bound, Path, Ty};
 use lay_token::List;
 
-/// Where an item stands.
+/// Where an item stands, which decides what kinds of items are allowed.
 #[derive(Clone, Copy)]
 pub enum Site {
     /// In a file or a module.
@@ -36,8 +36,8 @@ pub struct Alias {
     pub wheres: Wheres,
 }
 
-/// `struct A<B>(C) where D` (Rust Reference, "Structs"). The where clause stands before fields with names, and after
-/// others.
+/// `struct A<B>(C) where D` (Rust Reference, "Structs"). The where clause stands before named
+/// fields, and after all others.
 #[derive(Drop)]
 pub struct Struct {
     pub name: Name,
@@ -64,7 +64,8 @@ pub struct Enum {
     pub variants: List<Variant>,
 }
 
-/// The head of a constant or of a static (Rust Reference, "Constant items", "Static items"): all up to its value.
+/// The head of a constant or of a static (Rust Reference, "Constant items", "Static items"):
+/// everything before its value.
 #[derive(Drop)]
 pub enum ValueHead {
     /// `const A: B`
@@ -73,7 +74,7 @@ pub enum ValueHead {
     Static { mutable: bool, name: Name, ty: Ty },
 }
 
-/// The head of a trait (Rust Reference, "Traits"): all up to its where clause.
+/// The head of a trait (Rust Reference, "Traits"): everything before its where clause.
 #[derive(Drop)]
 pub struct TraitHead {
     pub is_unsafe: bool,
@@ -82,7 +83,8 @@ pub struct TraitHead {
     pub bounds: List<Bound>,
 }
 
-/// The head of an implementation (Rust Reference, "Implementations"): all up to its where clause.
+/// The head of an implementation (Rust Reference, "Implementations"): everything before its where
+/// clause.
 #[derive(Drop)]
 pub struct ImplHead {
     pub is_unsafe: bool,
@@ -91,7 +93,7 @@ pub struct ImplHead {
     pub ty: Ty,
 }
 
-/// The trait that is implemented: `A for` or, where it is said that it isn't, `!A for`.
+/// The trait of an implementation: `A for`, or `!A for` of a negative one.
 #[derive(Drop)]
 pub struct TraitRef {
     pub negative: bool,

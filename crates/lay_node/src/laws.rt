@@ -1,4 +1,4 @@
-//! What holds of every node.
+//! The theorems about nodes. (No code runs.)
 ghost use Rattle.std.specs.Prelude.{◌≡◌, ℕ, Bool, List};
 ghost use Rattle.lay_token.specs.declared.token.Token.{Token};
 ghost use Rattle.lay_node.specs.nodes.Attr.{about_attr};
@@ -53,7 +53,8 @@ ghost use Rattle.lay_node.specs.declared.types.TypePlace.{TypePlace};
 ghost use Rattle.lay_node.specs.declared.use_tree.UseTree.{UseTree};
 ghost use Rattle.lay_node.specs.declared.vis.Vis.{Vis};
 
-/// The functions that read nodes read exactly what stands at the beginning of the tokens.
+/// The readers of nodes read exactly the node that the next tokens spell, and none if they spell
+/// none.
 pub fn reading_law()
     ensures simple_paths { Exact (needless simple_path)
         (λ (x : SimplePath). Front (about_simple_path x)) }
@@ -94,7 +95,7 @@ pub fn reading_law()
         (λ (x : ImplHead). ToldFront (by_itself (about_impl_head x))) }
 {}
 
-/// At most one node and one count of tokens fit at a place, for each kind of node.
+/// Of each kind at most one node, of one length in tokens, is spelled at a place.
 pub fn node_law()
     ensures one_simple_path { (node other : SimplePath) (ts : List Token) (n m depth : ℕ)
         → Front (about_simple_path node) ts n depth → Front (about_simple_path other) ts m depth

@@ -2,10 +2,10 @@
 use crate::token::Word;
 use lay_token::List;
 
-/// A path of words alone (Rust Reference, "Simple paths"), of one at least.
+/// A path without generic arguments (Rust Reference, "Simple paths"), with at least one word.
 #[derive(Debug, Drop)]
 pub struct SimplePath {
-    /// It begins with `::`.
+    /// Whether it begins with `::`.
     pub global: bool,
     pub words: List<Word>,
 }

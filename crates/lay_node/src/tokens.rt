@@ -1,4 +1,4 @@
-//! Token lists, and what is made of them.
+//! Token lists, delimited groups and macro calls.
 ghost use Rattle.std.specs.Prelude.{◌≡◌, IsTrue, IfOk, Some, None, if◌then◌else◌, reverse};
 ghost use Rattle.lay_node.specs.tokens.Listing.{is_balanced, kind_of, turned};
 
@@ -8,7 +8,8 @@ use lay_token::{Delim, Kind, List, NoMemory};
 use std::alloc::Global;
 use std::marker::Model;
 
-/// A token list (Rust Reference, "Macros": token trees): tokens whose delimiters are balanced, as a flat list.
+/// A token list (Rust Reference, "Macros": token trees): tokens with balanced delimiters, kept
+/// flat.
 #[derive(Debug, Drop)]
 pub struct Tokens {
     list: List<Listed>,
@@ -27,7 +28,7 @@ impl Model for Tokens {
 }
 
 impl Tokens {
-    /// The list of these tokens.
+    /// The list of these tokens, which are balanced.
     pub fn new(list: List<Listed>) -> Tokens
         requires { IsTrue (is_balanced list) }
         ensures { result ≡ list }
@@ -35,7 +36,7 @@ impl Tokens {
         Tokens { list }
     }
 
-    /// The list of these tokens, or none where their delimiters aren't balanced.
+    /// The list of these tokens, or `None` if their delimiters aren't balanced.
     pub fn from_list(alloc: Global, list: List<Listed>) -> Result<Option<Tokens>, NoMemory>
         ensures { IfOk result (λ tokens. tokens ≡ (if is_balanced list then Some list else None)) }
     {
@@ -68,8 +69,8 @@ fn are_balanced(alloc: Global, tokens: &[Listed]) -> Result<bool, NoMemory>
     Ok(open.is_empty())
 }
 
-/// Opens what a token opens, or closes what it closes, where these delimiters are open before it, the last one last. Answers
-/// whether it may stand there.
+/// Updates the stack of open delimiters by one token. Gives `false` if the token is a closer that
+/// doesn't match the innermost open delimiter.
 fn turn(opened: &mut Vec<Delim>, token: &Listed) -> Result<bool, NoMemory>
     ensures { IfOk result (λ passes. turned (kind_of token.now) (reverse opened.old.items)
         ≡ (if passes then Some (reverse opened.new.items) else None)) }
@@ -90,11 +91,11 @@ fn turn(opened: &mut Vec<Delim>, token: &Listed) -> Result<bool, NoMemory>
     }
 }
 
-/// One delimited group.
+/// A delimited group of tokens.
 #[derive(Debug, Drop)]
 pub struct Group {
     pub delim: Delim,
-    /// What stands between the delimiters.
+    /// The tokens between the delimiters.
     pub tokens: Tokens,
 }
 

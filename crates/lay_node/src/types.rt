@@ -1,26 +1,26 @@
-//! Types, and the paths, generic arguments and bounds that they are made of.
+//! Types, paths, generic arguments and bounds.
 use crate::attr::Attr;
 use crate::boxed::Boxed;
 use crate::token::{GivenName, Lifetime, Literal, Name, Word};
 use crate::tokens::{MacroCall, Tokens};
 use lay_token::List;
 
-/// How generic arguments are spelled in a path: in code after `::`, and in what names a kind of things, as a type,
-/// after an optional `::`, where they may also stand in parentheses.
+/// How a path spells generic arguments: in expressions after `::`; in types after an optional `::`,
+/// where they may also be in parentheses, as in `Fn(A) -> B`.
 #[derive(Clone, Copy)]
 pub enum PathStyle {
     Code,
     Kind,
 }
 
-/// Where a type stands: where several bounds may stand, or where one may.
+/// Where a type stands: where `A + B` may stand without parentheses, or where it may not.
 #[derive(Clone, Copy)]
 pub enum TypePlace {
     Bounds,
     NoBounds,
 }
 
-/// A type (Rust Reference, "Types"). One within another stands one level deeper.
+/// A type (Rust Reference, "Types"). A type within another counts one level of depth more.
 #[cycle(types)]
 #[derive(Drop)]
 pub enum Ty {
@@ -59,12 +59,12 @@ pub enum Ty {
     Slice {
         inner: Boxed<Ty>,
     },
-    /// `[A; n]`, with one token at least after the `;`
+    /// `[A; n]`, with at least one token after the `;`
     Array {
         inner: Boxed<Ty>,
         length: Tokens,
     },
-    /// `for<'a> unsafe extern "C" fn(a: A, ...) -> B` The boxes keep other types small.
+    /// `for<'a> unsafe extern "C" fn(a: A, ...) -> B`. Its parts are boxed to keep `Ty` small.
     Func {
         binder: Boxed<Option<Binder>>,
         is_unsafe: bool,
@@ -73,7 +73,7 @@ pub enum Ty {
         variadic: bool,
         output: Option<Boxed<Ty>>,
     },
-    /// `impl A + B` or, where it is dynamic, `dyn A + B`; of one bound at least
+    /// `impl A + B`, or `dyn A + B` if it is dynamic, with at least one bound
     Bounds {
         dynamic: bool,
         bounds: List<Bound>,
@@ -89,16 +89,17 @@ pub struct FuncParam {
     pub ty: Ty,
 }
 
-/// A path (Rust Reference, "Paths"), of one segment at least.
+/// A path (Rust Reference, "Paths"), with at least one segment.
 #[cycle(types)]
 #[derive(Drop)]
 pub struct Path {
     pub start: PathStart,
-    /// Each word with its arguments. (A struct of their own can't stand in a list of another one of this cycle.)
+    /// Each word with its generic arguments. (They are a pair, since in this cycle of types a list
+    /// can't hold a struct of the cycle.)
     pub segments: List<(Word, Args)>,
 }
 
-/// What a path begins with, before its segments.
+/// What a path begins with.
 #[cycle(types)]
 #[derive(Drop)]
 pub enum PathStart {
@@ -106,7 +107,7 @@ pub enum PathStart {
     Local,
     /// `::`
     Global,
-    /// `<A as B>::`, where the trait may be left out
+    /// `<A as B>::` or `<A>::`
     Qualified {
         ty: Boxed<Ty>,
         of: Option<Boxed<Path>>,
@@ -153,7 +154,8 @@ pub enum Arg {
     },
 }
 
-/// What is asked of a name among generic arguments. With the name it stands one level deeper.
+/// What a generic argument says of an associated item, as in `Iterator<Item = A>`. With the name it
+/// counts one level of depth more.
 #[cycle(types)]
 #[derive(Drop)]
 pub enum Constraint {
@@ -161,7 +163,7 @@ pub enum Constraint {
     Equal { ty: Ty },
     /// ` = 1`
     EqualConst { value: ConstArg },
-    /// `: A + B`, of one bound at least
+    /// `: A + B`, with at least one bound
     Limit { bounds: List<Bound> },
 }
 
@@ -186,7 +188,7 @@ pub enum Bound {
     },
 }
 
-/// What a bound of captures names: a lifetime, a name, or `Self` (Rust Reference, "Use bounds").
+/// What `use<..>` names: a lifetime, a type parameter, or `Self` (Rust Reference, "Use bounds").
 #[derive(Drop)]
 pub enum Capture {
     /// `'a`
@@ -195,14 +197,14 @@ pub enum Capture {
     Word { word: Word },
 }
 
-/// A generic argument that is a constant.
+/// A const generic argument.
 #[derive(Drop)]
 pub enum ConstArg {
     /// `1`, `true`
     Literal(Literal),
     /// `-1`: a number after a `-`
     Negative(Literal),
-    /// `{ n }`: a group in braces
+    /// `{ n }`: a group of tokens in braces
     Braces(Tokens),
 }
 

@@ -1,19 +1,20 @@
-//! Use trees, which imports are made of.
+//! Use trees, the argument of `use`.
 use crate::token::{GivenName, Word};
 use lay_token::List;
 
-/// What an import names (Rust Reference, "Use declarations"). One in a group stands one level deeper.
+/// A use tree (Rust Reference, "Use declarations"). A tree in a group counts one level of depth
+/// more.
 #[cycle(use_trees)]
 #[derive(Debug, Drop)]
 pub struct UseTree {
-    /// It begins with `::`.
+    /// Whether it begins with `::`.
     pub global: bool,
-    /// The words that have a `::` after them.
+    /// The words before the end, each of which has a `::` after it.
     pub path: List<Word>,
     pub end: UseEnd,
 }
 
-/// What a use tree names after its path.
+/// The end of a use tree, after its path.
 #[cycle(use_trees)]
 #[derive(Debug, Drop)]
 pub enum UseEnd {

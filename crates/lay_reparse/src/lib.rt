@@ -1,4 +1,5 @@
-//! What holds of a layout: each text of it reads back. The functions here do nothing; each is a law, its contract.
+//! Every text that a layout can give parses back to the same tree. No code runs here: each function
+//! is a theorem, which its contract states.
 //!
 //! A layout gives one text for each choice of its breaks and groups. [`reparse_law`] says that whatever is chosen, the
 //! text of a file's layout reads to that file; with [`unique_law`], formatting again changes nothing. The argument,
@@ -59,14 +60,14 @@ ghost use Rattle.lay_code.specs.declared.exprs.Expr.{Expr};
 ghost use Rattle.lay_code.specs.declared.exprs.Place.{Place};
 ghost use Rattle.lay_code.specs.declared.file.File.{File};
 
-/// Every text that the layout of a file that is written can give, whatever fits on a line, reads to the file again, at
-/// each depth from the least one of the file's form on, and at that one the file is spelled. The text that is laid out does
-/// so at the depth of files, if the file is no deeper.
-/// So what bytes read to is laid out as a text that reads to it, and by [`unique_law`] to nothing else: laid out again,
-/// it is the same.
+/// Every text that the layout of a well-formed file can give, whichever breaks are newlines, parses
+/// back to the file: at each depth limit that the file's form needs, or more. At the least such
+/// depth the file's tokens spell it. The text that the printer makes does so at the depth limit of
+/// files, if the file is no deeper. So the text that is made of parsed bytes parses to the same
+/// tree, and by [`unique_law`] to no other: formatting it again gives the same text.
 ///
-/// An expression that stands in a place, and whose tokens are pieces, is spelled at the least depth of its form, and so, by
-/// `form_law` of `lay_form`, at each greater one and at no lower one.
+/// An expression that stands in a place, and whose tokens are pieces, is spelled at the least depth
+/// of its form, and so, by `form_law` of `lay_form`, at each greater one and at no lower one.
 pub fn reparse_law()
     ensures each_text { (file : File) (depth : ℕ) (text : List ℕ)
         → Written file → least_depth (form_of_file file) ≤ depth → Anyway (layout_of_file file) text
@@ -81,8 +82,9 @@ pub fn reparse_law()
     ensures again { (bytes : List ℕ) (file : File) → Reads bytes file → Reads (out file) file }
 {}
 
-/// Every text that the layout of a token list can give lexes to the tokens of the list. The test of token lists, which
-/// goes token by token, holds of exactly the lists that some text lexes to, with documentation that may be laid out.
+/// Every text that the layout of a token list can give lexes to the tokens of the list. The test of
+/// token lists, which compares neighbours, accepts exactly the lists that some text lexes to and
+/// whose documentation can be laid out.
 pub fn token_list_law()
     ensures reads { (tokens : List Listed) (text : List ℕ)
         → IsTrue (is_token_list tokens) → Anyway (document (token_list tokens)) text
@@ -90,13 +92,14 @@ pub fn token_list_law()
     ensures decides { (tokens : List Listed) → IsTrue (is_token_list tokens) ↔ IsTokenList tokens }
 {}
 
-/// When the tokens of two texts are the tokens of both joined.
+/// If two texts are `Joinable`, the tokens of the joined text are the tokens of both.
 pub fn join_law()
     ensures { (left right : List ℕ) (a b : List Token)
         → IsUtf8 left → IsUtf8 right → Joinable left right a b → Joins left right a b }
 {}
 
-/// At each depth bytes have one answer: they read to one file, or are refused for one cause at one place, and never both.
+/// At each depth limit bytes have one result: they parse to one file, or are refused with one error
+/// at one place, and never both.
 pub fn unique_law()
     ensures some_answer { (depth : ℕ) (bytes : List ℕ)
         → ((file : File) × ReadsAt depth bytes file)
