@@ -1,4 +1,4 @@
-//! Blocks, statements, branches and arms.
+//! The depth of blocks, statements, branches and arms.
 ghost use Rattle.std.specs.Prelude.{◌≡◌, map, true};
 ghost use Rattle.lay_form.specs.Depth.{least_depth};
 ghost use Rattle.lay_code.specs.nodes.Code.{about_block, about_stmt};
@@ -23,7 +23,7 @@ pub(crate) fn block_depth(block: &Block) -> u32
     most
 }
 
-/// The depth of a block that may be left out: 0 where it is.
+/// The depth of an optional block; 0 if there is none.
 #[cycle(code)]
 pub(crate) fn block_or_none_depth(block: &Option<Block>) -> u32
     ensures { result ≡ counted (block_if block.now) }
@@ -34,7 +34,7 @@ pub(crate) fn block_or_none_depth(block: &Option<Block>) -> u32
     }
 }
 
-/// The depth of a statement. The block after an `else` stands one level deeper.
+/// The depth of a statement. The block after an `else` counts one level more.
 #[cycle(code)]
 fn stmt_depth(stmt: &Stmt) -> u32
     ensures { result ≡ counted (least_depth (about_stmt stmt.now).form) }
@@ -59,7 +59,7 @@ fn stmt_depth(stmt: &Stmt) -> u32
     }
 }
 
-/// The depth of the deepest of the branches.
+/// The greatest depth of the branches.
 #[cycle(code)]
 pub(crate) fn branches_depth(branches: &[Branch]) -> u32
     ensures { result ≡ counted (greatest (map branch_form branches.now)) }
@@ -71,7 +71,7 @@ pub(crate) fn branches_depth(branches: &[Branch]) -> u32
     most
 }
 
-/// The depth of the deepest of the arms. The body of an arm stands one level deeper.
+/// The greatest depth of the arms. The body of an arm counts one level more.
 #[cycle(code)]
 pub(crate) fn arms_depth(arms: &[Arm]) -> u32
     ensures { result ≡ counted (greatest (map arm_form arms.now)) }

@@ -1,4 +1,4 @@
-//! Conditions and their links.
+//! The depth of conditions and their links.
 ghost use Rattle.std.specs.Prelude.{◌≡◌, map};
 ghost use Rattle.lay_form.specs.Depth.{least_depth};
 ghost use Rattle.lay_code.specs.nodes.Code.{about_condition, about_link};
@@ -17,7 +17,7 @@ pub(crate) fn condition_depth(condition: &Condition) -> u32
     links_depth(condition.links.as_slice())
 }
 
-/// The depth of the deepest of the links.
+/// The greatest depth of the links.
 #[cycle(code)]
 fn links_depth(links: &[Link]) -> u32
     ensures { result ≡ counted (greatest (map link_form links.now)) }

@@ -1,4 +1,4 @@
-//! Expressions, and the fields and steps that they are made of.
+//! The depth of expressions, and of their fields and steps.
 ghost use Rattle.std.specs.Prelude.{◌≡◌, map, option_map};
 ghost use Rattle.lay_form.specs.Depth.{least_depth};
 ghost use Rattle.lay_node.specs.nodes.Facts.{forms};
@@ -15,7 +15,7 @@ use crate::nodes::{
 use lay_code::{ClosureParam, Expr, FieldExpr, Op, Step};
 use lay_node::Boxed;
 
-/// The depth of an expression, counted up to the greatest number of 32 bits. The body of a closure stands one level deeper.
+/// The depth of an expression, at most `u32::MAX`. The body of a closure counts one level more.
 #[cycle(code)]
 pub fn expr_depth(expr: &Expr) -> u32
     ensures { result ≡ counted (least_depth (about_expr expr.now).form) }
@@ -90,7 +90,7 @@ pub fn expr_depth(expr: &Expr) -> u32
     }
 }
 
-/// The depth of the deepest of the expressions.
+/// The greatest depth of the expressions.
 #[cycle(code)]
 fn exprs_depth(exprs: &[Expr]) -> u32
     ensures { result ≡ counted (greatest (expr_forms (map about_expr exprs.now))) }
@@ -102,7 +102,7 @@ fn exprs_depth(exprs: &[Expr]) -> u32
     most
 }
 
-/// The depth of an expression that may be left out: 0 where it is.
+/// The depth of an optional expression; 0 if there is none.
 #[cycle(code)]
 pub(crate) fn operand_depth(operand: &Option<Boxed<Expr>>) -> u32
     ensures { result ≡ counted (expr_if operand.now) }
@@ -113,7 +113,7 @@ pub(crate) fn operand_depth(operand: &Option<Boxed<Expr>>) -> u32
     }
 }
 
-/// The depth of the deepest operand after an operator.
+/// The greatest depth of the operands of a chain.
 #[cycle(code)]
 fn operands_depth(operands: &[(Op, Boxed<Expr>)]) -> u32
     ensures { result ≡ counted (greatest (map operand_form operands.now)) }
@@ -125,7 +125,7 @@ fn operands_depth(operands: &[(Op, Boxed<Expr>)]) -> u32
     most
 }
 
-/// The depth of the deepest target of an assignment.
+/// The greatest depth of the targets of an assignment.
 #[cycle(code)]
 fn targets_depth(targets: &[(Boxed<Expr>, Op)]) -> u32
     ensures { result ≡ counted (greatest (map target_form targets.now)) }
@@ -137,7 +137,7 @@ fn targets_depth(targets: &[(Boxed<Expr>, Op)]) -> u32
     most
 }
 
-/// The depth of the deepest field of a struct literal.
+/// The greatest depth of the fields of a struct literal.
 #[cycle(code)]
 fn fields_depth(fields: &[FieldExpr]) -> u32
     ensures { result ≡ counted (greatest (forms (map about_field_expr fields.now))) }
@@ -162,7 +162,7 @@ fn field_depth(field: &FieldExpr) -> u32
     }
 }
 
-/// The depth of the base of a struct literal, and 0 without one.
+/// The depth of the base of a struct literal; 0 if there is none.
 #[cycle(code)]
 fn base_depth(base: &Option<Option<Boxed<Expr>>>) -> u32
     ensures { result ≡ counted (greatest (base_form
@@ -177,7 +177,7 @@ fn base_depth(base: &Option<Option<Boxed<Expr>>>) -> u32
     }
 }
 
-/// The depth of the deepest of the steps after an expression.
+/// The greatest depth of the postfix steps.
 #[cycle(code)]
 fn steps_depth(steps: &[Step]) -> u32
     ensures { result ≡ counted (greatest (map step_form steps.now)) }
@@ -208,7 +208,7 @@ fn step_depth(step: &Step) -> u32
     }
 }
 
-/// The depth of the deepest of the parameters of a closure.
+/// The greatest depth of the parameters of a closure.
 fn params_depth(params: &[ClosureParam]) -> u32
     ensures { result ≡ counted (greatest (map closure_param params.now)) }
 {

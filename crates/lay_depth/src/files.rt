@@ -1,4 +1,4 @@
-//! Files.
+//! The depth of files.
 ghost use Rattle.std.specs.Prelude.{◌≡◌};
 ghost use Rattle.lay_form.specs.Depth.{least_depth};
 ghost use Rattle.lay_code.specs.nodes.File.{form_of_file};
@@ -7,7 +7,7 @@ ghost use Rattle.lay_depth.specs.nodes.Depths.{counted};
 use crate::items::items_depth;
 use lay_code::File;
 
-/// The depth of a file: that of its deepest item, and 0 without any. It is counted up to the greatest number of 32 bits.
+/// The depth of a file: that of its deepest item, or 0 if it has none; at most `u32::MAX`.
 pub fn file_depth(file: &File) -> u32
     ensures { result ≡ counted (least_depth (form_of_file file.now)) }
 {

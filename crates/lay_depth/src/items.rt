@@ -1,4 +1,4 @@
-//! Items.
+//! The depth of items.
 ghost use Rattle.std.specs.Prelude.{◌≡◌, map};
 ghost use Rattle.lay_form.specs.Depth.{least_depth};
 ghost use Rattle.lay_code.specs.nodes.Code.{form_of_item};
@@ -21,7 +21,7 @@ pub(crate) fn item_depth(item: &Item) -> u32
     deeper(kind_depth(item.kind.get()))
 }
 
-/// The depth of the deepest of the items.
+/// The greatest depth of the items.
 #[cycle(code)]
 pub(crate) fn items_depth(items: &[Item]) -> u32
     ensures { result ≡ counted (greatest (map form_of_item items.now)) }
@@ -33,7 +33,7 @@ pub(crate) fn items_depth(items: &[Item]) -> u32
     most
 }
 
-/// The depth of what an item is.
+/// The depth of an item without its attributes and its visibility.
 #[cycle(code)]
 fn kind_depth(kind: &ItemKind) -> u32
     ensures { result ≡ counted (kind_need kind.now) }

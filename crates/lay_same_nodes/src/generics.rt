@@ -1,4 +1,4 @@
-//! Generic parameters and where clauses.
+//! Equality of generic parameters and where clauses.
 use crate::lists::Same;
 use lay_node::{ConstDefault, GenericParam, Generics, Predicate, Wheres};
 

@@ -1,4 +1,4 @@
-//! Fields, functions, and the heads of items.
+//! Equality of fields, functions, and the heads of items.
 use crate::lists::Same;
 use lay_node::{
     Alias, Enum, ExternCrate, Field, Fields, FnHead, ImplHead, Param, ParamKind, Safety, Struct,

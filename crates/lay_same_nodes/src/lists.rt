@@ -1,10 +1,10 @@
-//! What can be compared, and the lists and options of it.
+//! The trait of nodes that can be compared, and lists and options of them.
 ghost use Rattle.std.specs.Prelude.{◌≡◌, ◌↔◌, IsTrue};
 
 use lay_node::Boxed;
 use lay_token::{List, Text};
 
-/// A node, or a part of one, that can be compared with another of its kind.
+/// A node, or a part of one, that can be compared with another of its type.
 pub trait Same {
     /// Whether the two are equal.
     fn same(&self, other: &Self) -> bool

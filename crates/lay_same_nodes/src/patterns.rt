@@ -1,4 +1,4 @@
-//! Patterns.
+//! Equality of patterns.
 ghost use Rattle.std.specs.Prelude.{◌≡◌, ◌↔◌, IsTrue};
 
 use crate::lists::Same;
@@ -150,7 +150,7 @@ impl Same for FieldPat {
     }
 }
 
-/// Whether two lists of patterns are equal.
+/// Whether two slices of patterns are equal.
 #[cycle(patterns)]
 fn same_patterns(elements: &[Pat], others: &[Pat]) -> bool
     ensures { IsTrue result ↔ elements.now ≡ others.now }
@@ -182,7 +182,7 @@ fn same_fields(fields: &[FieldPat], others: &[FieldPat]) -> bool
     true
 }
 
-/// Whether the patterns after two names are equal.
+/// Whether the patterns after the `@` of two bindings are equal.
 #[cycle(patterns)]
 fn same_bound(pattern: &Option<Boxed<Pat>>, other: &Option<Boxed<Pat>>) -> bool
     ensures { IsTrue result ↔ pattern.now ≡ other.now }

@@ -1,4 +1,5 @@
-//! Tokens, and what is made of tokens alone: names, words, token lists, attributes, and visibilities.
+//! Equality of tokens, and of what is made of tokens alone: names, words, token lists, attributes,
+//! and visibilities.
 use crate::lists::{Same, same_items};
 use lay_node::{
     Attr, GivenName, Group, Lifetime, Listed, Literal, MacroCall, MetaInput, MetaPath, Name,

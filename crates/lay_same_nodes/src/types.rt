@@ -1,4 +1,4 @@
-//! Types, and the paths, generic arguments and bounds that they are made of.
+//! Equality of types, paths, generic arguments and bounds.
 ghost use Rattle.std.specs.Prelude.{◌≡◌, ◌↔◌, IsTrue};
 
 use crate::lists::Same;
@@ -374,7 +374,7 @@ fn same_output(output: &Option<Boxed<Ty>>, other: &Option<Boxed<Ty>>) -> bool
     }
 }
 
-/// Whether the traits that two types are taken as are equal.
+/// Whether the traits in two paths as `<A as B>::` are equal.
 #[cycle(types)]
 fn same_trait(path: &Option<Boxed<Path>>, other: &Option<Boxed<Path>>) -> bool
     ensures { IsTrue result ↔ path.now ≡ other.now }

@@ -1,4 +1,4 @@
-//! Use trees.
+//! Equality of use trees.
 ghost use Rattle.std.specs.Prelude.{◌≡◌, ◌↔◌, IsTrue};
 
 use crate::lists::Same;

@@ -12,11 +12,12 @@ use lay_code::{Expr, File, GivenName, Item, ItemKind, Ty, ValueHead, Vis};
 use lay_node::Boxed;
 use lay_paren_defs::Enclosed;
 
-/// Whether the file is the constant `const _: () = e;` alone, where `e` is the expression with each part in parentheses, itself too: all but
-/// what is the whole of a statement and, as the body of an arm or of a closure, a block without a label.
+/// Whether the file is only the constant `const _: () = e;`, where `e` is the expression with
+/// itself and each part in parentheses. No pair is put round what is the whole of a statement, nor
+/// round an unlabelled block as the body of an arm or of a closure.
 ///
-/// It is for programs that make trees. No place refuses what stands in parentheses: so the text of such a constant reads back to it exactly
-/// where the expression lacks nothing but parentheses.
+/// It is for programs that make trees. Anything may stand in parentheses: so the text of this
+/// constant parses back to it exactly if the expression lacks nothing but parentheses.
 pub fn same_enclosed(expr: &Expr, file: &File) -> bool
     ensures { IsTrue result ↔ file.now ≡ constant (part true expr.now) }
 {
@@ -25,7 +26,7 @@ pub fn same_enclosed(expr: &Expr, file: &File) -> bool
         && is_alone(expr, file.items.as_slice())
 }
 
-/// Whether the items are the constant alone.
+/// Whether the constant is the only item.
 fn is_alone(expr: &Expr, items: &[Item]) -> bool
     ensures { IsTrue result ↔ items.now ≡ (constant_item (part true expr.now) ∷ []) }
 {
@@ -44,7 +45,7 @@ fn is_constant(expr: &Expr, item: &Item) -> bool
         && is_value(expr, item.kind.get())
 }
 
-/// Whether the item is the constant, without its attributes and its visibility.
+/// Whether the item is the constant; its attributes and visibility aren't compared here.
 fn is_value(expr: &Expr, item: &ItemKind) -> bool
     ensures { IsTrue result
         ↔ item.now ≡ kind.Value (head.Const given.Underscore (ty.Tuple [])) (Some (part true expr.now)) }
@@ -55,7 +56,7 @@ fn is_value(expr: &Expr, item: &ItemKind) -> bool
     }
 }
 
-/// Whether the value is the expression in parentheses, with each part of it in parentheses.
+/// Whether the value is the expression with itself and each part in parentheses.
 fn is_enclosed(expr: &Expr, value: &Option<Boxed<Expr>>) -> bool
     ensures { IsTrue result ↔ value.now ≡ Some (part true expr.now) }
 {
@@ -65,7 +66,7 @@ fn is_enclosed(expr: &Expr, value: &Option<Boxed<Expr>>) -> bool
     }
 }
 
-/// Whether it is the head of the constant, `const _: ()`.
+/// Whether it is `const _: ()`.
 fn is_head(value_head: &ValueHead) -> bool
     ensures { IsTrue result ↔ value_head.now ≡ head.Const given.Underscore (ty.Tuple []) }
 {

@@ -1,6 +1,7 @@
-//! Whether a tree is what another becomes: expressions, blocks and items, which hold each other.
+//! Comparison of expressions, blocks and items, which contain each other.
 //!
-//! What a tree becomes goes by the type `X`: itself, or itself with each part in parentheses.
+//! The functions compare a tree with what another tree becomes by `X`: the same tree (`AsIs`), or
+//! the tree with each part in parentheses (`Enclosed`).
 ghost use Rattle.std.specs.Prelude.{◌≡◌, ◌↔◌, IsTrue, map, option_map};
 ghost use Rattle.lay_paren_defs.specs.Enclosed.{body_part, enclose_arm, enclose_block, enclose_branch, enclose_condition, enclose_field, enclose_item, enclose_link, enclose_step, enclose_stmt, operand_part, part, shell, shell_field, shell_kind, shell_link, shell_step, shell_stmt, target_part};
 
@@ -12,7 +13,7 @@ use lay_node::Boxed;
 use lay_paren_defs::{Enclose, is_body_enclosed};
 use lay_same_nodes::Same;
 
-/// Whether the other expression is what this one becomes, with no parentheses round it.
+/// Whether `other` is what `expr` becomes, without a pair of parentheses round the whole.
 #[cycle(code)]
 pub fn same_whole<X: Enclose>(expr: &Expr, other: &Expr) -> bool
     ensures { IsTrue result ↔ shell X.on expr.now ≡ other.now }
@@ -271,7 +272,7 @@ pub fn same_whole<X: Enclose>(expr: &Expr, other: &Expr) -> bool
     }
 }
 
-/// Whether the other expression is what this one becomes as a part.
+/// Whether `other` is what `expr` becomes as a part: in parentheses, if parts get them.
 #[cycle(code)]
 pub fn same_part<X: Enclose>(expr: &Expr, other: &Expr) -> bool
     ensures { IsTrue result ↔ part X.on expr.now ≡ other.now }
@@ -285,7 +286,7 @@ pub fn same_part<X: Enclose>(expr: &Expr, other: &Expr) -> bool
     }
 }
 
-/// Whether the other expression is what this one becomes as the body of an arm or of a closure.
+/// Whether `other` is what `body` becomes as the body of an arm or of a closure.
 #[cycle(code)]
 fn same_body_part<X: Enclose>(body: &Expr, other: &Expr) -> bool
     ensures { IsTrue result ↔ body_part X.on body.now ≡ other.now }
@@ -297,7 +298,7 @@ fn same_body_part<X: Enclose>(body: &Expr, other: &Expr) -> bool
     }
 }
 
-/// Whether the other expressions are what these become as parts.
+/// Whether `others` are what `exprs` become as parts.
 #[cycle(code)]
 fn same_parts<X: Enclose>(exprs: &[Expr], others: &[Expr]) -> bool
     ensures { IsTrue result ↔ map (part X.on) exprs.now ≡ others.now }
@@ -313,7 +314,7 @@ fn same_parts<X: Enclose>(exprs: &[Expr], others: &[Expr]) -> bool
     true
 }
 
-/// Whether the other part, which may be left out, is what this one becomes.
+/// Whether `other` is what the optional part `operand` becomes.
 #[cycle(code)]
 fn same_operand<X: Enclose>(operand: &Option<Boxed<Expr>>, other: &Option<Boxed<Expr>>) -> bool
     ensures { IsTrue result ↔ option_map (part X.on) operand.now ≡ other.now }
@@ -324,7 +325,7 @@ fn same_operand<X: Enclose>(operand: &Option<Boxed<Expr>>, other: &Option<Boxed<
     }
 }
 
-/// Whether a chain's other operators and operands are what these become.
+/// Whether `others` are what the operators and operands of a chain become.
 #[cycle(code)]
 fn same_operands<X: Enclose>(operands: &[(Op, Boxed<Expr>)], others: &[(Op, Boxed<Expr>)]) -> bool
     ensures { IsTrue result ↔ map (operand_part X.on) operands.now ≡ others.now }
@@ -340,7 +341,7 @@ fn same_operands<X: Enclose>(operands: &[(Op, Boxed<Expr>)], others: &[(Op, Boxe
     true
 }
 
-/// Whether a struct literal's other base is what this one becomes, after a `..` where there is one.
+/// Whether `other` is what the base of a struct literal becomes.
 #[cycle(code)]
 fn same_base<X: Enclose>(
     base: &Option<Option<Boxed<Expr>>>,
@@ -357,7 +358,7 @@ fn same_base<X: Enclose>(
     }
 }
 
-/// Whether an assignment's other targets are what these become.
+/// Whether `others` are what the targets of an assignment become.
 #[cycle(code)]
 fn same_targets<X: Enclose>(targets: &[(Boxed<Expr>, Op)], others: &[(Boxed<Expr>, Op)]) -> bool
     ensures { IsTrue result ↔ map (target_part X.on) targets.now ≡ others.now }
@@ -373,7 +374,7 @@ fn same_targets<X: Enclose>(targets: &[(Boxed<Expr>, Op)], others: &[(Boxed<Expr
     true
 }
 
-/// Whether a struct literal's other field is what this one becomes.
+/// Whether `other` is what the field of a struct literal becomes.
 #[cycle(code)]
 fn same_field<X: Enclose>(field: &FieldExpr, other: &FieldExpr) -> bool
     ensures { IsTrue result ↔ shell_field X.on field.now ≡ other.now }
@@ -417,7 +418,7 @@ fn same_field<X: Enclose>(field: &FieldExpr, other: &FieldExpr) -> bool
     }
 }
 
-/// Whether a struct literal's other fields are what these become.
+/// Whether `others` are what the fields of a struct literal become.
 #[cycle(code)]
 fn same_fields<X: Enclose>(fields: &[FieldExpr], others: &[FieldExpr]) -> bool
     ensures { IsTrue result ↔ map (enclose_field X.on) fields.now ≡ others.now }
@@ -433,7 +434,7 @@ fn same_fields<X: Enclose>(fields: &[FieldExpr], others: &[FieldExpr]) -> bool
     true
 }
 
-/// Whether the other step is what this one becomes.
+/// Whether `other` is what `step` becomes.
 #[cycle(code)]
 fn same_step<X: Enclose>(step: &Step, other: &Step) -> bool
     ensures { IsTrue result ↔ shell_step X.on step.now ≡ other.now }
@@ -471,7 +472,7 @@ fn same_step<X: Enclose>(step: &Step, other: &Step) -> bool
     }
 }
 
-/// Whether the other steps are what these become.
+/// Whether `others` are what `steps` become.
 #[cycle(code)]
 fn same_steps<X: Enclose>(steps: &[Step], others: &[Step]) -> bool
     ensures { IsTrue result ↔ map (enclose_step X.on) steps.now ≡ others.now }
@@ -487,7 +488,7 @@ fn same_steps<X: Enclose>(steps: &[Step], others: &[Step]) -> bool
     true
 }
 
-/// Whether the other block is what this one becomes.
+/// Whether `other` is what `block` becomes.
 #[cycle(code)]
 pub fn same_block<X: Enclose>(block: &Block, other: &Block) -> bool
     ensures { IsTrue result ↔ enclose_block X.on block.now ≡ other.now }
@@ -496,7 +497,7 @@ pub fn same_block<X: Enclose>(block: &Block, other: &Block) -> bool
         && same_stmts::<X>(block.stmts.as_slice(), other.stmts.as_slice())
 }
 
-/// Whether the other block, which may be left out, is what this one becomes.
+/// Whether `other` is what the optional block `body` becomes.
 #[cycle(code)]
 fn same_body<X: Enclose>(body: &Option<Block>, other: &Option<Block>) -> bool
     ensures { IsTrue result ↔ option_map (enclose_block X.on) body.now ≡ other.now }
@@ -507,7 +508,7 @@ fn same_body<X: Enclose>(body: &Option<Block>, other: &Option<Block>) -> bool
     }
 }
 
-/// Whether the other statement is what this one becomes.
+/// Whether `other` is what `stmt` becomes.
 #[cycle(code)]
 pub fn same_stmt<X: Enclose>(stmt: &Stmt, other: &Stmt) -> bool
     ensures { IsTrue result ↔ shell_stmt X.on stmt.now ≡ other.now }
@@ -553,7 +554,7 @@ pub fn same_stmt<X: Enclose>(stmt: &Stmt, other: &Stmt) -> bool
     }
 }
 
-/// Whether the other statements are what these become.
+/// Whether `others` are what `stmts` become.
 #[cycle(code)]
 fn same_stmts<X: Enclose>(stmts: &[Stmt], others: &[Stmt]) -> bool
     ensures { IsTrue result ↔ map (enclose_stmt X.on) stmts.now ≡ others.now }
@@ -569,7 +570,7 @@ fn same_stmts<X: Enclose>(stmts: &[Stmt], others: &[Stmt]) -> bool
     true
 }
 
-/// Whether the other branch is what this one becomes.
+/// Whether `other` is what `branch` becomes.
 #[cycle(code)]
 fn same_branch<X: Enclose>(branch: &Branch, other: &Branch) -> bool
     ensures { IsTrue result ↔ enclose_branch X.on branch.now ≡ other.now }
@@ -578,7 +579,7 @@ fn same_branch<X: Enclose>(branch: &Branch, other: &Branch) -> bool
         && same_block::<X>(&branch.body, &other.body)
 }
 
-/// Whether the other branches are what these become.
+/// Whether `others` are what `branches` become.
 #[cycle(code)]
 fn same_branches<X: Enclose>(branches: &[Branch], others: &[Branch]) -> bool
     ensures { IsTrue result ↔ map (enclose_branch X.on) branches.now ≡ others.now }
@@ -594,7 +595,7 @@ fn same_branches<X: Enclose>(branches: &[Branch], others: &[Branch]) -> bool
     true
 }
 
-/// Whether the other condition is what this one becomes.
+/// Whether `other` is what `condition` becomes.
 #[cycle(code)]
 fn same_condition<X: Enclose>(condition: &Condition, other: &Condition) -> bool
     ensures { IsTrue result ↔ enclose_condition X.on condition.now ≡ other.now }
@@ -602,7 +603,7 @@ fn same_condition<X: Enclose>(condition: &Condition, other: &Condition) -> bool
     same_links::<X>(condition.links.as_slice(), other.links.as_slice())
 }
 
-/// Whether a condition's other link is what this one becomes.
+/// Whether `other` is what `link` becomes.
 #[cycle(code)]
 fn same_link<X: Enclose>(link: &Link, other: &Link) -> bool
     ensures { IsTrue result ↔ shell_link X.on link.now ≡ other.now }
@@ -621,7 +622,7 @@ fn same_link<X: Enclose>(link: &Link, other: &Link) -> bool
     }
 }
 
-/// Whether a condition's other links are what these become.
+/// Whether `others` are what `links` become.
 #[cycle(code)]
 fn same_links<X: Enclose>(links: &[Link], others: &[Link]) -> bool
     ensures { IsTrue result ↔ map (enclose_link X.on) links.now ≡ others.now }
@@ -637,7 +638,7 @@ fn same_links<X: Enclose>(links: &[Link], others: &[Link]) -> bool
     true
 }
 
-/// Whether the other arm is what this one becomes.
+/// Whether `other` is what `arm` becomes.
 #[cycle(code)]
 pub fn same_arm<X: Enclose>(arm: &Arm, other: &Arm) -> bool
     ensures { IsTrue result ↔ enclose_arm X.on arm.now ≡ other.now }
@@ -648,7 +649,7 @@ pub fn same_arm<X: Enclose>(arm: &Arm, other: &Arm) -> bool
         && same_body_part::<X>(arm.body.get(), other.body.get())
 }
 
-/// Whether the other arms are what these become.
+/// Whether `others` are what `arms` become.
 #[cycle(code)]
 fn same_arms<X: Enclose>(arms: &[Arm], others: &[Arm]) -> bool
     ensures { IsTrue result ↔ map (enclose_arm X.on) arms.now ≡ others.now }
@@ -664,7 +665,7 @@ fn same_arms<X: Enclose>(arms: &[Arm], others: &[Arm]) -> bool
     true
 }
 
-/// Whether the other item is what this one becomes.
+/// Whether `other` is what `item` becomes.
 #[cycle(code)]
 pub fn same_item<X: Enclose>(item: &Item, other: &Item) -> bool
     ensures { IsTrue result ↔ enclose_item X.on item.now ≡ other.now }
@@ -674,7 +675,7 @@ pub fn same_item<X: Enclose>(item: &Item, other: &Item) -> bool
         && same_kind::<X>(item.kind.get(), other.kind.get())
 }
 
-/// Whether the other items are what these become.
+/// Whether `others` are what `items` become.
 #[cycle(code)]
 pub fn same_items<X: Enclose>(items: &[Item], others: &[Item]) -> bool
     ensures { IsTrue result ↔ map (enclose_item X.on) items.now ≡ others.now }
@@ -690,7 +691,7 @@ pub fn same_items<X: Enclose>(items: &[Item], others: &[Item]) -> bool
     true
 }
 
-/// Whether the other item is what this one becomes, without their attributes and visibilities.
+/// Whether `other` is what `kind` becomes.
 #[cycle(code)]
 fn same_kind<X: Enclose>(kind: &ItemKind, other: &ItemKind) -> bool
     ensures { IsTrue result ↔ shell_kind X.on kind.now ≡ other.now }

@@ -1,4 +1,4 @@
-//! Operators, and the parameters of closures.
+//! Equality of operators, and of the parameters of closures.
 ghost use Rattle.std.specs.Prelude.{◌≡◌, ◌↔◌, IsTrue};
 
 use lay_code::{ClosureParam, Op, Prefix};
@@ -43,7 +43,7 @@ pub fn same_op(op: &Op, other: &Op) -> bool
     }
 }
 
-/// Whether two prefixes are equal.
+/// Whether two prefix operators are equal.
 fn same_prefix(prefix: &Prefix, other: &Prefix) -> bool
     ensures { IsTrue result ↔ prefix.now ≡ other.now }
 {
@@ -65,7 +65,7 @@ fn same_param(param: &ClosureParam, other: &ClosureParam) -> bool
     param.attrs.same(&other.attrs) && param.pat.same(&other.pat) && param.ty.same(&other.ty)
 }
 
-/// Whether two lists of prefixes are equal.
+/// Whether two lists of prefix operators are equal.
 pub fn same_prefixes(prefixes: &[Prefix], others: &[Prefix]) -> bool
     ensures { IsTrue result ↔ prefixes.now ≡ others.now }
 {

@@ -1,4 +1,4 @@
-//! The heads of functions.
+//! The depth of the heads of functions.
 ghost use Rattle.std.specs.Prelude.{◌≡◌};
 ghost use Rattle.lay_form.specs.Depth.{least_depth};
 ghost use Rattle.lay_node.specs.nodes.Functions.{fn_head_form, fn_param_form};

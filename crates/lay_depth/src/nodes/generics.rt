@@ -1,4 +1,4 @@
-//! Generic parameters and where clauses.
+//! The depth of generic parameters and where clauses.
 ghost use Rattle.std.specs.Prelude.{◌≡◌, map};
 ghost use Rattle.lay_form.specs.Depth.{least_depth};
 ghost use Rattle.lay_node.specs.nodes.Generics.{generics_form, param_form};
@@ -9,7 +9,7 @@ use crate::nodes::levels::{Deep, deepest};
 use crate::nodes::types::{bounds_depth, type_depth};
 use lay_node::{GenericParam, Generics, Predicate, Ty, Wheres};
 
-/// The depth of a type that may be left out: 0 where it is.
+/// The depth of an optional type; 0 if there is none.
 pub fn type_or_none_depth(ty: &Option<Ty>) -> u32
     ensures { result ≡ counted (type_if ty.now) }
 {

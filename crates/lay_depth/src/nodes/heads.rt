@@ -1,4 +1,4 @@
-//! Fields, and the heads of items.
+//! The depth of fields and of the heads of items.
 ghost use Rattle.std.specs.Prelude.{◌≡◌, true};
 ghost use Rattle.lay_form.specs.Depth.{least_depth};
 ghost use Rattle.lay_node.specs.nodes.Fields.{field_form, fields_form, tuple_field_form, variant_form};
@@ -86,7 +86,7 @@ pub fn enum_depth(item: &Enum) -> u32
         .max(deepest(item.variants.as_slice()))
 }
 
-/// The depth of what stands before the value of a constant or a static.
+/// The depth of a constant or a static without its value.
 pub fn value_head_depth(head: &ValueHead) -> u32
     ensures { result ≡ counted (least_depth (value_head_form head.now)) }
 {

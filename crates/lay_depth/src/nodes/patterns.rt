@@ -1,4 +1,4 @@
-//! Patterns.
+//! The depth of patterns.
 ghost use Rattle.std.specs.Prelude.{◌≡◌, map};
 ghost use Rattle.lay_form.specs.Depth.{least_depth};
 ghost use Rattle.lay_node.specs.nodes.Facts.{forms};
@@ -37,7 +37,7 @@ pub fn pat_depth(pat: &Pat) -> u32
     }
 }
 
-/// The depth of the deepest of the patterns.
+/// The greatest depth of the patterns.
 #[cycle(patterns)]
 fn pats_depth(pats: &[Pat]) -> u32
     ensures { result ≡ counted (greatest (pat_forms Single (map about_pat pats.now))) }
@@ -49,7 +49,7 @@ fn pats_depth(pats: &[Pat]) -> u32
     most
 }
 
-/// The depth of the deepest of the fields of a struct's pattern.
+/// The greatest depth of the fields of a struct pattern.
 #[cycle(patterns)]
 fn fields_depth(fields: &[FieldPat]) -> u32
     ensures { result ≡ counted (greatest (forms (map about_field_pat fields.now))) }
@@ -61,7 +61,7 @@ fn fields_depth(fields: &[FieldPat]) -> u32
     most
 }
 
-/// The depth of a field of a struct's pattern.
+/// The depth of a field of a struct pattern.
 #[cycle(patterns)]
 fn field_depth(field: &FieldPat) -> u32
     ensures { result ≡ counted (least_depth (about_field_pat field.now).form) }
@@ -73,7 +73,7 @@ fn field_depth(field: &FieldPat) -> u32
     }
 }
 
-/// The depth of an end of a span, which may be left out.
+/// The depth of an end of a range pattern; 0 if there is none.
 fn end_depth(end: &Option<SpanEnd>) -> u32
     ensures { result ≡ counted (least_depth (last_end end.now)) }
 {

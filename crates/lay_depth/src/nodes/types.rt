@@ -1,4 +1,4 @@
-//! Types, and the paths, generic arguments and bounds that they are made of.
+//! The depth of types, paths, generic arguments and bounds.
 ghost use Rattle.std.specs.Prelude.{◌≡◌, map, option_map};
 ghost use Rattle.lay_form.specs.Depth.{least_depth};
 ghost use Rattle.lay_node.specs.nodes.Facts.{forms};
@@ -31,7 +31,7 @@ pub fn type_depth(ty: &Ty) -> u32
     }
 }
 
-/// The depth of the deepest of the types.
+/// The greatest depth of the types.
 #[cycle(types)]
 pub fn types_depth(types: &[Ty]) -> u32
     ensures { result ≡ counted (greatest (type_forms (map about_type types.now))) }
@@ -43,7 +43,7 @@ pub fn types_depth(types: &[Ty]) -> u32
     most
 }
 
-/// The depth of the deepest of the parameters of a function type.
+/// The greatest depth of the parameters of a function type.
 #[cycle(types)]
 fn params_depth(params: &[FuncParam]) -> u32
     ensures { result ≡ counted (greatest (forms (map about_func_param params.now))) }
@@ -55,7 +55,7 @@ fn params_depth(params: &[FuncParam]) -> u32
     most
 }
 
-/// The depth of a return type, and 0 without one.
+/// The depth of a return type; 0 if there is none.
 #[cycle(types)]
 fn output_depth(output: &Option<Boxed<Ty>>) -> u32
     ensures { result ≡ counted (least_depth (output_form (option_map about_type output.now))) }
@@ -66,7 +66,7 @@ fn output_depth(output: &Option<Boxed<Ty>>) -> u32
     }
 }
 
-/// The depth of a path. That of its generic arguments is the same in code and elsewhere.
+/// The depth of a path, which doesn't depend on how its generic arguments are spelled.
 #[cycle(types)]
 pub fn path_depth(path: &Path) -> u32
     ensures { result ≡ counted (least_depth (about_path path.now Kind).form) }
@@ -74,7 +74,7 @@ pub fn path_depth(path: &Path) -> u32
     start_depth(&path.start).max(segments_depth(path.segments.as_slice()))
 }
 
-/// The depth of what a path begins with. The trait that a type is taken as stands one level deeper.
+/// The depth of the beginning of a path. In `<A as B>::` the trait counts one level more.
 #[cycle(types)]
 fn start_depth(start: &PathStart) -> u32
     ensures { result ≡ counted (least_depth (about_start start.now).form) }
@@ -91,7 +91,7 @@ fn start_depth(start: &PathStart) -> u32
     }
 }
 
-/// The depth of the deepest generic arguments of the segments.
+/// The greatest depth of the generic arguments of the segments.
 #[cycle(types)]
 fn segments_depth(segments: &[(Word, Args)]) -> u32
     ensures { result ≡ counted (greatest (map segment_args segments.now)) }
@@ -115,7 +115,7 @@ fn args_depth(args: &Args) -> u32
     }
 }
 
-/// The depth of the deepest of generic arguments.
+/// The greatest depth of the generic arguments.
 #[cycle(types)]
 pub fn arguments_depth(args: &[Arg]) -> u32
     ensures { result ≡ counted (greatest (forms (map about_arg args.now))) }
@@ -127,7 +127,8 @@ pub fn arguments_depth(args: &[Arg]) -> u32
     most
 }
 
-/// The depth of a generic argument. A name with its constraint stands one level above what is in them.
+/// The depth of a generic argument. A name with its constraint counts one level more than what is
+/// in them.
 #[cycle(types)]
 fn arg_depth(arg: &Arg) -> u32
     ensures { result ≡ counted (least_depth (about_arg arg.now).form) }
@@ -143,7 +144,7 @@ fn arg_depth(arg: &Arg) -> u32
     }
 }
 
-/// The depth of what is asked of a name.
+/// The depth of what a generic argument says of an associated item.
 #[cycle(types)]
 fn constraint_depth(constraint: &Constraint) -> u32
     ensures { result ≡ counted (least_depth (about_constraint constraint.now).form) }
@@ -155,7 +156,7 @@ fn constraint_depth(constraint: &Constraint) -> u32
     }
 }
 
-/// The depth of the deepest of the bounds.
+/// The greatest depth of the bounds.
 #[cycle(types)]
 pub fn bounds_depth(bounds: &[Bound]) -> u32
     ensures { result ≡ counted (greatest (forms (map about_bound bounds.now))) }

@@ -1,4 +1,4 @@
-//! Use trees.
+//! The depth of use trees.
 ghost use Rattle.std.specs.Prelude.{◌≡◌, map};
 ghost use Rattle.lay_form.specs.Depth.{least_depth};
 ghost use Rattle.lay_node.specs.nodes.Facts.{forms};
@@ -16,7 +16,7 @@ pub fn use_depth(tree: &UseTree) -> u32
     deeper(end_depth(&tree.end))
 }
 
-/// The depth of what a use tree ends in.
+/// The depth of the end of a use tree.
 #[cycle(uses)]
 fn end_depth(end: &UseEnd) -> u32
     ensures { result ≡ counted (least_depth (about_use_end end.now).form) }
@@ -27,7 +27,7 @@ fn end_depth(end: &UseEnd) -> u32
     }
 }
 
-/// The depth of the deepest of the trees.
+/// The greatest depth of the use trees.
 #[cycle(uses)]
 fn trees_depth(trees: &[UseTree]) -> u32
     ensures { result ≡ counted (greatest (forms (map about_use trees.now))) }
