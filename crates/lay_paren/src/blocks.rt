@@ -1,4 +1,4 @@
-//! Blocks, statements, branches and arms.
+//! Parentheses in blocks, statements, branches and arms.
 ghost use Rattle.std.specs.Prelude.{◌≡◌, OnOk, map};
 ghost use Rattle.lay_code.specs.nodes.Places.{FREE};
 ghost use Rattle.lay_paren_defs.specs.loose.Slots.{BeforeElse};
@@ -15,7 +15,7 @@ use lay_ops_ends::may_precede_else;
 use lay_token::{List, NoMemory};
 use std::alloc::Global;
 
-/// Gives what stands in a block its parentheses.
+/// Puts the parentheses that the expressions in a block lack.
 #[cycle(code)]
 #[tactic(auto, using(crate::proofs::Becoming::block_becomes))]
 pub(crate) fn place_block(alloc: Global, block: &mut Block) -> Result<(), NoMemory>
@@ -24,7 +24,7 @@ pub(crate) fn place_block(alloc: Global, block: &mut Block) -> Result<(), NoMemo
     place_stmts(alloc, &mut block.stmts)
 }
 
-/// The same of a block that may be left out.
+/// Puts them in an optional block.
 #[cycle(code)]
 pub(crate) fn place_block_or_none(alloc: Global, block: &mut Option<Block>) -> Result<(), NoMemory>
     ensures { OnOk result (block.new ≡ block_or_none_least block.old) }
@@ -35,7 +35,7 @@ pub(crate) fn place_block_or_none(alloc: Global, block: &mut Option<Block>) -> R
     }
 }
 
-/// The same of statements.
+/// Puts them in statements.
 #[cycle(code)]
 #[tactic(auto, using(crate::proofs::Turning::refill))]
 fn place_stmts(alloc: Global, stmts: &mut List<Stmt>) -> Result<(), NoMemory>
@@ -44,7 +44,7 @@ fn place_stmts(alloc: Global, stmts: &mut List<Stmt>) -> Result<(), NoMemory>
     place_each_stmt(alloc, stmts.as_mut_slice())
 }
 
-/// The same of each of these.
+/// Puts them in each of the statements.
 #[cycle(code)]
 fn place_each_stmt(alloc: Global, stmts: &mut [Stmt]) -> Result<(), NoMemory>
     ensures { OnOk result (stmts.new ≡ map stmt_least stmts.old) }
@@ -55,7 +55,7 @@ fn place_each_stmt(alloc: Global, stmts: &mut [Stmt]) -> Result<(), NoMemory>
     Ok(())
 }
 
-/// The same of a statement.
+/// Puts them in a statement.
 #[cycle(code)]
 #[tactic(auto, using(crate::proofs::Becoming::stmt_becomes))]
 fn place_stmt(alloc: Global, stmt: &mut Stmt) -> Result<(), NoMemory>
@@ -75,7 +75,7 @@ fn place_stmt(alloc: Global, stmt: &mut Stmt) -> Result<(), NoMemory>
     }
 }
 
-/// The same of the value of a statement, if there is one, before an `else` or without one.
+/// Puts them in the value of a `let`, if it has one; `before_else` says that an `else` follows.
 #[cycle(code)]
 fn place_value(
     alloc: Global,
@@ -94,8 +94,9 @@ fn place_value(
     }
 }
 
-/// The same of a value before an `else`. Nothing but the `else` is asked there, so its parts get what they get where it stands in
-/// parentheses, and whether it needs these is told when they have it.
+/// Puts them in a value that stands before an `else`. Its parts are placed as anywhere in a
+/// statement. Then the value gets a pair if it can't precede the `else`, which depends on the
+/// parentheses that its parts got.
 #[cycle(code)]
 #[tactic(auto, using(crate::proofs::Becoming::before_else, crate::proofs::Becoming::not_before_else))]
 fn place_before_else(alloc: Global, value: &mut Expr) -> Result<(), NoMemory>
@@ -108,7 +109,7 @@ fn place_before_else(alloc: Global, value: &mut Expr) -> Result<(), NoMemory>
     enclose(alloc, value)
 }
 
-/// The same of branches.
+/// Puts them in branches.
 #[cycle(code)]
 #[tactic(auto, using(crate::proofs::Turning::refill))]
 pub(crate) fn place_branches(alloc: Global, branches: &mut List<Branch>) -> Result<(), NoMemory>
@@ -117,7 +118,7 @@ pub(crate) fn place_branches(alloc: Global, branches: &mut List<Branch>) -> Resu
     place_each_branch(alloc, branches.as_mut_slice())
 }
 
-/// The same of each of these.
+/// Puts them in each of the branches.
 #[cycle(code)]
 fn place_each_branch(alloc: Global, branches: &mut [Branch]) -> Result<(), NoMemory>
     ensures { OnOk result (branches.new ≡ map branch_least branches.old) }
@@ -128,7 +129,7 @@ fn place_each_branch(alloc: Global, branches: &mut [Branch]) -> Result<(), NoMem
     Ok(())
 }
 
-/// The same of a branch.
+/// Puts them in a branch.
 #[cycle(code)]
 #[tactic(auto, using(crate::proofs::Becoming::branch_becomes))]
 fn place_branch(alloc: Global, branch: &mut Branch) -> Result<(), NoMemory>
@@ -138,7 +139,7 @@ fn place_branch(alloc: Global, branch: &mut Branch) -> Result<(), NoMemory>
     place_block(alloc, &mut branch.body)
 }
 
-/// The same of arms.
+/// Puts them in the arms of a match.
 #[cycle(code)]
 #[tactic(auto, using(crate::proofs::Turning::refill))]
 pub(crate) fn place_arms(alloc: Global, arms: &mut List<Arm>) -> Result<(), NoMemory>
@@ -147,7 +148,7 @@ pub(crate) fn place_arms(alloc: Global, arms: &mut List<Arm>) -> Result<(), NoMe
     place_each_arm(alloc, arms.as_mut_slice())
 }
 
-/// The same of each of these.
+/// Puts them in each of the arms.
 #[cycle(code)]
 fn place_each_arm(alloc: Global, arms: &mut [Arm]) -> Result<(), NoMemory>
     ensures { OnOk result (arms.new ≡ map arm_least arms.old) }
@@ -158,7 +159,7 @@ fn place_each_arm(alloc: Global, arms: &mut [Arm]) -> Result<(), NoMemory>
     Ok(())
 }
 
-/// The same of an arm.
+/// Puts them in an arm.
 #[cycle(code)]
 #[tactic(auto, using(crate::proofs::Becoming::arm_becomes))]
 fn place_arm(alloc: Global, arm: &mut Arm) -> Result<(), NoMemory>

@@ -1,4 +1,4 @@
-//! The call that gives a tree its parentheses.
+//! `parenthesize`: puts the parentheses that a tree lacks.
 ghost use Rattle.std.specs.Prelude.{◌≡◌, ◌<◌, ◌≤◌, IfOk, MatchResult, OnOk, Ok, Err};
 ghost use Rattle.lay_form.specs.Depth.{least_depth};
 ghost use Rattle.lay_code.specs.nodes.Code.{about_expr};
@@ -12,24 +12,24 @@ use lay_depth::expr_depth;
 use lay_token::NoMemory;
 use std::alloc::Global;
 
-/// The greatest depth of what stands in a file.
+/// The greatest depth of what a file holds.
 const DEPTH: u32 = 256;
 
-/// Why a tree doesn't get its parentheses. What the call was given is let go.
+/// Why `parenthesize` failed. The tree that it was given is dropped.
 #[derive(Clone, Copy, Debug, PartialEq, Eq)]
 pub enum ParenError {
-    /// With its parentheses it is deeper than files may be.
+    /// With its parentheses the tree is deeper than a file may be.
     TooDeep,
-    /// Memory was not found.
+    /// Memory could not be allocated.
     NoMemory,
 }
 
-/// The expression with parentheses where it lacks them in this place: round each part that doesn't fit the place and the slot which it has
-/// by what stands around it, and nowhere else. `parenthesize_law` says of which trees what is made stands in the place, and that no
-/// pair can be left out. The place's level is at most 14.
+/// Puts parentheses round each part of the expression that doesn't fit where it stands, the
+/// expression itself at `place`, and nowhere else. `parenthesize_law` says for which trees the
+/// result may stand at the place, and that no pair can be left out. `place.level` is at most 14.
 ///
-/// It is one walk over the tree, in place, in time that is linear in it, with memory for the pairs alone; and it takes as much of the
-/// stack as the tree is deep.
+/// It is one walk over the tree, in place. It takes linear time, allocates the pairs only, and
+/// needs stack in proportion to the depth of the tree.
 pub fn parenthesize(alloc: Global, expr: Expr, place: Place) -> Result<Expr, ParenError>
     ensures least { IfOk result (λ made. made ≡ least expr place) }
     ensures within { IfOk result (λ made. least_depth (about_expr made).form ≤ 256) }
@@ -40,7 +40,7 @@ pub fn parenthesize(alloc: Global, expr: Expr, place: Place) -> Result<Expr, Par
     kept(made, answer)
 }
 
-/// The value, unless it is refused.
+/// The value, unless `answer` is an error.
 fn kept<A: Drop>(value: A, answer: Result<(), ParenError>) -> Result<A, ParenError>
     ensures { MatchResult result (λ kept. (kept ≡ value) × (answer ≡ Ok tt)) (λ why. answer ≡ Err why) }
 {
@@ -48,7 +48,8 @@ fn kept<A: Drop>(value: A, answer: Result<(), ParenError>) -> Result<A, ParenErr
     Ok(value)
 }
 
-/// Gives an expression its parentheses, and tells whether it is too deep with them.
+/// Puts the parentheses that the expression lacks. The error is `TooDeep` if it is then deeper than
+/// a file may be.
 #[tactic(auto, using(crate::proofs::Becoming::whole, crate::proofs::Becoming::too_deep))]
 fn placed(alloc: Global, expr: &mut Expr, place: Place) -> Result<(), ParenError>
     ensures least { OnOk result (expr.new ≡ least expr.old place) }

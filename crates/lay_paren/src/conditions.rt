@@ -1,4 +1,4 @@
-//! Conditions and their links.
+//! Parentheses in conditions.
 ghost use Rattle.std.specs.Prelude.{◌≡◌, OnOk, if◌then◌else◌, true};
 ghost use Rattle.lay_code.specs.nodes.Places as places;
 ghost use Rattle.lay_paren.specs.InPlace.{condition_least, link_least, links_least};
@@ -10,7 +10,7 @@ use lay_ops::places::{link_place, plain};
 use lay_token::{List, NoMemory};
 use std::alloc::Global;
 
-/// Gives what stands in a condition its parentheses.
+/// Puts the parentheses that the expressions in a condition lack.
 #[cycle(code)]
 #[tactic(auto, using(crate::proofs::Becoming::condition_becomes))]
 pub(crate) fn place_condition(alloc: Global, condition: &mut Condition) -> Result<(), NoMemory>
@@ -19,7 +19,7 @@ pub(crate) fn place_condition(alloc: Global, condition: &mut Condition) -> Resul
     place_links(alloc, &mut condition.links)
 }
 
-/// The same of links.
+/// Puts them in links.
 #[cycle(code)]
 #[tactic(auto, using(crate::proofs::Turning::refill))]
 fn place_links(alloc: Global, links: &mut List<Link>) -> Result<(), NoMemory>
@@ -28,7 +28,7 @@ fn place_links(alloc: Global, links: &mut List<Link>) -> Result<(), NoMemory>
     place_each_link(alloc, links.as_mut_slice())
 }
 
-/// The same of each of these.
+/// Puts them in each of the links.
 #[cycle(code)]
 fn place_each_link(alloc: Global, links: &mut [Link]) -> Result<(), NoMemory>
     ensures { OnOk result (links.new ≡ links_least links.old) }
@@ -41,7 +41,8 @@ fn place_each_link(alloc: Global, links: &mut [Link]) -> Result<(), NoMemory>
     Ok(())
 }
 
-/// The same of a link, which is a condition by itself, or has a further one after it, if it is said.
+/// Puts them in a link; `alone` says that it is the whole condition, `more` that another link
+/// follows.
 #[cycle(code)]
 #[tactic(auto, using(crate::proofs::Becoming::link_becomes))]
 fn place_link(alloc: Global, link: &mut Link, alone: bool, more: bool) -> Result<(), NoMemory>
@@ -57,7 +58,7 @@ fn place_link(alloc: Global, link: &mut Link, alone: bool, more: bool) -> Result
     }
 }
 
-/// The place of a link that is an expression.
+/// The place of a link that is an expression; `alone` and `more` as above.
 fn whole_place(alone: bool, more: bool) -> Place
     ensures { result ≡ (if alone then places.plain 0 true else places.link_place more) }
 {

@@ -1,4 +1,4 @@
-//! Expressions, and the fields and steps that they are made of.
+//! Parentheses in expressions, and in their fields and steps.
 ghost use Rattle.std.specs.Prelude.{◌≡◌, ◌≤◌, OnOk, map};
 ghost use Rattle.lay_code.specs.nodes.Code.{about_step};
 ghost use Rattle.lay_code.specs.nodes.Places.{begins};
@@ -29,8 +29,9 @@ pub(crate) fn enclose(alloc: Global, expr: &mut Expr) -> Result<(), NoMemory>
     Ok(())
 }
 
-/// Gives an expression the parentheses that it lacks in its place and its slot. What it lacks itself is told before its parts
-/// are given theirs, since in parentheses they have other places, and nothing is ever taken out.
+/// Puts the parentheses that an expression lacks at its place and in its slot. Whether it gets a
+/// pair itself is decided before its parts get theirs, since parts of an expression in parentheses
+/// have other places. No pair is ever removed.
 #[cycle(code)]
 #[tactic(auto, using(crate::proofs::Becoming::fitting, crate::proofs::Becoming::enclosed))]
 pub(crate) fn place_expr(
@@ -48,7 +49,7 @@ pub(crate) fn place_expr(
     enclose(alloc, expr)
 }
 
-/// Gives the parts of an expression the parentheses that they lack, where it stands in this place.
+/// Puts the parentheses that the parts of an expression lack, if the expression stands at `place`.
 #[cycle(code)]
 #[tactic(auto, using(crate::proofs::Becoming::parts_become, crate::proofs::Becoming::lit_stays, crate::proofs::Becoming::path_stays, crate::proofs::Becoming::call_stays, crate::proofs::Becoming::continue_stays))]
 pub(crate) fn place_parts(alloc: Global, expr: &mut Expr, place: Place) -> Result<(), NoMemory>
@@ -142,7 +143,7 @@ pub(crate) fn place_parts(alloc: Global, expr: &mut Expr, place: Place) -> Resul
     }
 }
 
-/// The slot of what stands before these steps.
+/// The slot of the expression before these postfix steps.
 fn base_slot(steps: &[Step]) -> Slot
     ensures { slot_of result ≡ parts.base_slot (map about_step steps.now) }
 {
@@ -153,7 +154,7 @@ fn base_slot(steps: &[Step]) -> Slot
     }
 }
 
-/// The slot of the operand of a `break` with this label, or without one.
+/// The slot of the operand of a `break`, with or without a label.
 fn break_slot(label: &Option<Lifetime>) -> Slot
     ensures { slot_of result ≡ parts.break_slot label.now }
 {
@@ -163,7 +164,7 @@ fn break_slot(label: &Option<Lifetime>) -> Slot
     }
 }
 
-/// Gives each of the expressions its parentheses, within delimiters.
+/// Puts the parentheses that expressions within delimiters lack.
 #[cycle(code)]
 #[tactic(auto, using(crate::proofs::Turning::refill))]
 fn place_exprs(alloc: Global, exprs: &mut List<Expr>) -> Result<(), NoMemory>
@@ -172,7 +173,7 @@ fn place_exprs(alloc: Global, exprs: &mut List<Expr>) -> Result<(), NoMemory>
     place_each_expr(alloc, exprs.as_mut_slice())
 }
 
-/// The same of each of these.
+/// Puts them in each of the expressions.
 #[cycle(code)]
 fn place_each_expr(alloc: Global, exprs: &mut [Expr]) -> Result<(), NoMemory>
     ensures { OnOk result (exprs.new ≡ exprs_least exprs.old) }
@@ -183,7 +184,7 @@ fn place_each_expr(alloc: Global, exprs: &mut [Expr]) -> Result<(), NoMemory>
     Ok(())
 }
 
-/// The same of an operand that may be left out.
+/// Puts them in an optional operand.
 #[cycle(code)]
 pub(crate) fn place_operand(
     alloc: Global,
@@ -199,7 +200,7 @@ pub(crate) fn place_operand(
     }
 }
 
-/// The same of the operands after operators of this level.
+/// Puts them in the operands of a chain after the first; `level` is that of its operators.
 #[cycle(code)]
 #[tactic(auto, using(crate::proofs::Turning::refill))]
 fn place_operands(
@@ -214,7 +215,7 @@ fn place_operands(
     place_each_operand(alloc, operands.as_mut_slice(), level, place)
 }
 
-/// The same of each of these.
+/// Puts them in each of the operands.
 #[cycle(code)]
 fn place_each_operand(
     alloc: Global,
@@ -239,7 +240,7 @@ fn place_each_operand(
     Ok(())
 }
 
-/// The same of the targets of an assignment.
+/// Puts them in the targets of an assignment.
 #[cycle(code)]
 #[tactic(auto, using(crate::proofs::Turning::refill))]
 fn place_targets(
@@ -252,7 +253,7 @@ fn place_targets(
     place_each_target(alloc, targets.as_mut_slice(), place)
 }
 
-/// The same of each of these.
+/// Puts them in each of the targets.
 #[cycle(code)]
 fn place_each_target(
     alloc: Global,
@@ -270,7 +271,7 @@ fn place_each_target(
     Ok(())
 }
 
-/// The same of the fields of a struct literal.
+/// Puts them in the fields of a struct literal.
 #[cycle(code)]
 #[tactic(auto, using(crate::proofs::Turning::refill))]
 fn place_fields(alloc: Global, fields: &mut List<FieldExpr>) -> Result<(), NoMemory>
@@ -279,7 +280,7 @@ fn place_fields(alloc: Global, fields: &mut List<FieldExpr>) -> Result<(), NoMem
     place_each_field(alloc, fields.as_mut_slice())
 }
 
-/// The same of each of these.
+/// Puts them in each of the fields.
 #[cycle(code)]
 fn place_each_field(alloc: Global, fields: &mut [FieldExpr]) -> Result<(), NoMemory>
     ensures { OnOk result (fields.new ≡ map field_least fields.old) }
@@ -290,7 +291,7 @@ fn place_each_field(alloc: Global, fields: &mut [FieldExpr]) -> Result<(), NoMem
     Ok(())
 }
 
-/// The same of a field of a struct literal.
+/// Puts them in a field of a struct literal.
 #[cycle(code)]
 #[tactic(auto, using(crate::proofs::Becoming::field_becomes, crate::proofs::Becoming::short_stays))]
 fn place_field(alloc: Global, field: &mut FieldExpr) -> Result<(), NoMemory>
@@ -303,7 +304,7 @@ fn place_field(alloc: Global, field: &mut FieldExpr) -> Result<(), NoMemory>
     }
 }
 
-/// The same of the base of a struct literal, if there is one.
+/// Puts them in the base of a struct literal, if it has one.
 #[cycle(code)]
 fn place_base(alloc: Global, base: &mut Option<Option<Boxed<Expr>>>) -> Result<(), NoMemory>
     ensures { OnOk result (base.new ≡ base_least base.old) }
@@ -314,7 +315,7 @@ fn place_base(alloc: Global, base: &mut Option<Option<Boxed<Expr>>>) -> Result<(
     }
 }
 
-/// The same of what stands in steps.
+/// Puts them in postfix steps.
 #[cycle(code)]
 #[tactic(auto, using(crate::proofs::Turning::refill))]
 fn place_steps(alloc: Global, steps: &mut List<Step>) -> Result<(), NoMemory>
@@ -323,7 +324,7 @@ fn place_steps(alloc: Global, steps: &mut List<Step>) -> Result<(), NoMemory>
     place_each_step(alloc, steps.as_mut_slice())
 }
 
-/// The same of each of these.
+/// Puts them in each of the steps.
 #[cycle(code)]
 fn place_each_step(alloc: Global, steps: &mut [Step]) -> Result<(), NoMemory>
     ensures { OnOk result (steps.new ≡ map step_least steps.old) }
@@ -334,7 +335,7 @@ fn place_each_step(alloc: Global, steps: &mut [Step]) -> Result<(), NoMemory>
     Ok(())
 }
 
-/// The same of what stands in a step.
+/// Puts them in a postfix step.
 #[cycle(code)]
 #[tactic(auto, using(crate::proofs::Becoming::step_becomes, crate::proofs::Becoming::name_stays, crate::proofs::Becoming::index_stays))]
 fn place_step(alloc: Global, step: &mut Step) -> Result<(), NoMemory>

@@ -1,4 +1,4 @@
-//! Items.
+//! Parentheses in items.
 ghost use Rattle.std.specs.Prelude.{◌≡◌, OnOk, map};
 ghost use Rattle.lay_paren.specs.InPlace.{item_least, kind_least};
 
@@ -10,7 +10,7 @@ use lay_ops::places::FREE;
 use lay_token::{List, NoMemory};
 use std::alloc::Global;
 
-/// Gives what stands in an item its parentheses.
+/// Puts the parentheses that the expressions in an item lack.
 #[cycle(code)]
 #[tactic(auto, using(crate::proofs::Becoming::item_becomes))]
 pub(crate) fn place_item(alloc: Global, item: &mut Item) -> Result<(), NoMemory>
@@ -19,7 +19,7 @@ pub(crate) fn place_item(alloc: Global, item: &mut Item) -> Result<(), NoMemory>
     place_kind(alloc, item.kind.get_mut())
 }
 
-/// The same of items.
+/// Puts them in items.
 #[cycle(code)]
 #[tactic(auto, using(crate::proofs::Turning::refill))]
 fn place_items(alloc: Global, items: &mut List<Item>) -> Result<(), NoMemory>
@@ -28,7 +28,7 @@ fn place_items(alloc: Global, items: &mut List<Item>) -> Result<(), NoMemory>
     place_each_item(alloc, items.as_mut_slice())
 }
 
-/// The same of each of these.
+/// Puts them in each of the items.
 #[cycle(code)]
 fn place_each_item(alloc: Global, items: &mut [Item]) -> Result<(), NoMemory>
     ensures { OnOk result (items.new ≡ map item_least items.old) }
@@ -39,7 +39,7 @@ fn place_each_item(alloc: Global, items: &mut [Item]) -> Result<(), NoMemory>
     Ok(())
 }
 
-/// The same of what an item is.
+/// Puts them in what an item is.
 #[cycle(code)]
 #[tactic(auto, using(crate::proofs::Becoming::kind_becomes))]
 fn place_kind(alloc: Global, kind: &mut ItemKind) -> Result<(), NoMemory>

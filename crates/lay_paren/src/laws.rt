@@ -1,4 +1,4 @@
-//! What holds of parentheses that are put where they are lacking.
+//! The theorem about `parenthesize`. (No code runs.)
 ghost use Rattle.std.specs.Prelude.{◌≡◌, ◌≤◌, not, [], IsTrue};
 ghost use Rattle.std.specs.List.{list_all};
 ghost use Rattle.lay_form.specs.Pieces.{are_pieces};
@@ -11,9 +11,10 @@ ghost use Rattle.lay_paren.specs.Erased.{erase};
 ghost use Rattle.lay_paren.specs.Least.{cuts, least};
 ghost use Rattle.lay_paren.specs.LeftOut.{left_out};
 
-/// Of a loose tree the result stands in the place, and its tokens are pieces where the tree's are. Without its parentheses the
-/// result is the tree without its own. Without any one of the pairs that were put in, it doesn't stand there; where the tree has no
-/// pair of its own these are all of the result's. And what stands there as it is gets none.
+/// For a loose tree the result may stand at the place, and its tokens are pieces if the tree's are.
+/// With all parentheses removed, the result and the tree are equal. With any one of the added pairs
+/// removed, the result may not stand at the place; if the tree had no parentheses, the added pairs
+/// are all that the result has. A tree that may stand at the place gets none.
 pub fn parenthesize_law()
     ensures stands { (x : Expr) (place : Place) → place.level ≤ 14 → IsTrue (meets_rules x) → IsTrue (placed (about_expr (least x place)) place) }
     ensures pieces { (x : Expr) (place : Place) → are_pieces (about_expr (least x place)).form ≡ are_pieces (about_expr x).form }

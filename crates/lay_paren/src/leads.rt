@@ -1,4 +1,4 @@
-//! What an expression begins with, once its parts have the parentheses that they lack.
+//! The first token of an expression, once its parts have their parentheses.
 ghost use Rattle.std.specs.Prelude.{◌≡◌, ◌<◌};
 ghost use Rattle.lay_code.specs.nodes.Code.{about_expr};
 ghost use Rattle.lay_code.specs.nodes.Exprs.{label_or};
@@ -14,17 +14,17 @@ use lay_ops::operands::ExprLead;
 use lay_ops::places::before_op;
 use lay_ops::{is_number, may};
 
-/// What begins an expression.
+/// What an expression begins with.
 #[derive(Clone, Copy)]
 enum Edge<'a> {
-    /// A token of its own.
+    /// A token of the expression itself.
     Own(ExprLead),
-    /// A part, which stands in this place. The flag says that it stands directly before the index of a tuple.
+    /// A part, at its place. The flag says that a tuple index follows directly.
     In(&'a Expr, Place, bool),
 }
 
-/// What begins an expression of which the parts have the parentheses that they lack, where their places are from this place. Down
-/// the left edge a part is asked for no more than what its root tells, so one loop finds it.
+/// What an expression at `place` begins with, once its parts have their parentheses. Whether a part
+/// on the left edge needs a pair depends on its root only, so one loop finds it.
 #[tactic(auto, using(crate::proofs::Beginning::bare_lead, crate::proofs::Beginning::paren_lead))]
 pub(crate) fn lead(expr: &Expr, place: Place) -> ExprLead
     ensures { told result ≡ (about_expr (parts_least place expr.now)).lead }
@@ -45,7 +45,7 @@ pub(crate) fn lead(expr: &Expr, place: Place) -> ExprLead
     }
 }
 
-/// What begins an expression whose parts have their places from this place.
+/// What an expression at `place` begins with: a token of its own, or a part with its place.
 #[tactic(auto, using(crate::proofs::Beginning::lead_is))]
 fn left_edge(expr: &Expr, place: Place) -> Edge<'_>
     ensures told { begun result ≡ (about_expr (parts_least place expr.now)).lead }
@@ -101,7 +101,7 @@ fn left_edge(expr: &Expr, place: Place) -> Edge<'_>
     }
 }
 
-/// What begins a node that may have a label.
+/// What a node with an optional label begins with: the label, or else `lead`.
 fn label_or(label: &Option<Lifetime>, lead: ExprLead) -> ExprLead
     ensures { told result ≡ label_or (told lead) label.now }
 {
@@ -111,7 +111,8 @@ fn label_or(label: &Option<Lifetime>, lead: ExprLead) -> ExprLead
     }
 }
 
-/// Whether a part at the left end stands in its place as it is. The flag says that it stands directly before the index of a tuple.
+/// Whether a part on the left edge needs no parentheses at its place; `before_index` says that a
+/// tuple index follows directly.
 #[tactic(auto, using(crate::proofs::Beginning::may_is, crate::proofs::Beginning::number_is))]
 fn is_bare(part: &Expr, place: Place, before_index: bool) -> bool
     ensures { result ≡ fits (about_expr (parts_least place part.now)) place (left_slot before_index) }

@@ -1,4 +1,4 @@
-//! The places of the parts of expressions, from the place of the whole.
+//! The places of the parts of expressions, computed from the place of the whole.
 ghost use Rattle.std.specs.Prelude.{◌≡◌, ◌≤◌, map};
 ghost use Rattle.lay_code.specs.Operators.{is_angle_op};
 ghost use Rattle.lay_code.specs.nodes.Code.{about_step};
@@ -19,7 +19,7 @@ pub(crate) fn begins(start: Start) -> bool
     !matches!(start, Start::No)
 }
 
-/// The place of a part at the right end of a node: of this level, with the rest as the node's.
+/// The place of a part on the right edge of a node: of level `level`, and otherwise as the node's.
 pub(crate) fn as_node(place: Place, level: u8) -> Place
     ensures { result ≡ as_node place level }
 {
@@ -32,7 +32,7 @@ pub(crate) fn as_node(place: Place, level: u8) -> Place
     }
 }
 
-/// The level of the operators of a chain, of which these are the operands after the first.
+/// The precedence level of the operators of a chain, given its operands after the first.
 #[tactic(auto, using(crate::proofs::Levels::level_is, crate::proofs::Levels::level_low))]
 pub(crate) fn level_by(rest: &[(Op, Boxed<Expr>)]) -> u8
     ensures level { result ≡ parts.level_by rest.now }
@@ -41,7 +41,7 @@ pub(crate) fn level_by(rest: &[(Op, Boxed<Expr>)]) -> u8
     first_level(rest)
 }
 
-/// The place of the first operand of a chain, of which these are the others.
+/// The place of the first operand of a chain, given the other operands.
 pub(crate) fn first_place(rest: &[(Op, Boxed<Expr>)], place: Place) -> Place
     ensures { result ≡ first_place place rest.now }
 {
@@ -49,7 +49,8 @@ pub(crate) fn first_place(rest: &[(Op, Boxed<Expr>)], place: Place) -> Place
     before_op(level_by(rest) + 1, place.no_struct, first, angle_next(rest))
 }
 
-/// The place of an operand after an operator of this level, before a further operator or without one.
+/// The place of an operand of a chain after its operator; `next` is the operator that follows, if
+/// one does.
 pub(crate) fn operand_place(next: Option<Op>, level: u8, place: Place) -> Place
     requires { level ≤ 10 }
     ensures { result ≡ operand_before place level next }
@@ -77,7 +78,7 @@ fn is_angle(op: Op) -> bool
     matches!(op, Op::Less | Op::Shl)
 }
 
-/// The place of what stands before these steps.
+/// The place of the expression before these postfix steps.
 pub(crate) fn base_place(steps: &[Step], place: Place) -> Place
     ensures { result ≡ parts.base_place place (map about_step steps.now) }
 {
@@ -89,7 +90,7 @@ pub(crate) fn base_place(steps: &[Step], place: Place) -> Place
     )
 }
 
-/// Whether the first of the steps is the index of a tuple.
+/// Whether the first of the steps is a tuple index.
 pub(crate) fn is_index_first(steps: &[Step]) -> bool
     ensures { result ≡ first_step is_tuple_index (map about_step steps.now) }
 {
@@ -99,7 +100,7 @@ pub(crate) fn is_index_first(steps: &[Step]) -> bool
     }
 }
 
-/// Whether a step is the index of a tuple.
+/// Whether a step is a tuple index.
 #[tactic(auto, using(crate::proofs::Beginning::step_kind))]
 fn is_tuple_index(step: &Step) -> bool
     ensures { result ≡ is_tuple_index (about_step step.now).kind }

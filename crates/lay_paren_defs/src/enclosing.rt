@@ -1,11 +1,11 @@
-//! Whether parts get their parentheses.
+//! Whether each part of a tree gets parentheses, as a type parameter.
 ghost use Rattle.std.specs.Prelude.{◌≡◌, ◌&&◌, Bool, false, not, true};
 ghost use Rattle.lay_paren_defs.specs.Enclosed.{is_bare};
 
 use lay_code::Expr;
 
-/// Whether what goes over a tree goes over it with each part in parentheses, or as it is. It is a type, so that what goes over trees as
-/// they are pays nothing for it.
+/// Whether a walk over a tree sees it with each part in parentheses, or as it is. It is a type and
+/// no flag, so a walk over trees as they are costs nothing more.
 pub trait Enclose {
     /// Whether parts get parentheses.
     ghost on: { Bool };
@@ -15,7 +15,7 @@ pub trait Enclose {
         ensures { result ≡ on };
 }
 
-/// A tree as it is.
+/// The tree as it is.
 pub struct AsIs;
 
 impl Enclose for AsIs {
@@ -26,7 +26,7 @@ impl Enclose for AsIs {
     }
 }
 
-/// A tree with each part in parentheses.
+/// The tree with each part in parentheses.
 pub struct Enclosed;
 
 impl Enclose for Enclosed {
@@ -37,7 +37,8 @@ impl Enclose for Enclosed {
     }
 }
 
-/// Whether the body of an arm or of a closure gets parentheses: where parts do, each but a block without a label.
+/// Whether the body of an arm or of a closure gets parentheses: if parts do, then each body but an
+/// unlabelled block.
 pub fn is_body_enclosed<X: Enclose>(body: &Expr) -> bool
     ensures { result ≡ (X.on && not (is_bare body.now)) }
 {

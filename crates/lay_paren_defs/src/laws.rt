@@ -1,4 +1,4 @@
-//! What holds of trees in which parts stand in parentheses.
+//! The theorem about trees with each part in parentheses. (No code runs.)
 ghost use Rattle.std.specs.Prelude.{◌≡◌, Bool};
 ghost use Rattle.lay_code.specs.declared.blocks.Arm.{Arm};
 ghost use Rattle.lay_code.specs.declared.blocks.Block.{Block};
@@ -13,7 +13,7 @@ ghost use Rattle.lay_code.specs.declared.item.Item.{Item};
 ghost use Rattle.lay_code.specs.declared.item.ItemKind.{ItemKind};
 ghost use Rattle.lay_paren_defs.specs.Enclosed.{enclose, enclose_arm, enclose_block, enclose_branch, enclose_condition, enclose_field, enclose_item, enclose_kind, enclose_link, enclose_step, enclose_stmt, shell, shell_arm, shell_block, shell_branch, shell_condition, shell_field, shell_item, shell_kind, shell_link, shell_step, shell_stmt};
 
-/// A node of which each part is what that part becomes is what the node becomes.
+/// Enclosing a node is the same as rebuilding it from its enclosed parts.
 pub fn shell_law()
     ensures expr { (on : Bool) (x : Expr) → shell on x ≡ enclose on x }
     ensures field { (on : Bool) (x : FieldExpr) → shell_field on x ≡ enclose_field on x }

@@ -1,4 +1,4 @@
-//! What holds of trees with each part in parentheses.
+//! The theorem about trees with each part in parentheses. (No code runs.)
 ghost use Rattle.std.specs.Prelude.{◌≡◌, ◌↔◌, ◌+◌, ◌*◌, ◌≤◌, true};
 ghost use Rattle.lay_form.specs.Depth.{least_depth};
 ghost use Rattle.lay_form.specs.Pieces.{are_pieces};
@@ -12,9 +12,10 @@ ghost use Rattle.lay_paren_defs.specs.Constant.{constant};
 ghost use Rattle.lay_paren_defs.specs.Enclosed.{part};
 ghost use Rattle.lay_paren_defs.specs.loose.Loose.{Loose, meets_rules};
 
-/// A tree meets each rule but those of places and slots exactly where the tree with each part in parentheses stands where anything may
-/// stand, and its tokens are pieces exactly where that tree's are. So it is loose exactly where a constant of which that tree is the
-/// value can be written, if it is no deeper than files may be. That constant is at most twice as deep, and two levels more.
+/// A tree meets each rule except those of places and slots exactly if the tree with each part in
+/// parentheses may stand anywhere, and its tokens are pieces exactly if that tree's are. So a tree
+/// is loose exactly if a constant with that tree as its value can be written, if it is no deeper
+/// than files may be. The constant is at most twice as deep as the tree, and two levels more.
 pub fn enclosed_law()
     ensures rules { (x : Expr) → meets_rules x ≡ placed (about_expr (part true x)) FREE }
     ensures pieces { (x : Expr)
