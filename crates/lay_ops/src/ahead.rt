@@ -1,4 +1,4 @@
-//! Operators and operands at the beginning of what a reader has ahead.
+//! The tests for operators and operands, on the cursor of the readers.
 ghost use Rattle.std.specs.Prelude.{◌≡◌, None, option_map};
 ghost use Rattle.lay_code.specs.Operands as operands;
 ghost use Rattle.lay_code.specs.Operators as operators;
@@ -11,7 +11,7 @@ use lay_read_tokens::Ahead;
 use lay_read_tokens::front::{is_at_keyword, is_at_opened};
 use lay_token::Delim;
 
-/// The operator between operands at the beginning, if there is one.
+/// The binary operator that comes next, if one does.
 pub fn binary(at: &Ahead<'_>) -> Option<Op>
     ensures { result ≡ operators.binary at.now }
 {
@@ -19,7 +19,7 @@ pub fn binary(at: &Ahead<'_>) -> Option<Op>
     crate::operators::binary(&cursor)
 }
 
-/// The operator before an operand at the beginning, if there is one.
+/// The prefix operator that comes next, if one does.
 pub fn prefix(at: &Ahead<'_>) -> Option<Prefix>
     ensures { result ≡ operators.prefix at.now }
 {
@@ -27,7 +27,7 @@ pub fn prefix(at: &Ahead<'_>) -> Option<Prefix>
     crate::operators::prefix(&cursor)
 }
 
-/// What the tokens ahead begin, if it is an expression.
+/// How an expression begins with the next tokens, if one does.
 pub fn expr_lead_at(at: &Ahead<'_>) -> Option<ExprLead>
     ensures { option_map told result ≡ operands.expr_lead_at at.now }
 {
@@ -35,14 +35,14 @@ pub fn expr_lead_at(at: &Ahead<'_>) -> Option<ExprLead>
     crate::operands::expr_lead_at(&cursor)
 }
 
-/// Whether an operand comes next, where no struct literal may stand or where one may.
+/// Whether an operand comes next; `no_struct` says that no struct literal may stand there.
 pub fn begins_operand(at: &Ahead<'_>, no_struct: bool) -> bool
     ensures { result ≡ operands.begins_operand no_struct at.now }
 {
     is_operand_lead(expr_lead_at(at), no_struct)
 }
 
-/// Whether `.` or `?` comes next, which go on with an expression even where nothing else does.
+/// Whether `.` or `?` comes next, which go on with an expression even if that ends a statement.
 pub fn is_dot_or_try(at: &Ahead<'_>) -> bool
     ensures { result ≡ operators.is_dot_or_try at.now }
 {
@@ -56,15 +56,15 @@ pub fn begins_step(at: &Ahead<'_>) -> bool
     is_dot_or_try(at) || is_at_opened(at, Delim::Paren) || is_at_opened(at, Delim::Bracket)
 }
 
-/// Whether `<` or `<<` comes next, which would open the generic arguments of a type before it.
+/// Whether `<` or `<<` comes next, which after a type would open generic arguments.
 pub fn is_angle(at: &Ahead<'_>) -> bool
     ensures { result ≡ operators.is_angle at.now }
 {
     matches!(binary(at), Some(Op::Less | Op::Shl))
 }
 
-/// How strongly the tokens ahead go on with an expression: 0 where they don't, and else one more than the level of the
-/// operator, of `as` or of the postfix step.
+/// How tightly the next tokens bind an expression before them: 0 if they don't go on with it, else
+/// 1 more than the precedence level of the operator, of `as`, or of the postfix step.
 #[tactic(auto, unfolding(lay_code::specs::Operators::strength))]
 pub fn strength(at: &Ahead<'_>) -> u8
     ensures { result ≡ operators.strength at.now }
@@ -75,7 +75,7 @@ pub fn strength(at: &Ahead<'_>) -> u8
     }
 }
 
-/// The same where no operator comes next.
+/// How tightly the next tokens bind, if no binary operator comes next.
 fn strength_without_op(at: &Ahead<'_>) -> u8
     ensures { result ≡ operators.strength_by None at.now }
 {

@@ -1,4 +1,4 @@
-//! What is told of blocks, statements and items by their roots.
+//! Facts about blocks, statements and items, decided by their roots.
 ghost use Rattle.std.specs.Prelude.{◌≡◌, ◌&&◌, ◌||◌, not, is_some};
 ghost use Rattle.lay_ops.specs.RootFacts.{lone_in, structless_in};
 ghost use Rattle.lay_code.specs.nodes.Bodies.{is_lone_body, is_macro, sheds};
@@ -9,7 +9,7 @@ use crate::roots::{is_block_like, is_macro};
 use crate::structs::is_structless;
 use lay_code::{Attr, Block, Expr, Item, ItemKind, Lifetime, Stmt};
 
-/// Whether another statement may stand after it.
+/// Whether another statement may follow the statement.
 #[tactic(auto, using(crate::proofs::BodyFacts::ends_is))]
 pub fn ends(stmt: &Stmt) -> bool
     ensures { result ≡ (about_stmt stmt.now).ends }
@@ -20,7 +20,7 @@ pub fn ends(stmt: &Stmt) -> bool
     }
 }
 
-/// Whether an expression with these attributes is no macro call, and has neither attributes nor a `;`.
+/// Whether the expression is plain: no macro call, without attributes and without a `;`.
 fn is_lone_expr(attrs: &[Attr], ended: bool, expr: &Expr) -> bool
     ensures { result ≡ ((is_plain attrs.now && not ended)
         && not (is_macro (about_expr expr.now).kind)) }
@@ -28,7 +28,7 @@ fn is_lone_expr(attrs: &[Attr], ended: bool, expr: &Expr) -> bool
     attrs.is_empty() && !ended && !is_macro(expr)
 }
 
-/// Whether it is such an expression.
+/// Whether the statement is such a plain expression.
 #[tactic(auto, using(crate::proofs::BodyFacts::lone_stmt_is))]
 fn is_lone_stmt(stmt: &Stmt) -> bool
     ensures { result ≡ ((about_stmt stmt.now).bare && not (about_stmt stmt.now).call) }
@@ -39,7 +39,7 @@ fn is_lone_stmt(stmt: &Stmt) -> bool
     }
 }
 
-/// Whether it is one statement, which is such an expression.
+/// Whether the list is a single statement that is a plain expression.
 fn is_lone_list(stmts: &[Stmt]) -> bool
     ensures { result ≡ lone_in stmts.now }
 {
@@ -49,7 +49,7 @@ fn is_lone_list(stmts: &[Stmt]) -> bool
     }
 }
 
-/// Whether a block holds such an expression and nothing else.
+/// Whether a block holds a plain expression and nothing else.
 #[tactic(auto, using(crate::proofs::BodyFacts::lone_is))]
 fn is_lone(block: &Block) -> bool
     ensures { result ≡ (about_block block.now).lone }
@@ -67,7 +67,7 @@ pub(crate) fn is_unlabelled(label: &Option<Lifetime>) -> bool
     }
 }
 
-/// Whether it is a block whose braces are dropped where it is the body of an arm.
+/// Whether the expression is a block whose braces are dropped as the body of an arm.
 #[tactic(auto, using(crate::proofs::BodyFacts::lone_body_is))]
 pub fn is_lone_body(expr: &Expr) -> bool
     ensures { result ≡ is_lone_body (about_expr expr.now).kind }
@@ -78,8 +78,8 @@ pub fn is_lone_body(expr: &Expr) -> bool
     }
 }
 
-/// Whether it is a block whose braces are dropped where it is the body of a closure. The flag says that no struct literal may
-/// stand there.
+/// Whether the expression is a block whose braces are dropped as the body of a closure; `no_struct`
+/// says that no struct literal may stand there.
 #[tactic(auto, using(crate::proofs::BodyFacts::sheds_is))]
 pub fn sheds(expr: &Expr, no_struct: bool) -> bool
     ensures { result ≡ sheds (about_expr expr.now).kind no_struct }
@@ -90,7 +90,7 @@ pub fn sheds(expr: &Expr, no_struct: bool) -> bool
     }
 }
 
-/// Whether such a block without a label is one.
+/// Whether an unlabelled block is one whose braces are dropped.
 fn is_shed(block: &Block, no_struct: bool) -> bool
     ensures { result ≡ ((about_block block.now).lone
         && (not no_struct || (about_block block.now).structless)) }
@@ -98,7 +98,7 @@ fn is_shed(block: &Block, no_struct: bool) -> bool
     is_lone(block) && (!no_struct || is_block_structless(block))
 }
 
-/// Whether no expression of a block's statements holds a struct literal outside delimiters.
+/// Whether no expression among a block's statements has a struct literal outside delimiters.
 #[tactic(auto, using(crate::proofs::BodyFacts::structless_is))]
 fn is_block_structless(block: &Block) -> bool
     ensures { result ≡ (about_block block.now).structless }
@@ -106,7 +106,7 @@ fn is_block_structless(block: &Block) -> bool
     are_stmts_structless(block.stmts.as_slice())
 }
 
-/// Whether none of the statements is such an expression.
+/// Whether no expression among the statements has a struct literal outside delimiters.
 fn are_stmts_structless(stmts: &[Stmt]) -> bool
     ensures { result ≡ structless_in stmts.now }
 {
@@ -118,7 +118,7 @@ fn are_stmts_structless(stmts: &[Stmt]) -> bool
     true
 }
 
-/// Whether a statement is no expression that holds one.
+/// Whether the statement is no expression with a struct literal outside delimiters.
 #[tactic(auto, using(crate::proofs::BodyFacts::structless_stmt_is))]
 fn is_stmt_structless(stmt: &Stmt) -> bool
     ensures { result ≡ (about_stmt stmt.now).structless }

@@ -1,4 +1,4 @@
-//! What expressions end in, found along their right edge.
+//! What an expression ends in, found along its right edge.
 ghost use Rattle.std.specs.Prelude.{◌≡◌, ◌<◌, ◌&&◌, not, false};
 ghost use Rattle.lay_code.specs.nodes.Code.{about_expr};
 ghost use Rattle.lay_code.specs.nodes.Exprs.{is_open, is_typed};
@@ -12,17 +12,18 @@ use lay_code::Expr;
 /// What an expression ends in.
 #[derive(Clone, Copy)]
 enum ExprEnd<'a> {
-    /// What may stand before each operator.
+    /// What any operator may follow.
     Shut,
-    /// What takes the operators after it, or lacks an operand.
+    /// What would take an operator that follows as a part of its operand, or lacks an operand.
     Open,
-    /// A type that lacks generic arguments at its end.
+    /// A type after which `<` would open generic arguments.
     Typed,
     /// An operand.
     In(&'a Expr),
 }
 
-/// Whether an operator may stand after an expression, if one does, and `<` or `<<`, if that does.
+/// Whether what follows may follow the expression; `op` says that it is an operator, `angle` that
+/// it is `<` or `<<`.
 pub fn may_precede(expr: &Expr, op: bool, angle: bool) -> bool
     ensures { result ≡ (not (op && is_open (about_expr expr.now).tail)
         && not (angle && is_typed (about_expr expr.now).tail)) }
@@ -64,7 +65,7 @@ fn expr_end(expr: &Expr) -> ExprEnd<'_>
     }
 }
 
-/// A type at the end, which lacks generic arguments there or doesn't.
+/// The end of an expression in a type; `lacks` says that `<` would open generic arguments there.
 fn typed_if(lacks: bool) -> ExprEnd<'static>
     ensures open { is_open_end result ≡ false }
     ensures typed { is_typed_end result ≡ lacks }

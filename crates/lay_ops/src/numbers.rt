@@ -8,24 +8,24 @@ ghost use Rattle.lay_ops.specs.Numbers.{digits, exponent, leads_to, run};
 use lay_code::Expr;
 use lay_token::Kind;
 
-/// How far a number without suffix is read.
+/// The state of the automaton that recognizes numbers without suffix.
 #[derive(Clone, Copy)]
 pub enum Reading {
-    /// Nothing of an integer.
+    /// Before the first character of an integer.
     Start,
     /// `0`
     Zero,
-    /// Digits, and nothing else can follow.
+    /// Digits after which only digits can follow.
     Digits,
     /// `0x` and hexadecimal digits.
     Hex,
-    /// Digits of a float.
+    /// The digits of a float before its point or exponent.
     Whole,
-    /// Digits after a point.
+    /// The digits after a point.
     Fraction,
-    /// The letter of an exponent.
+    /// After the letter of an exponent.
     Exponent,
-    /// What is no number without suffix.
+    /// This is no number without suffix.
     Refused,
 }
 
@@ -51,7 +51,7 @@ fn is_bare_number(kind: Kind, text: &[u8]) -> bool
     }
 }
 
-/// Whether the text goes on to its end with what is read.
+/// Whether the rest of the text completes a number from this state.
 fn reads(text: &[u8], start: Reading) -> bool
     ensures { result ≡ run start text.now }
 {
@@ -64,7 +64,7 @@ fn reads(text: &[u8], start: Reading) -> bool
     !matches!(reading, Reading::Refused)
 }
 
-/// How far a number is read with one more byte. Nothing but ASCII is read.
+/// The state after one more byte. Only ASCII makes a number.
 fn leads_to(reading: Reading, byte: u8) -> Reading
     ensures { result ≡ leads_to reading byte }
 {
@@ -108,7 +108,7 @@ fn leads_to(reading: Reading, byte: u8) -> Reading
     }
 }
 
-/// Digits, if the byte is one.
+/// `Digits`, if the byte is one, else `Refused`.
 fn digits(byte: u8) -> Reading
     ensures { result ≡ digits byte }
 {
@@ -119,7 +119,7 @@ fn digits(byte: u8) -> Reading
     }
 }
 
-/// An exponent, if the byte is its letter.
+/// `Exponent`, if the byte is its letter, else `Refused`.
 fn exponent(byte: u8) -> Reading
     ensures { result ≡ exponent byte }
 {

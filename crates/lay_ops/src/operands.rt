@@ -1,4 +1,4 @@
-//! What the tokens ahead begin, if it is an expression.
+//! Lookahead: how an expression begins with the next tokens.
 ghost use Rattle.std.specs.Prelude.{◌≡◌, if◌then◌else◌, codes, drop, Some, None, option_map};
 ghost use Rattle.lay_token.specs.Operators.{is_op};
 ghost use Rattle.lay_piece.specs.declared.kind.Delim.TheVariants.{Brace};
@@ -13,38 +13,38 @@ use lay_nest::Cursor;
 use lay_token::word::{Class, word_class};
 use lay_token::{Delim, Kind, Token};
 
-/// What begins an expression.
+/// The tokens that can begin an expression.
 #[derive(Clone, Copy)]
 pub enum ExprLead {
     Literal,
     /// A path, or a macro call.
     Path,
     Underscore,
-    /// A lifetime, which names a block or a loop.
+    /// A lifetime, which labels a block or a loop.
     Label,
     Paren,
     Bracket,
     Brace,
-    /// An operator before its operand.
+    /// A prefix operator.
     Prefix,
     /// `..` or `..=`
     Range,
     Continue,
     Break,
     Return,
-    /// A word of an expression that holds a block.
+    /// A word of an expression that contains a block.
     BlockWord,
     Closure,
 }
 
-/// Whether an operand comes next, at this place.
+/// Whether an operand comes next that may stand at this place.
 pub fn begins_operand(at: &Cursor<'_>, place: Place) -> bool
     ensures { result ≡ operands.begins_operand place.no_struct at.now }
 {
     is_operand_lead(expr_lead_at(at), place.no_struct)
 }
 
-/// Whether this begins an operand, where no struct literal may stand or where one may.
+/// Whether an operand can begin like this; `no_struct` says that no struct literal may stand there.
 pub(crate) fn is_operand_lead(lead: Option<ExprLead>, no_struct: bool) -> bool
     ensures { result ≡ operands.is_operand_lead no_struct (option_map told lead) }
 {
@@ -55,7 +55,7 @@ pub(crate) fn is_operand_lead(lead: Option<ExprLead>, no_struct: bool) -> bool
     }
 }
 
-/// What the tokens ahead begin, if it is an expression.
+/// How an expression begins with the next tokens, if one does.
 #[tactic(auto, unfolding(lay_code::specs::Operands::expr_lead_at))]
 pub fn expr_lead_at(at: &Cursor<'_>) -> Option<ExprLead>
     ensures { option_map told result ≡ operands.expr_lead_at at.now }
@@ -66,7 +66,7 @@ pub fn expr_lead_at(at: &Cursor<'_>) -> Option<ExprLead>
     }
 }
 
-/// What a token of this kind and this text begins, which is the first of those ahead.
+/// How an expression begins with the next token, which has this kind and this text.
 fn expr_lead_by(kind: Kind, text: &[u8], at: &Cursor<'_>) -> Option<ExprLead>
     ensures { option_map told result ≡ operands.expr_lead_by kind text.now at.now }
 {
@@ -84,7 +84,7 @@ fn expr_lead_by(kind: Kind, text: &[u8], at: &Cursor<'_>) -> Option<ExprLead>
     }
 }
 
-/// What a word begins.
+/// How an expression begins with this word, which comes next.
 fn lead_of_word(word: &[u8], at: &Cursor<'_>) -> Option<ExprLead>
     ensures { option_map told result ≡ operands.expr_lead_of_word word.now (tail at.now) }
 {
@@ -109,7 +109,8 @@ fn lead_of_word(word: &[u8], at: &Cursor<'_>) -> Option<ExprLead>
     }
 }
 
-/// What the word `async` begins, which is the first token: a closure before its bars, and else a block.
+/// How an expression begins with `async`, which comes next: as a closure before its bars, else as a
+/// block.
 fn async_lead(at: &Cursor<'_>) -> ExprLead
     ensures { told result ≡ operands.async_lead (tail at.now) }
 {
@@ -120,7 +121,7 @@ fn async_lead(at: &Cursor<'_>) -> ExprLead
     }
 }
 
-/// Whether a `|` stands after the first token, or `move` and a `|`.
+/// Whether a closure's bars follow the next token, with or without a `move`.
 #[tactic(auto, using(crate::proofs::Behind::closure_behind))]
 fn is_before_closure(at: &Cursor<'_>) -> bool
     ensures { result ≡ operands.begins_closure (tail at.now) }
@@ -128,7 +129,7 @@ fn is_before_closure(at: &Cursor<'_>) -> bool
     is_bar_behind(at, 1) || is_word(at, 1, b"move") && is_bar_behind(at, 2)
 }
 
-/// Whether a `|` stands after this many tokens.
+/// Whether a `|` comes next after `others` tokens.
 fn is_bar_behind(at: &Cursor<'_>, others: usize) -> bool
     ensures { result ≡ first (is_mark (codes "|")) (drop others at.now) }
 {
@@ -145,14 +146,15 @@ fn is_bar(token: &Token) -> bool
     matches!(token.kind, Kind::Punct) && token.text.as_bytes() == b"|".as_slice()
 }
 
-/// Whether a word begins an expression that holds a block. `const` does so before a `{` alone.
+/// Whether an expression that contains a block begins with the word. With `const` it does only
+/// before a `{`.
 fn is_block_word(word: &[u8], at: &Cursor<'_>) -> bool
     ensures { result ≡ operands.is_block_word word.now (tail at.now) }
 {
     holds_block(word) || word == b"const".as_slice() && is_before_brace(at)
 }
 
-/// Whether the word begins an expression that holds a block, whatever follows it.
+/// Whether an expression that contains a block begins with the word, whatever follows.
 fn holds_block(word: &[u8]) -> bool
     ensures { result ≡ operands.is_of block_words word.now }
 {
@@ -164,7 +166,7 @@ fn holds_block(word: &[u8]) -> bool
         || word == b"while".as_slice()
 }
 
-/// Whether a `{` stands after the first token.
+/// Whether a `{` follows the next token.
 fn is_before_brace(at: &Cursor<'_>) -> bool
     ensures { result ≡ first (opens Brace) (tail at.now) }
 {
@@ -181,7 +183,7 @@ fn is_brace(token: &Token) -> bool
     matches!(token.kind, Kind::Opener(Delim::Brace))
 }
 
-/// What punctuation begins.
+/// How an expression begins with this punctuation, which comes next.
 fn lead_of_punct(character: &[u8], at: &Cursor<'_>) -> Option<ExprLead>
     ensures { option_map told result ≡ operands.expr_lead_of_punct character.now at.now }
 {
@@ -193,7 +195,7 @@ fn lead_of_punct(character: &[u8], at: &Cursor<'_>) -> Option<ExprLead>
     }
 }
 
-/// What `::`, `..` and `..=` begin.
+/// How an expression begins with `::`, `..` or `..=`, if one of these comes next.
 fn lead_of_run(at: &Cursor<'_>) -> Option<ExprLead>
     ensures { option_map told result ≡ (if is_op (codes "::") at.now then Some operands.ByPath
         else (if begins_dots at.now then Some operands.ByRange else None)) }

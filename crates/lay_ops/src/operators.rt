@@ -1,4 +1,4 @@
-//! The operators at the beginning of tokens.
+//! Lookahead: which operator comes next.
 ghost use Rattle.std.specs.Prelude.{◌≡◌, ◌∷◌, [], drop, option_and_then};
 ghost use Rattle.lay_token.specs.Operators.{op_at};
 ghost use Rattle.lay_node.specs.Ahead as ahead;
@@ -11,7 +11,7 @@ use lay_nest::Cursor;
 use lay_read_tokens::front::is_keyword;
 use lay_token::Kind;
 
-/// The level of an operator between operands, from 0 of an assignment to 10 of a product.
+/// The precedence level of a binary operator: 0 for assignments, up to 10 for `*`.
 pub(crate) fn op_level(op: Op) -> u8
     ensures { result ≡ operators.op_level op }
 {
@@ -30,7 +30,8 @@ pub(crate) fn op_level(op: Op) -> u8
     }
 }
 
-/// The operator between operands at the beginning, if there is one. The first character tells which it can be.
+/// The binary operator that comes next, if one does. The first character limits which ones it can
+/// be.
 pub fn binary(at: &Cursor<'_>) -> Option<Op>
     ensures { result ≡ operators.binary at.now }
 {
@@ -65,7 +66,7 @@ fn led_by(character: u8) -> &'static [Op]
     }
 }
 
-/// The first of the operators that is at the beginning.
+/// The operator of the list that comes next, if one does.
 fn first_of(at: &Cursor<'_>, ops: &[Op]) -> Option<Op>
     ensures { result ≡ option_and_then (operators.named ops.now) (op_at at.now) }
 {
@@ -79,7 +80,7 @@ fn first_of(at: &Cursor<'_>, ops: &[Op]) -> Option<Op>
     None
 }
 
-/// Whether the keyword stands after this many other tokens.
+/// Whether the keyword comes next after `others` tokens.
 pub(crate) fn is_word(at: &Cursor<'_>, others: usize, word: &[u8]) -> bool
     ensures { result ≡ first (ahead.is_keyword word.now) (drop others at.now) }
 {
@@ -89,7 +90,7 @@ pub(crate) fn is_word(at: &Cursor<'_>, others: usize, word: &[u8]) -> bool
     }
 }
 
-/// The operator before an operand at the beginning, if there is one.
+/// The prefix operator that comes next, if one does.
 #[tactic(auto, unfolding(lay_code::specs::Operators::prefix))]
 pub fn prefix(at: &Cursor<'_>) -> Option<Prefix>
     ensures { result ≡ operators.prefix at.now }
@@ -106,7 +107,7 @@ pub fn prefix(at: &Cursor<'_>) -> Option<Prefix>
     }
 }
 
-/// The operator that the `&` at the beginning begins.
+/// The prefix operator that begins with `&`, which comes next.
 fn reference(at: &Cursor<'_>) -> Prefix
     ensures { result ≡ operators.amp_by (drop 1 at.now) }
 {
@@ -123,7 +124,7 @@ fn reference(at: &Cursor<'_>) -> Prefix
     }
 }
 
-/// How many tokens an operator before an operand is.
+/// The number of tokens of a prefix operator.
 pub fn prefix_length(prefix: Prefix) -> usize
     ensures { result ≡ operators.prefix_length prefix }
 {

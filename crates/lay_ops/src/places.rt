@@ -1,4 +1,4 @@
-//! Where expressions may stand, and the places of the parts of expressions.
+//! Places: the contexts of expressions.
 ghost use Rattle.std.specs.Prelude.{◌≡◌};
 ghost use Rattle.lay_code.specs.nodes.Code.{about_expr};
 ghost use Rattle.lay_code.specs.nodes.Exprs as nodes;
@@ -8,7 +8,7 @@ use crate::expr_ends::may_precede;
 use crate::roots::{is_block_like, is_endless, is_jump, is_struct, is_typed_cast, level};
 use lay_code::{Expr, Place, Start};
 
-/// Within delimiters, and where nothing is asked.
+/// Within delimiters, or wherever any expression may stand.
 pub const FREE: Place = Place {
     level: 0,
     no_struct: false,
@@ -26,7 +26,7 @@ pub const STATEMENT: Place = Place {
     lt_after: false,
 };
 
-/// A place of this level, where no struct literal may stand if it is said.
+/// A place of this precedence level; `no_struct` says that no struct literal may stand there.
 pub fn plain(level: u8, no_struct: bool) -> Place
     ensures { result ≡ places.plain level no_struct }
 {
@@ -39,8 +39,8 @@ pub fn plain(level: u8, no_struct: bool) -> Place
     }
 }
 
-/// An operand that an operator follows. It begins a part of what begins a statement, and the operator is `<` or `<<`, if
-/// it is said.
+/// The place of an operand before an operator. `first` says that it begins a statement, `angle`
+/// that the operator is `<` or `<<`.
 pub fn before_op(level: u8, no_struct: bool, first: bool, angle: bool) -> Place
     ensures { result ≡ places.before_op level no_struct first angle }
 {
@@ -54,7 +54,7 @@ pub fn before_op(level: u8, no_struct: bool, first: bool, angle: bool) -> Place
     }
 }
 
-/// A link of a condition with a `let`, after which a further link follows if it is said.
+/// The place of a link in a condition with a `let`; `more` says that another link follows.
 pub fn link_place(more: bool) -> Place
     ensures { result ≡ places.link_place more }
 {
@@ -67,7 +67,7 @@ pub fn link_place(more: bool) -> Place
     }
 }
 
-/// Whether an expression may stand in a place, by its root alone.
+/// Whether the root of an expression may stand at a place.
 pub fn may(expr: &Expr, place: Place) -> bool
     ensures { result ≡ nodes.may (about_expr expr.now) place }
 {
@@ -78,7 +78,7 @@ pub fn may(expr: &Expr, place: Place) -> bool
         && !(place.no_struct && is_struct(expr))
 }
 
-/// Whether an expression may stand in a place, and so may each expression that ends where it ends.
+/// Whether an expression may stand at a place, and so may each expression that ends where it ends.
 pub fn stands(expr: &Expr, place: Place) -> bool
     ensures { result ≡ nodes.stands (about_expr expr.now) place }
 {
@@ -88,7 +88,7 @@ pub fn stands(expr: &Expr, place: Place) -> bool
         && !(place.no_struct && is_struct(expr))
 }
 
-/// Whether a place begins a part of what begins a statement.
+/// Whether an expression here begins a statement and is only a part of it.
 fn is_part(start: Start) -> bool
     ensures { result ≡ places.is_part start }
 {

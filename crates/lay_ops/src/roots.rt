@@ -1,4 +1,4 @@
-//! What is told of an expression by its root.
+//! Facts about an expression, decided by its root.
 ghost use Rattle.std.specs.Prelude.{◌≡◌, map};
 ghost use Rattle.lay_node.specs.nodes.Types.{about_type};
 ghost use Rattle.lay_code.specs.nodes.Code.{about_expr};
@@ -12,7 +12,7 @@ use crate::type_ends::type_lacks_args;
 use lay_code::{Boxed, Expr, Op, Ty};
 use lay_token::Delim;
 
-/// The level of an expression, from 0 of an assignment to 14 of what is no operator's.
+/// The precedence level of an expression: 0 for assignments, up to 14 for what has no operator.
 #[tactic(auto, using(crate::proofs::RootFacts::level_is))]
 pub fn level(expr: &Expr) -> u8
     ensures { result ≡ (about_expr expr.now).level }
@@ -32,7 +32,7 @@ pub fn level(expr: &Expr) -> u8
     }
 }
 
-/// The level of the operators of a chain, of which these are the operands after the first.
+/// The precedence level of the operators of a chain, given its operands after the first.
 pub fn first_level(rest: &[(Op, Boxed<Expr>)]) -> u8
     ensures { result ≡ first_level rest.now }
 {
@@ -42,7 +42,7 @@ pub fn first_level(rest: &[(Op, Boxed<Expr>)]) -> u8
     }
 }
 
-/// Whether it is a `return`, a `break` or a closure.
+/// Whether the expression is a `return`, a `break` or a closure.
 #[tactic(auto, using(crate::proofs::RootFacts::jumps_is))]
 pub fn is_jump(expr: &Expr) -> bool
     ensures { result ≡ (about_expr expr.now).jumps }
@@ -53,7 +53,7 @@ pub fn is_jump(expr: &Expr) -> bool
     )
 }
 
-/// Whether it is a range without an end.
+/// Whether the expression is a range without an end.
 #[tactic(auto, using(crate::proofs::RootFacts::endless_is))]
 pub fn is_endless(expr: &Expr) -> bool
     ensures { result ≡ (about_expr expr.now).endless }
@@ -61,7 +61,7 @@ pub fn is_endless(expr: &Expr) -> bool
     matches!(expr, Expr::Range { end: None, .. })
 }
 
-/// Whether it is a cast to a type that lacks generic arguments at its end.
+/// Whether the expression is a cast to a type after which `<` would open generic arguments.
 #[tactic(auto, using(crate::proofs::RootFacts::typed_is))]
 pub fn is_typed_cast(expr: &Expr) -> bool
     ensures { result ≡ (about_expr expr.now).typed }
@@ -72,7 +72,7 @@ pub fn is_typed_cast(expr: &Expr) -> bool
     }
 }
 
-/// Whether the last of the types lacks generic arguments at its end.
+/// Whether `<` after the last of the types would open generic arguments.
 pub fn last_lacks_args(types: &[Ty]) -> bool
     ensures { result ≡ lacks_args (type_refuses (map about_type types.now)) }
 {
@@ -82,7 +82,7 @@ pub fn last_lacks_args(types: &[Ty]) -> bool
     }
 }
 
-/// Whether it is a struct literal.
+/// Whether the expression is a struct literal.
 #[tactic(auto, using(crate::proofs::RootFacts::is_struct_is))]
 pub fn is_struct(expr: &Expr) -> bool
     ensures { result ≡ (about_expr expr.now).is_struct }
@@ -90,7 +90,8 @@ pub fn is_struct(expr: &Expr) -> bool
     matches!(expr, Expr::Struct { .. })
 }
 
-/// Whether it ends a statement without a `;`: what ends in a block of its own, and a macro call in braces.
+/// Whether the expression ends a statement without a `;`: it ends in a block of its own, or is a
+/// macro call in braces.
 #[tactic(auto, using(crate::proofs::RootFacts::block_like_is))]
 pub fn is_block_like(expr: &Expr) -> bool
     ensures { result ≡ (about_expr expr.now).block_like }
@@ -116,7 +117,7 @@ fn is_brace(delim: Delim) -> bool
     matches!(delim, Delim::Brace)
 }
 
-/// Whether it is a macro call.
+/// Whether the expression is a macro call.
 #[tactic(auto, using(crate::proofs::BodyFacts::is_macro_is))]
 pub fn is_macro(expr: &Expr) -> bool
     ensures { result ≡ is_macro (about_expr expr.now).kind }
@@ -124,7 +125,7 @@ pub fn is_macro(expr: &Expr) -> bool
     matches!(expr, Expr::Call { .. })
 }
 
-/// Whether the comma of an arm may be left out after it.
+/// Whether the comma of an arm may be left out after the expression.
 pub fn is_free(expr: &Expr) -> bool
     ensures { result ≡ is_free (about_expr expr.now) }
 {

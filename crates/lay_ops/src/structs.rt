@@ -7,7 +7,7 @@ ghost use Rattle.lay_ops.specs.Edges.{structless_operands, structless_targets};
 use crate::edges::begins_with_brace;
 use lay_code::{Boxed, Expr, Op};
 
-/// Whether an expression holds no struct literal outside delimiters.
+/// Whether an expression has no struct literal outside delimiters.
 #[cycle(structless)]
 #[tactic(auto, using(crate::proofs::EdgeFacts::structless_is))]
 pub(crate) fn is_structless(expr: &Expr) -> bool
@@ -31,7 +31,7 @@ pub(crate) fn is_structless(expr: &Expr) -> bool
     }
 }
 
-/// Whether none of the operands after operators holds one.
+/// Whether no operand of the chain has a struct literal outside delimiters.
 #[cycle(structless)]
 fn are_operands_structless(operands: &[(Op, Boxed<Expr>)]) -> bool
     ensures { result ≡ structless_operands operands.now }
@@ -44,7 +44,7 @@ fn are_operands_structless(operands: &[(Op, Boxed<Expr>)]) -> bool
     true
 }
 
-/// Whether none of the targets of an assignment holds one.
+/// Whether no target of the assignment has a struct literal outside delimiters.
 #[cycle(structless)]
 fn are_targets_structless(targets: &[(Boxed<Expr>, Op)]) -> bool
     ensures { result ≡ structless_targets targets.now }
@@ -57,7 +57,7 @@ fn are_targets_structless(targets: &[(Boxed<Expr>, Op)]) -> bool
     true
 }
 
-/// Whether the start of a range holds none, if it has one.
+/// Whether the start of a range, if present, has no struct literal outside delimiters.
 #[cycle(structless)]
 fn is_start_structless(start: &Option<Boxed<Expr>>) -> bool
     ensures { result ≡ structless_operand (option_map about_expr start.now) }
@@ -68,7 +68,8 @@ fn is_start_structless(start: &Option<Boxed<Expr>>) -> bool
     }
 }
 
-/// Whether an operand that may be left out holds none and begins with no `{`.
+/// Whether an optional operand, if present, has no struct literal outside delimiters and does not
+/// start with `{`.
 #[cycle(structless)]
 fn is_end_structless(end: &Option<Boxed<Expr>>) -> bool
     ensures { result ≡ structless_end (option_map about_expr end.now) }

@@ -1,4 +1,4 @@
-//! What types end in, found along their right edge.
+//! Whether `<` after a type would open generic arguments, found along the type's right edge.
 ghost use Rattle.std.specs.Prelude.{◌≡◌, ◌<◌};
 ghost use Rattle.lay_node.specs.nodes.Types.{about_args, about_bound, about_path, about_type};
 ghost use Rattle.lay_node.specs.declared.types.Args.{size-Args};
@@ -16,7 +16,7 @@ use lay_code::{Args, Bound, Path, Ty};
 enum TypeEnd<'a> {
     /// What takes no generic arguments.
     Shut,
-    /// A word without generic arguments, which takes them.
+    /// A word that could take generic arguments and has none.
     Bare,
     /// A type.
     In(&'a Ty),
@@ -88,7 +88,7 @@ fn args_end(args: &Args) -> TypeEnd<'_>
     }
 }
 
-/// Whether a type lacks generic arguments at its end.
+/// Whether `<` after the type would open generic arguments.
 pub fn type_lacks_args(ty: &Ty) -> bool
     ensures { result ≡ lacks_args (about_type ty.now).told.refuses }
 {
@@ -102,7 +102,8 @@ pub fn type_lacks_args(ty: &Ty) -> bool
     }
 }
 
-/// Whether a path in code ends in a type that lacks generic arguments at its end.
+/// Whether `<` after the path, as it is in an expression, would open generic arguments of a type
+/// that it ends in.
 pub fn path_lacks_args(path: &Path) -> bool
     ensures { result ≡ lacks_args (about_path path.now Code).refuses }
 {
@@ -112,7 +113,7 @@ pub fn path_lacks_args(path: &Path) -> bool
     }
 }
 
-/// Whether the generic arguments of the last segment of a path in code end in such a type.
+/// The same question for the generic arguments of the last segment of such a path.
 #[tactic(auto, using(crate::proofs::TypeEnds::code_args))]
 fn code_args_lack(args: &Args) -> bool
     ensures { result ≡ lacks_args (about_args args.now).code.refuses }

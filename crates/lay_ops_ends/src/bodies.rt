@@ -1,4 +1,4 @@
-//! The braces around the bodies of arms and of closures that aren't in the tree.
+//! Braces around the bodies of arms and closures that aren't in the tree.
 ghost use Rattle.std.specs.Prelude.{ℕ, ◌≡◌, true};
 ghost use Rattle.lay_code.specs.nodes.Bodies.{is_lone_body};
 ghost use Rattle.lay_code.specs.nodes.Code.{about_expr};
@@ -7,7 +7,7 @@ ghost use Rattle.lay_ops_ends.specs.Bodies.{IsAround, IsBare, IsShed};
 use lay_code::{Boxed, Expr};
 use lay_ops::{is_lone_body, sheds};
 
-/// The expression within the braces of one that is a block, which is all that stands there.
+/// The expression in a block that holds only that expression.
 fn held(expr: Boxed<Expr>) -> Option<Boxed<Expr>>
     requires { is_lone_body (about_expr expr).kind ≡ true }
     ensures { IsAround expr result }
@@ -20,7 +20,7 @@ fn held(expr: Boxed<Expr>) -> Option<Boxed<Expr>>
         .into_expr()
 }
 
-/// The body of an arm, without the braces that aren't in the tree.
+/// The body of an arm, without braces that only enclose an expression.
 pub fn undressed(expr: Boxed<Expr>) -> Boxed<Expr>
     ensures { (turns : ℕ) × IsBare turns expr result }
 {
@@ -34,8 +34,8 @@ pub fn undressed(expr: Boxed<Expr>) -> Boxed<Expr>
     body
 }
 
-/// The body of a closure, without the braces that aren't in the tree. The flag says that no struct literal may stand there: a
-/// pair whose expression can't stand there by that stays.
+/// The body of a closure, without braces that only enclose an expression. `no_struct` says that no
+/// struct literal may stand there: braces around one that then couldn't stay are kept.
 pub fn shed(expr: Boxed<Expr>, no_struct: bool) -> Boxed<Expr>
     ensures { (turns : ℕ) × IsShed no_struct turns expr result }
 {

@@ -1,4 +1,5 @@
-//! Where an `else` may stand after a value: it ends neither in a `}` nor in a closure, which is found along its right edge.
+//! Whether an `else` may follow a value: the value ends neither in a `}` nor in a closure, which is
+//! found along its right edge.
 ghost use Rattle.std.specs.Prelude.{◌≡◌, ◌<◌};
 ghost use Rattle.lay_node.specs.nodes.Types.{about_args, about_bound, about_path, about_type};
 ghost use Rattle.lay_node.specs.declared.types.Args.{size-Args};
@@ -20,7 +21,7 @@ use lay_token::{Delim, Kind};
 /// What a type ends in.
 #[derive(Clone, Copy)]
 enum TypeEdge<'a> {
-    /// A token of its own, which is a `}` or is none.
+    /// A token of its own; the flag says that it is a `}`.
     Token(bool),
     /// A type.
     In(&'a Ty),
@@ -29,7 +30,7 @@ enum TypeEdge<'a> {
 /// What an expression ends in.
 #[derive(Clone, Copy)]
 enum Edge<'a> {
-    /// A token of its own, which is a `}` or is none.
+    /// A token of its own; the flag says that it is a `}`.
     Token(bool),
     /// A type.
     Ty(&'a Ty),
@@ -37,7 +38,7 @@ enum Edge<'a> {
     In(&'a Expr),
 }
 
-/// What an expression ends in, where that may be a closure.
+/// What an expression ends in, as far as it may be a closure.
 #[derive(Clone, Copy)]
 enum ClosureEdge<'a> {
     /// What is no closure.
@@ -48,7 +49,7 @@ enum ClosureEdge<'a> {
     In(&'a Expr),
 }
 
-/// Whether an `else` may stand after a value.
+/// Whether an `else` may follow the value.
 pub fn may_precede_else(expr: &Expr) -> bool
     ensures { result ≡ nodes.may_precede_else (about_expr expr.now) }
 {
@@ -70,7 +71,7 @@ fn ends_in_closure(expr: &Expr) -> bool
     }
 }
 
-/// What an expression ends in, where that may be a closure.
+/// Whether an expression ends in a closure by its root, or in which operand it ends.
 #[tactic(auto, using(crate::proofs::ExprBraces::closure_is))]
 fn closure_edge(expr: &Expr) -> ClosureEdge<'_>
     ensures told { closes result ≡ (about_expr expr.now).tail.closure }
@@ -164,7 +165,7 @@ fn last_part(expr: &Expr) -> Edge<'_>
     }
 }
 
-/// Whether there is a branch or an `else`.
+/// Whether the list of branches isn't empty or there is an `else`.
 fn has_block(branches: &[Branch], otherwise: &Option<Block>) -> bool
     ensures { result ≡ has_block branches.now otherwise.now }
 {
@@ -174,7 +175,7 @@ fn has_block(branches: &[Branch], otherwise: &Option<Block>) -> bool
     }
 }
 
-/// The same of what ends as a type does.
+/// What an expression ends in that ends as this type does.
 fn type_edge_of(edge: TypeEdge<'_>) -> Edge<'_>
     ensures told { braces result ≡ ends_type edge.entry }
     ensures smaller { IfPart result (λ operand. ⊥) }
@@ -185,7 +186,7 @@ fn type_edge_of(edge: TypeEdge<'_>) -> Edge<'_>
     }
 }
 
-/// Whether it is that of braces.
+/// Whether the delimiter is a brace.
 fn is_brace(delim: Delim) -> bool
     ensures { result ≡ is_brace delim }
 {
@@ -263,7 +264,7 @@ fn path_edge(path: &Path) -> TypeEdge<'_>
     }
 }
 
-/// What a path in code ends in.
+/// What a path in an expression ends in.
 fn code_edge(path: &Path) -> TypeEdge<'_>
     ensures told { ends_type result ≡ ends_in_brace (about_path path.now Code).form }
     ensures smaller { IfType result (λ ty. size-Ty ty < size-Path path.now) }

@@ -1,5 +1,5 @@
-//! What an expression ends in, where an `else` is to stand after it, and the braces around the bodies of arms and of closures that
-//! aren't in the tree.
+//! Whether an `else` may follow an expression, and the braces around the bodies of arms and
+//! closures that aren't in the tree.
 #![tactic(auto)]
 
 mod bodies;

@@ -1,4 +1,4 @@
-//! Items up to their bodies.
+//! Parsing of items up to their bodies.
 ghost use Rattle.std.specs.Prelude.{◌≡◌, ◌≤◌, IfOk};
 ghost use Rattle.lay_node.specs.reader.Exact.{needless};
 ghost use Rattle.lay_node.specs.reader.Heads as heads;
@@ -33,8 +33,8 @@ use lay_read_tokens::tokens::read_group;
 use lay_read_tokens::{Ahead, Found, ReadNone};
 use std::alloc::Global;
 
-/// An item that has no body. What begins items stays within the nodes that hold no code, since a function that has an
-/// `ItemKind` takes ten times as long to be proved.
+/// An item without a body. It is no `ItemKind`, since a function that has one takes ten times as
+/// long to be proved.
 #[derive(Drop)]
 pub enum Whole {
     ExternCrate { item: ExternCrate },
@@ -48,8 +48,8 @@ pub enum Whole {
     Call { call: MacroCall },
 }
 
-/// An item up to its body, or the whole item where it has none. What is large in it stands in a box, since an item that is
-/// begun is moved many times.
+/// An item up to its body, or the whole item if it has none. Large parts are boxed, since the value
+/// is moved many times.
 #[derive(Drop)]
 pub enum Begun {
     Whole {
@@ -79,7 +79,7 @@ pub enum Begun {
     },
 }
 
-/// An item at its site up to its body, told from what it begins with. What is within it stands within the depth.
+/// Parses an item at its site, up to its body. What it contains fits in `depth` levels.
 pub fn read_begun(
     alloc: Global,
     at: &mut Ahead<'_>,
@@ -97,7 +97,7 @@ pub fn read_begun(
     }
 }
 
-/// An item with this lead, up to its body.
+/// Parses an item with this lead, up to its body.
 fn begun_by(
     alloc: Global,
     at: &mut Ahead<'_>,
@@ -137,7 +137,7 @@ fn whole_item(item: Boxed<Whole>, need: u32) -> Found<Begun>
     }
 }
 
-/// An extern crate declaration.
+/// Parses an extern crate declaration.
 fn begin_extern_crate(alloc: Global, at: &mut Ahead<'_>) -> Result<Found<Begun>, ReadNone>
     ensures read { IsFound (node_alone whole.ExternCrate (needless heads.extern_crate 0 at.old))
         result at.new }
@@ -148,7 +148,7 @@ fn begin_extern_crate(alloc: Global, at: &mut Ahead<'_>) -> Result<Found<Begun>,
     Ok(whole_item(item, 0))
 }
 
-/// An import.
+/// Parses an import.
 fn begin_import(alloc: Global, at: &mut Ahead<'_>, depth: u32) -> Result<Found<Begun>, ReadNone>
     ensures read { IsFound (bodies.import_begun (deeper depth) at.old) result at.new }
     ensures within { IfOk result (λ found. found.need ≤ depth) }
@@ -163,7 +163,7 @@ fn begin_import(alloc: Global, at: &mut Ahead<'_>, depth: u32) -> Result<Found<B
     kept_if(whole_item(item, need), keeps)
 }
 
-/// A module in a file of its own, or the head of another.
+/// Parses `mod a;`, or the head of a module with a body.
 fn begin_module(alloc: Global, at: &mut Ahead<'_>) -> Result<Found<Begun>, ReadNone>
     ensures read { IsFound (bodies.module_begun at.old) result at.new }
     ensures within { IfOk result (λ found. found.need ≡ 0) }
@@ -183,7 +183,7 @@ fn begin_module(alloc: Global, at: &mut Ahead<'_>) -> Result<Found<Begun>, ReadN
     }
 }
 
-/// A function, up to its body.
+/// Parses a function, up to its body.
 fn begin_function(
     alloc: Global,
     at: &mut Ahead<'_>,
@@ -205,7 +205,7 @@ fn begin_function(
     })
 }
 
-/// A type alias.
+/// Parses a type alias.
 fn begin_alias(
     alloc: Global,
     at: &mut Ahead<'_>,
@@ -221,7 +221,7 @@ fn begin_alias(
     Ok(whole_item(item, need))
 }
 
-/// A struct.
+/// Parses a struct.
 fn begin_struct(alloc: Global, at: &mut Ahead<'_>, depth: u32) -> Result<Found<Begun>, ReadNone>
     ensures read { IsFound (node_alone whole.Struct (heads.struct (within depth) at.old)) result
         at.new }
@@ -232,7 +232,7 @@ fn begin_struct(alloc: Global, at: &mut Ahead<'_>, depth: u32) -> Result<Found<B
     Ok(whole_item(item, need))
 }
 
-/// A union.
+/// Parses a union.
 fn begin_union(alloc: Global, at: &mut Ahead<'_>, depth: u32) -> Result<Found<Begun>, ReadNone>
     ensures read { IsFound (node_alone whole.Union (heads.union (within depth) at.old)) result
         at.new }
@@ -243,7 +243,7 @@ fn begin_union(alloc: Global, at: &mut Ahead<'_>, depth: u32) -> Result<Found<Be
     Ok(whole_item(item, need))
 }
 
-/// An enumeration.
+/// Parses an enumeration.
 fn begin_enum(alloc: Global, at: &mut Ahead<'_>, depth: u32) -> Result<Found<Begun>, ReadNone>
     ensures read { IsFound (node_alone whole.Enum (heads.enum (within depth) at.old)) result
         at.new }
@@ -254,7 +254,7 @@ fn begin_enum(alloc: Global, at: &mut Ahead<'_>, depth: u32) -> Result<Found<Beg
     Ok(whole_item(item, need))
 }
 
-/// A constant or a static, up to its value.
+/// Parses a constant or a static, up to its value.
 fn begin_value(alloc: Global, at: &mut Ahead<'_>, depth: u32) -> Result<Found<Begun>, ReadNone>
     ensures read { IsFound (bodies.value_begun (deeper depth) at.old) result at.new }
     ensures within { IfOk result (λ found. found.need ≤ depth) }
@@ -267,7 +267,7 @@ fn begin_value(alloc: Global, at: &mut Ahead<'_>, depth: u32) -> Result<Found<Be
     })
 }
 
-/// A trait, up to its body.
+/// Parses a trait, up to its body.
 fn begin_trait(alloc: Global, at: &mut Ahead<'_>, depth: u32) -> Result<Found<Begun>, ReadNone>
     ensures read { IsFound (bodies.trait_begun (within depth) at.old) result at.new }
     ensures within { IfOk result (λ found. found.need ≤ depth) }
@@ -284,7 +284,7 @@ fn begin_trait(alloc: Global, at: &mut Ahead<'_>, depth: u32) -> Result<Found<Be
     })
 }
 
-/// An implementation, up to its body.
+/// Parses an implementation, up to its body.
 fn begin_impl(alloc: Global, at: &mut Ahead<'_>, depth: u32) -> Result<Found<Begun>, ReadNone>
     ensures read { IsFound (bodies.impl_begun (within depth) at.old) result at.new }
     ensures within { IfOk result (λ found. found.need ≤ depth) }
@@ -301,7 +301,7 @@ fn begin_impl(alloc: Global, at: &mut Ahead<'_>, depth: u32) -> Result<Found<Beg
     })
 }
 
-/// A foreign block, up to its body.
+/// Parses a foreign block, up to its body.
 #[tactic(auto, using(crate::proofs::ItemBodies::foreign_is))]
 fn begin_foreign(alloc: Global, at: &mut Ahead<'_>) -> Result<Found<Begun>, ReadNone>
     ensures read { IsFound (bodies.foreign_begun at.old) result at.new }
@@ -320,7 +320,7 @@ fn begin_foreign(alloc: Global, at: &mut Ahead<'_>) -> Result<Found<Begun>, Read
     }
 }
 
-/// The declaration of a macro. The tokens before its name are known.
+/// Parses a macro definition; that it is one was seen before.
 fn begin_rules(alloc: Global, at: &mut Ahead<'_>) -> Result<Found<Begun>, ReadNone>
     ensures read { IsFound (bodies.rules_begun at.old) result at.new }
     ensures within { IfOk result (λ found. found.need ≡ 0) }
@@ -336,7 +336,7 @@ fn begin_rules(alloc: Global, at: &mut Ahead<'_>) -> Result<Found<Begun>, ReadNo
     }
 }
 
-/// A macro call, and what ends it.
+/// Parses a macro call as an item, with what ends it.
 fn begin_call(alloc: Global, at: &mut Ahead<'_>) -> Result<Found<Begun>, ReadNone>
     ensures read { IsFound (bodies.call_begun at.old) result at.new }
     ensures within { IfOk result (λ found. found.need ≡ 0) }

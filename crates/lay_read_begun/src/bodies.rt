@@ -1,4 +1,4 @@
-//! The bodies of items, and items with their bodies.
+//! The kinds of bodies of items, and items put together with their bodies.
 ghost use Rattle.std.specs.Prelude.{◌≡◌, ◌≤◌, is_some, IfOk, Ok, Err, if◌then◌else◌};
 ghost use Rattle.lay_code.specs.nodes.Item as nodes;
 ghost use Rattle.lay_read_begun.specs.Begun as bodies;
@@ -11,12 +11,12 @@ use lay_read_tokens::found::greater;
 use lay_read_tokens::{Found, ReadNone};
 use lay_token::List;
 
-/// What the body of an item is.
+/// The kind of body that this item has.
 #[derive(Clone, Copy)]
 pub enum Body {
-    /// It has none, or it is read already.
+    /// No body, or one that was read already.
     None,
-    /// Items, which stand at this site.
+    /// Items at this site.
     Items(Site),
     /// A block, or a `;`.
     Block,
@@ -24,7 +24,7 @@ pub enum Body {
     Value,
 }
 
-/// What the body of an item is.
+/// The kind of body that this item has.
 pub fn body_of(begun: &Begun) -> Body
     ensures { result ≡ bodies.body_of begun.now }
 {
@@ -39,7 +39,7 @@ pub fn body_of(begun: &Begun) -> Body
     }
 }
 
-/// An item that has no body, as an item.
+/// The `ItemKind` of an item without a body.
 fn kind_of(item: Whole) -> ItemKind
     ensures { result ≡ bodies.kind_of item }
 {
@@ -56,7 +56,7 @@ fn kind_of(item: Whole) -> ItemKind
     }
 }
 
-/// An item with what stands in its body, if it has one.
+/// The item with the inner attributes and items of its body, if it has one.
 pub fn with_items(begun: Begun, attrs: List<Attr>, items: List<Item>) -> ItemKind
     ensures { result ≡ bodies.with_items begun attrs items }
 {
@@ -93,7 +93,7 @@ pub fn with_items(begun: Begun, attrs: List<Attr>, items: List<Item>) -> ItemKin
     }
 }
 
-/// Whether a function may have a body at its site, or may lack it.
+/// Whether a function may stand at this site with a body, or without one, as `bodied` says.
 fn may_be_bodied(site: Site, bodied: bool) -> bool
     ensures { result ≡ nodes.may_be_bodied site bodied }
 {
@@ -104,7 +104,8 @@ fn may_be_bodied(site: Site, bodied: bool) -> bool
     }
 }
 
-/// Whether a constant or a static may have a value, or may lack it.
+/// Whether a constant or a static may stand at this site with a value, or without one, as `valued`
+/// says.
 fn may_be_valued(site: Site, head: &ValueHead, valued: bool) -> bool
     ensures { result ≡ nodes.may_be_valued site head.now valued }
 {
@@ -117,7 +118,7 @@ fn may_be_valued(site: Site, head: &ValueHead, valued: bool) -> bool
     }
 }
 
-/// A function with its body, if it has one, where it may have or lack it at its site.
+/// The function with its body, or without one, if that is allowed at its site.
 pub fn with_block(
     begun: Found<Begun>,
     site: Site,
@@ -143,7 +144,7 @@ pub fn with_block(
     }
 }
 
-/// A constant or a static with its value, if it has one, where it may have or lack it at its site.
+/// The constant or static with its value, or without one, if that is allowed at its site.
 pub fn with_value(
     begun: Found<Begun>,
     site: Site,

@@ -33,7 +33,7 @@ pub enum ItemLead {
     Call,
 }
 
-/// What the item at the beginning begins with. Without a word that leads one it is a macro call.
+/// How the next tokens begin an item. Without a word that can begin one it is a macro call.
 pub fn item_lead(at: &Ahead<'_>) -> ItemLead
     ensures { told result ≡ reader.item_lead at.now }
 {
@@ -46,7 +46,8 @@ pub fn item_lead(at: &Ahead<'_>) -> ItemLead
     }
 }
 
-/// What the word leads that comes next. What follows it is looked at where it may lead a function alone.
+/// How this word, which comes next, begins an item. What follows it is only looked at if it may
+/// begin a function.
 fn lead_of_word(word: &[u8], at: &Ahead<'_>) -> ItemLead
     ensures { told result ≡ lead_of_word word.now at.now }
 {
@@ -57,7 +58,7 @@ fn lead_of_word(word: &[u8], at: &Ahead<'_>) -> ItemLead
     }
 }
 
-/// Whether the word may lead a function.
+/// Whether the word may begin a function.
 fn may_lead_function(word: &[u8]) -> bool
     ensures { result ≡ may_lead_function word.now }
 {
@@ -69,7 +70,7 @@ fn may_lead_function(word: &[u8]) -> bool
         || word == b"extern".as_slice()
 }
 
-/// Whether a function comes next: `fn`, after words that may stand before it.
+/// Whether a function comes next: `fn`, after any words that may stand before it.
 fn begins_function(at: &Ahead<'_>) -> bool
     ensures { result ≡ reader.begins_function at.now }
 {
@@ -81,7 +82,7 @@ fn begins_function(at: &Ahead<'_>) -> bool
     is_at_keyword(&behind, b"fn")
 }
 
-/// Passes what a function says of its safety, if it says any.
+/// Moves past `unsafe` or `safe` before `fn`, if one comes next.
 fn pass_safety(at: &mut Ahead<'_>)
     ensures { at.new ≡ (functions.safety_at at.old).1 }
 {
@@ -90,7 +91,7 @@ fn pass_safety(at: &mut Ahead<'_>)
     }
 }
 
-/// Passes an ABI, if one comes next.
+/// Moves past an ABI if one comes next.
 fn pass_abi(at: &mut Ahead<'_>)
     ensures { at.new ≡ functions.behind_abi at.old }
 {
@@ -109,7 +110,7 @@ fn is_at_string(at: &Ahead<'_>) -> bool
     }
 }
 
-/// What the word at the beginning leads, if it is no function.
+/// How this word, which comes next, begins an item other than a function.
 fn led_by(word: &[u8], at: &Ahead<'_>) -> ItemLead
     ensures { told result ≡ led_by word.now at.now }
 {
@@ -140,7 +141,7 @@ fn led_by(word: &[u8], at: &Ahead<'_>) -> ItemLead
     }
 }
 
-/// What `unsafe` leads, if it is no function.
+/// How `unsafe` begins an item other than a function.
 fn unsafe_lead(at: &Ahead<'_>) -> ItemLead
     ensures { told result ≡ reader.unsafe_lead (tail at.now) }
 {
@@ -155,7 +156,7 @@ fn unsafe_lead(at: &Ahead<'_>) -> ItemLead
     }
 }
 
-/// What `extern` leads, if it is no function.
+/// How `extern` begins an item other than a function.
 fn extern_lead(at: &Ahead<'_>) -> ItemLead
     ensures { told result ≡ reader.extern_lead (tail at.now) }
 {
@@ -168,7 +169,7 @@ fn extern_lead(at: &Ahead<'_>) -> ItemLead
     }
 }
 
-/// What a word leads that no item but a macro call begins with, or that may be a name too.
+/// How a word begins an item that is no keyword of items, or that may be a name too.
 fn macro_lead(at: &Ahead<'_>) -> ItemLead
     ensures { told result ≡ reader.macro_lead at.now }
 {
@@ -188,8 +189,8 @@ fn in_module(site: Site) -> bool
     matches!(site, Site::Module)
 }
 
-/// Whether an item with this lead may stand at the site. Of a function, an alias and a value what follows the lead
-/// decides.
+/// Whether an item that begins like this may stand at the site. For functions, aliases and values
+/// their readers decide that.
 pub fn may_stand(site: Site, lead: ItemLead) -> bool
     ensures { result ≡ may_stand site (told lead) }
 {

@@ -1,4 +1,4 @@
-//! Statements and arms by themselves.
+//! Parsing of statements and arms that stand alone.
 ghost use Rattle.std.specs.Prelude.{◌≡◌, ◌+◌, ◌≤◌, if◌then◌else◌, Some, None, IfOk};
 ghost use Rattle.lay_read_shared.specs.alone.ArmFronts.{alone_end};
 ghost use Rattle.lay_read_tokens.specs.Answers.{IsFound};
@@ -13,7 +13,8 @@ use lay_read_tokens::front::takes_mark;
 use lay_read_tokens::{Ahead, Found, ReadNone};
 use std::alloc::Global;
 
-/// Passes the comma of an arm by itself, which may lack it where it is said, and where no token follows.
+/// Moves past the comma of an arm that stands alone, and says whether the arm ends there. The comma
+/// may be missing if `free`, or if no token follows.
 fn takes_alone_end(at: &mut Ahead<'_>, free: bool) -> bool
     ensures { (if result then Some at.new else None) ≡ alone_end free at.old }
 {
@@ -25,7 +26,8 @@ impl<
     B: Fn(Global, &mut Ahead<'_>, u32) -> Result<Found<Block>, ReadNone>,
     I: Fn(Global, &mut Ahead<'_>, Site, u32) -> Result<Found<Item>, ReadNone>,
 > BlockRules<P, B, I> {
-    /// A statement that ends by itself, or after which no token stands. It stands one level deeper than what is around it.
+    /// Parses a statement that ends by itself or that no token follows. It counts one level more
+    /// than what is around it.
     pub fn deeper_stmt(&self, at: &mut Ahead<'_>) -> Result<Found<Stmt>, ReadNone>
         requires { AreCode self.now.depth (P.pre self.now.exprs) (P.post self.now.exprs)
             (B.pre self.now.blocks) (B.post self.now.blocks) (I.pre self.now.items)
@@ -43,8 +45,8 @@ impl<
         })
     }
 
-    /// An arm with its comma, if it has one, unless it is deeper than may be. It stands one level deeper than what is around
-    /// it.
+    /// Parses an arm with its comma, if it has one, unless it is nested too deep. It counts one
+    /// level more than what is around it.
     pub fn deeper_arm(&self, at: &mut Ahead<'_>) -> Result<Found<Arm>, ReadNone>
         requires { AreCode self.now.depth (P.pre self.now.exprs) (P.post self.now.exprs)
             (B.pre self.now.blocks) (B.post self.now.blocks) (I.pre self.now.items)

@@ -1,4 +1,4 @@
-//! The arms of a match.
+//! Parsing of the arms of a match.
 ghost use Rattle.std.specs.Prelude.{ℕ, ◌≡◌, ◌+◌, ◌^◌, ◌<◌, ◌≤◌, codes, if◌then◌else◌, Some, None, IfOk};
 ghost use Rattle.lay_node.specs.Ahead.{first, is_keyword, tail};
 ghost use Rattle.lay_node.specs.reader.Types.{if_read};
@@ -33,21 +33,23 @@ use lay_read_tokens::{Ahead, Found, ReadNone};
 use lay_token::{Delim, List};
 use std::alloc::Global;
 
-/// Arms, as parts that stand one after another.
+/// Arms as consecutive parts.
 pub struct Arms;
 
 impl Part<Arm, u32> for Arms {
     ghost reads = { λ depth place ts. reader.arm_by (code_within place) ts };
 }
 
-/// Passes the comma of an arm, which may lack it before the end, and where it is said.
+/// Moves past the comma of an arm, and says whether the arm ends there. The comma may be missing
+/// before the `}`, and anywhere if `free`.
 fn takes_arm_end(at: &mut Ahead<'_>, free: bool) -> bool
     ensures { (if result then Some at.new else None) ≡ reader.arm_end free at.old }
 {
     takes_mark(at, b",") || free || is_at_closer(at, Delim::Brace)
 }
 
-/// The body of an arm, and the need of it: within braces that aren't in the tree it needs as much as they do.
+/// The body of an arm without braces that aren't in the tree. In such braces it needs as much depth
+/// as they do.
 fn body_of(found: Found<Boxed<Expr>>) -> Found<Boxed<Expr>>
     requires { found.need + 1 < 2 ^ 32 }
     ensures node { (turns : ℕ) × IsBare turns found.node result.node }
@@ -70,7 +72,8 @@ impl<
     B: Fn(Global, &mut Ahead<'_>, u32) -> Result<Found<Block>, ReadNone>,
     I: Fn(Global, &mut Ahead<'_>, Site, u32) -> Result<Found<Item>, ReadNone>,
 > BlockRules<P, B, I> {
-    /// What follows an `=>`, and whether the arm may lack its comma by that.
+    /// Parses the body of an arm after its `=>`. The flag says that after this body the comma may
+    /// be left out.
     #[inline(never)]
     fn body_begun(&self, at: &mut Ahead<'_>) -> Result<Found<(Boxed<Expr>, bool)>, ReadNone>
         requires { AreCode self.now.depth (P.pre self.now.exprs) (P.post self.now.exprs)
@@ -88,7 +91,7 @@ impl<
         })
     }
 
-    /// A guard, if one stands there.
+    /// Parses a guard, if one comes next.
     #[inline(never)]
     fn guard_if(&self, at: &mut Ahead<'_>) -> Result<Found<Option<Boxed<Expr>>>, ReadNone>
         requires { AreCode self.now.depth (P.pre self.now.exprs) (P.post self.now.exprs)
@@ -111,7 +114,8 @@ impl<
         })
     }
 
-    /// An arm. What is within it is read at the depth of these rules, and it needs one more at the most.
+    /// Parses an arm. What it contains is parsed at the depth limit of these rules, so the arm
+    /// needs at most one level more.
     #[tactic(auto, using(lay_read_shared::proofs::alone_lemmas::ArmBegun::arm_by_is))]
     #[inline(never)]
     fn arm_by(&self, at: &mut Ahead<'_>, _depth: u32) -> Result<Found<Arm>, ReadNone>
@@ -129,7 +133,7 @@ impl<
         Ok(Found { node: arm, need })
     }
 
-    /// An arm up to its comma, and whether it may lack that by its body.
+    /// Parses an arm up to its comma. The flag says that after its body the comma may be left out.
     #[tactic(auto, unfolding(lay_read_shared::specs::alone::ArmFronts::arm_begun))]
     #[inline(never)]
     pub fn arm_begun(&self, at: &mut Ahead<'_>) -> Result<Found<(Arm, bool)>, ReadNone>
@@ -148,7 +152,7 @@ impl<
         self.arm_behind(at, attrs, pat, guard)
     }
 
-    /// What follows the pattern of an arm, and its guard if it has one.
+    /// Parses an arm after its pattern and its guard.
     #[inline(never)]
     fn arm_behind(
         &self,
@@ -186,7 +190,7 @@ impl<
         })
     }
 
-    /// What follows `match`, unless it is deeper than may be.
+    /// Parses a match after its `match`, unless it is nested too deep.
     #[tactic(auto, unfolding(lay_code::specs::reader::Exprs::match_expr), using(lay_read_shared::proofs::Left::arm_leaves))]
     #[inline(never)]
     pub fn match_expr(&self, at: &mut Ahead<'_>) -> Result<Found<Boxed<Expr>>, ReadNone>

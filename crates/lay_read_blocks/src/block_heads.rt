@@ -1,4 +1,5 @@
-//! What begins an expression that holds blocks, or a closure, as the rules of expressions ask for it.
+//! Expressions that contain blocks, and closures: the trait by which the rules of expressions call
+//! their reader.
 ghost use Rattle.std.specs.Prelude.{ℕ, ◌+◌, ◌≤◌, IfOk};
 ghost use Rattle.lay_read_tokens.specs.Answers.{IsFound};
 ghost use Rattle.lay_read_shared.specs.Code.{code_within};
@@ -8,15 +9,16 @@ use lay_code::{Boxed, Expr};
 use lay_ops::operands::ExprLead;
 use lay_read_tokens::{Ahead, Found, ReadNone};
 
-/// What reads expressions that begin with a label, with a block or with a word before one, and closures.
+/// A reader of closures, and of expressions that begin with a label, with a block, or with a word
+/// before one.
 pub trait BlockHeads {
-    /// Over what is read at this depth it reads them.
+    /// The depth limit of what the expressions contain.
     ghost depth: { Self → ℕ };
 
-    /// It may read.
+    /// What has to hold for it to read.
     ghost are_ready: { Self → Type 0 };
 
-    /// What begins such an expression, told from what the first token begins, unless it is deeper than may be.
+    /// Parses such an expression by its first token, unless it is nested too deep.
     fn block_head(
         &self,
         at: &mut Ahead<'_>,

@@ -1,4 +1,4 @@
-//! Blocks.
+//! Parsing of blocks.
 ghost use Rattle.std.specs.Prelude.{◌≡◌, ◌+◌, ◌≤◌, IfOk};
 ghost use Rattle.lay_node.specs.Ahead.{more_items};
 ghost use Rattle.lay_node.specs.reader.Loops.{repeat};
@@ -21,7 +21,7 @@ use lay_read_tokens::{Ahead, Found, ReadNone};
 use lay_token::{Delim, List};
 use std::alloc::Global;
 
-/// Statements of a block, as parts that stand one after another.
+/// Statements of a block as consecutive parts.
 pub struct Stmts;
 
 impl Part<Stmt, ()> for Stmts {
@@ -33,7 +33,7 @@ impl<
     B: Fn(Global, &mut Ahead<'_>, u32) -> Result<Found<Block>, ReadNone>,
     I: Fn(Global, &mut Ahead<'_>, Site, u32) -> Result<Found<Item>, ReadNone>,
 > BlockRules<P, B, I> {
-    /// A block.
+    /// Parses a block.
     #[tactic(auto, unfolding(lay_code::specs::reader::Blocks::block_by))]
     #[inline(never)]
     pub fn block_by(&self, at: &mut Ahead<'_>) -> Result<Found<Block>, ReadNone>
@@ -61,7 +61,7 @@ impl<
         })
     }
 
-    /// A block that stands one level deeper than what is around it.
+    /// Parses a block that counts one level more than what is around it.
     #[inline(never)]
     pub fn deeper_block(&self, at: &mut Ahead<'_>) -> Result<Found<Block>, ReadNone>
         requires { AreCode self.now.depth (P.pre self.now.exprs) (P.post self.now.exprs)
@@ -78,7 +78,7 @@ impl<
         })
     }
 
-    /// The body of a function, or the `;` where it has none.
+    /// Parses the body of a function, or the `;` where it has none.
     #[inline(never)]
     pub fn fn_body(&self, at: &mut Ahead<'_>) -> Result<Found<Option<Block>>, ReadNone>
         requires { AreCode self.now.depth (P.pre self.now.exprs) (P.post self.now.exprs)
@@ -103,7 +103,7 @@ impl<
         }
     }
 
-    /// Statements, up to where the block ends.
+    /// Parses statements up to the end of the block.
     #[tactic(auto, using(lay_read_shared::proofs::Left::stmt_leaves))]
     #[inline(never)]
     fn stmts(&self, at: &mut Ahead<'_>) -> Result<Found<List<Stmt>>, ReadNone>
@@ -125,7 +125,8 @@ impl<
         )
     }
 
-    /// A statement of a block, and the `;` after it. One that doesn't end by itself is the last.
+    /// Parses a statement of a block, and the `;` after it. One that doesn't end by itself is the
+    /// last.
     #[inline(never)]
     fn stmt_in_block(&self, at: &mut Ahead<'_>, _place: ()) -> Result<Found<Stmt>, ReadNone>
         requires { AreCode self.now.depth (P.pre self.now.exprs) (P.post self.now.exprs)

@@ -1,4 +1,4 @@
-//! Closures.
+//! Parsing of closures.
 ghost use Rattle.std.specs.Prelude.{ℕ, ◌≡◌, ◌+◌, ◌^◌, ◌<◌, ◌≤◌, codes, IfOk};
 ghost use Rattle.lay_node.specs.Ahead.{is_mark};
 ghost use Rattle.lay_node.specs.reader.Loops.{elements};
@@ -29,7 +29,8 @@ use lay_read_types::type_ahead;
 use lay_token::List;
 use std::alloc::Global;
 
-/// The body of a closure, and the need of it: within braces that aren't in the tree it needs as much as they do.
+/// The body of a closure without braces that aren't in the tree. In such braces it needs as much
+/// depth as they do.
 fn closure_body_of(found: Found<Boxed<Expr>>, no_struct: bool) -> Found<Boxed<Expr>>
     requires { found.need + 1 < 2 ^ 32 }
     ensures node { (turns : ℕ) × IsShed no_struct turns found.node result.node }
@@ -47,7 +48,7 @@ fn closure_body_of(found: Found<Boxed<Expr>>, no_struct: bool) -> Found<Boxed<Ex
     }
 }
 
-/// Parameters of a closure, as elements of a list.
+/// Parameters of a closure as the elements of a list.
 pub struct Params;
 
 impl Part<ClosureParam, ()> for Params {
@@ -59,7 +60,7 @@ impl<
     B: Fn(Global, &mut Ahead<'_>, u32) -> Result<Found<Block>, ReadNone>,
     I: Fn(Global, &mut Ahead<'_>, Site, u32) -> Result<Found<Item>, ReadNone>,
 > BlockRules<P, B, I> {
-    /// A parameter of a closure.
+    /// Parses a parameter of a closure.
     #[tactic(auto, unfolding(lay_code::specs::reader::Exprs::closure_param))]
     #[inline(never)]
     fn closure_param(&self, at: &mut Ahead<'_>, _place: ()) -> Result<Found<ClosureParam>, ReadNone>
@@ -86,7 +87,7 @@ impl<
         })
     }
 
-    /// Parameters, and the `|` after them.
+    /// Parses parameters, and the `|` after them.
     #[tactic(auto, using(lay_read_shared::proofs::Left::param_leaves))]
     #[inline(never)]
     fn params(&self, at: &mut Ahead<'_>) -> Result<Found<List<ClosureParam>>, ReadNone>
@@ -108,7 +109,7 @@ impl<
         )
     }
 
-    /// A closure, unless it is deeper than may be.
+    /// Parses a closure, unless it is nested too deep.
     #[tactic(auto, unfolding(lay_code::specs::reader::Exprs::closure_expr))]
     #[inline(never)]
     pub fn closure_expr(
@@ -132,7 +133,7 @@ impl<
         self.closure_body(at, no_struct, is_async, moves, params)
     }
 
-    /// What follows the parameters of a closure, unless they are too deep together.
+    /// Parses a closure after its parameters, unless it is nested too deep.
     #[inline(never)]
     fn closure_body(
         &self,
@@ -170,7 +171,7 @@ impl<
         )
     }
 
-    /// What follows the parameters of a closure, from its `->` on.
+    /// Parses a closure with a return type, from its `->` on.
     #[inline(never)]
     fn typed_closure(
         &self,

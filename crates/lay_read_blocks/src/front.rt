@@ -1,4 +1,4 @@
-//! What begins an item among statements, and what is passed over.
+//! Lookahead: whether an item comes next among statements.
 ghost use Rattle.std.specs.Prelude.{◌≡◌};
 ghost use Rattle.lay_code.specs.reader.Blocks as reader;
 ghost use Rattle.lay_code.specs.reader.ItemLeads as leads;
@@ -12,7 +12,7 @@ use lay_read_tokens::front::{
 use lay_read_tokens::names::is_at_name;
 use lay_token::Delim;
 
-/// Passes any number of `;`.
+/// Moves past any number of `;`.
 pub(crate) fn pass_semicolons(at: &mut Ahead<'_>)
     ensures { at.new ≡ reader.behind_semicolons at.old }
 {
@@ -21,7 +21,7 @@ pub(crate) fn pass_semicolons(at: &mut Ahead<'_>)
     }
 }
 
-/// Whether a word that begins an item wherever it stands is at the beginning.
+/// Whether a keyword comes next that begins an item wherever it stands.
 fn is_at_item_word(at: &Ahead<'_>) -> bool
     ensures { result ≡ reader.begins_with reader.item_words at.now }
 {
@@ -48,7 +48,7 @@ fn begins_const_item(at: &Ahead<'_>) -> bool
         && !is_at_opened(&behind, Delim::Brace)
 }
 
-/// Whether `async` comes next, and what goes on with a function after it.
+/// Whether `async` comes next, and then what goes on with a function.
 fn begins_async_fn(at: &Ahead<'_>) -> bool
     ensures { result ≡ begins_async_fn at.now }
 {
@@ -60,7 +60,7 @@ fn begins_async_fn(at: &Ahead<'_>) -> bool
             || is_at_keyword(&behind, b"extern"))
 }
 
-/// Whether an item comes next, and no expression. A macro call is an expression.
+/// Whether an item comes next and no expression. (A macro call counts as an expression.)
 pub fn begins_item(at: &Ahead<'_>) -> bool
     ensures { result ≡ reader.begins_item at.now }
 {
@@ -79,7 +79,7 @@ pub fn begins_union(at: &Ahead<'_>) -> bool
     takes_keyword(&mut behind, b"union") && is_at_name(&behind)
 }
 
-/// Whether a macro is declared at the beginning: `macro_rules` before a `!` and a name.
+/// Whether a macro definition comes next: `macro_rules` before a `!` and a name.
 pub fn begins_rules(at: &Ahead<'_>) -> bool
     ensures { result ≡ leads.begins_rules at.now }
 {

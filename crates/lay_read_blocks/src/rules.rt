@@ -1,4 +1,4 @@
-//! The rules of blocks of a level, and how what is one level deeper is read.
+//! The rules of blocks of one level, over the readers of the next deeper level.
 ghost use Rattle.std.specs.Prelude.{◌≡◌, ◌≤◌, codes, drop, IfOk};
 ghost use Rattle.lay_token.specs.Operators.{is_op};
 ghost use Rattle.lay_node.specs.reader.Types.{if_read};
@@ -13,12 +13,12 @@ use lay_read_tokens::front::takes_op;
 use lay_read_tokens::{Ahead, Found, ReadNone};
 use std::alloc::Global;
 
-/// The rules of blocks of a level, over the readers of what is one level deeper: of expressions, at a place, of blocks
-/// after an `else`, and of items, at a site.
+/// The rules of blocks of one level, over the readers of the next deeper level: of expressions at a
+/// place, of blocks after an `else`, and of items at a site.
 #[derive(Drop)]
 pub struct BlockRules<P, B, I> {
     pub alloc: Global,
-    /// At this depth what is one level deeper is read.
+    /// The depth limit of the next deeper level.
     pub depth: u32,
     pub exprs: P,
     pub blocks: B,
@@ -30,7 +30,7 @@ impl<
     B: Fn(Global, &mut Ahead<'_>, u32) -> Result<Found<Block>, ReadNone>,
     I: Fn(Global, &mut Ahead<'_>, Site, u32) -> Result<Found<Item>, ReadNone>,
 > BlockRules<P, B, I> {
-    /// An expression one level deeper, in its box.
+    /// Parses an expression of the next deeper level, and boxes it.
     #[inline(never)]
     pub fn expr(&self, at: &mut Ahead<'_>, place: Place) -> Result<Found<Boxed<Expr>>, ReadNone>
         requires { AreCode self.now.depth (P.pre self.now.exprs) (P.post self.now.exprs)
@@ -42,7 +42,7 @@ impl<
         (self.exprs)(self.alloc, at, place, self.depth)
     }
 
-    /// A value after an `=`, if one stands there.
+    /// Parses a value after an `=`, if one comes next.
     pub fn value_if(&self, at: &mut Ahead<'_>) -> Result<Found<Option<Boxed<Expr>>>, ReadNone>
         requires { AreCode self.now.depth (P.pre self.now.exprs) (P.post self.now.exprs)
             (B.pre self.now.blocks) (B.post self.now.blocks) (I.pre self.now.items)

@@ -1,4 +1,4 @@
-//! Statements.
+//! Parsing of statements.
 ghost use Rattle.std.specs.Prelude.{◌≡◌, ◌≤◌, max, codes, is_some, option_map, IfOk};
 ghost use Rattle.lay_node.specs.Ahead.{first, is_keyword, tail};
 ghost use Rattle.lay_node.specs.reader.Types.{if_read};
@@ -26,7 +26,7 @@ use lay_read_tokens::{Ahead, Found, ReadNone};
 use lay_token::List;
 use std::alloc::Global;
 
-/// Whether an `else` may stand after this value, if one stands there.
+/// Whether an `else` may stand after this value, if there is an `else`.
 fn else_stands(value: &Option<Boxed<Expr>>, otherwise: bool) -> bool
     ensures { result ≡ reader.else_stands value.now otherwise }
 {
@@ -39,7 +39,7 @@ fn else_stands(value: &Option<Boxed<Expr>>, otherwise: bool) -> bool
     }
 }
 
-/// The pattern after `let`, and its type if it has one.
+/// Parses the pattern of a `let`, and its type if it has one.
 #[inline(never)]
 fn let_head(
     alloc: Global,
@@ -57,8 +57,8 @@ fn let_head(
     })
 }
 
-/// A `let` of what was read up to its type and after that. They are put together in a call of its own, so that no room for the
-/// moves is held while the value is read.
+/// A `let` statement of its parts. It is a function of its own, so that the caller's frame has no
+/// room for these moves while the value is read.
 #[inline(never)]
 fn let_of(
     attrs: List<Attr>,
@@ -87,7 +87,7 @@ impl<
     B: Fn(Global, &mut Ahead<'_>, u32) -> Result<Found<Block>, ReadNone>,
     I: Fn(Global, &mut Ahead<'_>, Site, u32) -> Result<Found<Item>, ReadNone>,
 > BlockRules<P, B, I> {
-    /// A statement.
+    /// Parses a statement.
     #[tactic(auto, unfolding(lay_code::specs::reader::Blocks::stmt_by))]
     #[inline(always)]
     pub fn stmt_by(&self, at: &mut Ahead<'_>) -> Result<Found<Stmt>, ReadNone>
@@ -109,7 +109,7 @@ impl<
         self.item_stmt(at)
     }
 
-    /// An item, which is no macro call.
+    /// Parses an item, which is no macro call.
     #[inline(never)]
     fn item_stmt(&self, at: &mut Ahead<'_>) -> Result<Found<Stmt>, ReadNone>
         requires { AreCode self.now.depth (P.pre self.now.exprs) (P.post self.now.exprs)
@@ -130,7 +130,7 @@ impl<
         })
     }
 
-    /// An expression, and its `;` if it has one.
+    /// Parses an expression, and its `;` if it has one.
     #[tactic(auto, unfolding(lay_code::specs::reader::Blocks::expr_stmt))]
     #[inline(never)]
     fn expr_stmt(&self, at: &mut Ahead<'_>, attrs: List<Attr>) -> Result<Found<Stmt>, ReadNone>
@@ -153,7 +153,7 @@ impl<
         })
     }
 
-    /// What follows `let`.
+    /// Parses a `let` statement after its `let`.
     #[tactic(auto, unfolding(lay_code::specs::reader::Blocks::let_stmt))]
     #[inline(never)]
     fn let_stmt(&self, at: &mut Ahead<'_>, attrs: List<Attr>) -> Result<Found<Stmt>, ReadNone>
@@ -173,8 +173,8 @@ impl<
         }
     }
 
-    /// What follows the pattern of a `let`, and its type if it has one: a value and a block after an `else`, if they
-    /// stand there, and a `;`.
+    /// Parses a `let` statement after its pattern and type: a value and an `else` with its block,
+    /// if they come next, and a `;`.
     #[inline(never)]
     fn let_behind(
         &self,
@@ -197,7 +197,7 @@ impl<
         })
     }
 
-    /// The block after an `else`, if one stands there.
+    /// Parses the block after an `else`, if one comes next.
     #[inline(never)]
     fn else_if(&self, at: &mut Ahead<'_>) -> Result<Found<Option<Block>>, ReadNone>
         requires { AreCode self.now.depth (P.pre self.now.exprs) (P.post self.now.exprs)

@@ -1,4 +1,4 @@
-//! Branches, and the expressions with conditions.
+//! Parsing of branches, and of the expressions with conditions.
 ghost use Rattle.std.specs.Prelude.{◌≡◌, ◌+◌, ◌≤◌, codes, drop, max, IfOk};
 ghost use Rattle.lay_node.specs.Ahead.{first, is_keyword, tail};
 ghost use Rattle.lay_node.specs.reader.Loops.{repeat};
@@ -24,15 +24,15 @@ use lay_read_tokens::{Ahead, Found, ReadNone};
 use lay_token::List;
 use std::alloc::Global;
 
-/// Branches after `else if`, as parts that stand one after another.
+/// Branches after `else if` as consecutive parts.
 pub struct Branches;
 
 impl Part<Branch, ()> for Branches {
     ghost reads = { λ depth place ts. reader.branch_by (code_within depth) (drop 2 ts) };
 }
 
-/// A branch and those after it, in one list. They are put together in a call of its own, so that no room for the moves is held
-/// while branches are read.
+/// A branch and those after it, in one list. It is a function of its own, so that the caller's
+/// frame has no room for these moves while branches are read.
 #[inline(never)]
 fn branches_of(
     first: Found<Branch>,
@@ -51,7 +51,7 @@ impl<
     B: Fn(Global, &mut Ahead<'_>, u32) -> Result<Found<Block>, ReadNone>,
     I: Fn(Global, &mut Ahead<'_>, Site, u32) -> Result<Found<Item>, ReadNone>,
 > BranchRules<P, B, I> {
-    /// What follows an `if`.
+    /// Parses a branch after its `if`.
     #[tactic(auto, unfolding(lay_code::specs::reader::Blocks::branch_by))]
     #[inline(never)]
     pub fn branch_by(&self, at: &mut Ahead<'_>) -> Result<Found<Branch>, ReadNone>
@@ -74,7 +74,7 @@ impl<
         })
     }
 
-    /// A branch after its `else if`.
+    /// Parses a branch after its `else if`.
     #[inline(never)]
     fn else_branch(&self, at: &mut Ahead<'_>, _place: ()) -> Result<Found<Branch>, ReadNone>
         requires { AreCode self.now.rules.depth (P.pre self.now.rules.exprs)
@@ -89,7 +89,8 @@ impl<
         self.branch_by(at)
     }
 
-    /// The block after an `else`, if one stands there. It is as deep as those of the branches.
+    /// Parses the block after an `else`, if one comes next. It counts as many levels as the blocks
+    /// of the branches.
     #[inline(never)]
     fn otherwise(&self, at: &mut Ahead<'_>) -> Result<Found<Option<Block>>, ReadNone>
         requires { AreCode self.now.rules.depth (P.pre self.now.rules.exprs)
@@ -113,7 +114,7 @@ impl<
         })
     }
 
-    /// What follows an `if`, and the branches after `else if`.
+    /// Parses the first branch after its `if`, and the branches after `else if`.
     #[inline(never)]
     fn branches(&self, at: &mut Ahead<'_>) -> Result<Found<List<Branch>>, ReadNone>
         requires { AreCode self.now.rules.depth (P.pre self.now.rules.exprs)
@@ -132,7 +133,7 @@ impl<
         }
     }
 
-    /// The branches after `else if`, as long as one begins.
+    /// Parses the branches after `else if`, as long as one begins.
     #[tactic(auto, using(lay_read_shared::proofs::Left::branch_leaves))]
     #[inline(never)]
     fn else_branches(&self, at: &mut Ahead<'_>) -> Result<Found<List<Branch>>, ReadNone>
@@ -156,7 +157,7 @@ impl<
         )
     }
 
-    /// What follows an `if`, with all its branches.
+    /// Parses an `if` with all its branches, after the word `if`.
     #[tactic(auto, using(crate::proofs::Chains::if_is))]
     #[inline(never)]
     pub fn if_expr(&self, at: &mut Ahead<'_>) -> Result<Found<Boxed<Expr>>, ReadNone>
@@ -180,7 +181,7 @@ impl<
         )
     }
 
-    /// What follows `while`.
+    /// Parses a `while` loop after its `while`.
     #[tactic(auto, unfolding(lay_code::specs::reader::Exprs::while_expr))]
     #[inline(never)]
     pub fn while_expr(
@@ -210,7 +211,7 @@ impl<
         )
     }
 
-    /// What follows `for`.
+    /// Parses a `for` loop after its `for`.
     #[tactic(auto, unfolding(lay_code::specs::reader::Exprs::for_expr))]
     #[inline(never)]
     pub fn for_expr(

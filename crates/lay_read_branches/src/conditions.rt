@@ -1,7 +1,7 @@
-//! Conditions: links with `&&` between them.
+//! Parsing of conditions: links with `&&` between them.
 //!
-//! Links are read one by one. Where none of them is a `let`, they are the first operands of an expression, and the operators
-//! after them are read from their level on.
+//! Links are read one by one. If none of them is a `let`, they are the first operands of one
+//! expression; then the operators that follow are read from the precedence level of `&&` on.
 ghost use Rattle.std.specs.Prelude.{◌≡◌, ◌==◌, ◌+◌, ◌^◌, ◌<◌, ◌≤◌, ◌∷◌, if◌then◌else◌, drop, map, max, true, IfErr, IfOk};
 ghost use Rattle.std.specs.List.{list_any};
 ghost use Rattle.lay_node.specs.Follow as follow;
@@ -32,7 +32,7 @@ use lay_read_tokens::{Ahead, Found, ReadNone};
 use lay_token::List;
 use std::alloc::Global;
 
-/// Links after an `&&`, as parts that stand one after another.
+/// Links after an `&&` as consecutive parts.
 pub struct Links;
 
 impl Part<(Option<Pat>, Boxed<Expr>), ()> for Links {
@@ -46,7 +46,7 @@ fn begins_dots(at: &Ahead<'_>) -> bool
     at.op_is(b"..") || at.op_is(b"..=")
 }
 
-/// Whether a link may end where the tokens ahead stand.
+/// Whether a link may end before the next tokens.
 fn link_ends(at: &Ahead<'_>, expr: &Expr) -> bool
     ensures { result ≡ (if reader.begins_link at.now then stands (about_expr expr.now)
         (link_place true) else true) }
@@ -66,7 +66,7 @@ fn has_let(links: &[(Option<Pat>, Boxed<Expr>)]) -> bool
     false
 }
 
-/// A link of the pattern after its `let`, if it has one, and of its expression.
+/// The link of an expression, with a pattern if it is a `let`.
 fn linked(read: (Option<Pat>, Boxed<Expr>)) -> Link
     ensures { result ≡ reader.linked read }
 {
@@ -77,7 +77,7 @@ fn linked(read: (Option<Pat>, Boxed<Expr>)) -> Link
     }
 }
 
-/// The condition of these links.
+/// The condition that consists of these links.
 #[inline(never)]
 fn condition_of(
     alloc: Global,
@@ -95,7 +95,8 @@ fn condition_of(
     Ok(Condition { links })
 }
 
-/// The expressions of links without a `let`, each with the `&&` before it.
+/// The expressions of links without a `let`, each with the `&&` before it, as the operands of a
+/// chain.
 fn operands_of(
     alloc: Global,
     links: List<(Option<Pat>, Boxed<Expr>)>,
@@ -137,7 +138,7 @@ fn chain_of(
     boxed_found(alloc, Expr::Chain { first: expr, rest }, need)
 }
 
-/// An expression that was read, as a condition by itself.
+/// The condition that consists of this expression.
 #[inline(never)]
 fn alone(
     alloc: Global,
@@ -159,7 +160,7 @@ impl<
     B: Fn(Global, &mut Ahead<'_>, u32) -> Result<Found<Block>, ReadNone>,
     I: Fn(Global, &mut Ahead<'_>, Site, u32) -> Result<Found<Item>, ReadNone>,
 > BranchRules<P, B, I> {
-    /// What follows the `let` of a link.
+    /// Parses a link of a condition after its `let`.
     #[tactic(auto, unfolding(lay_code::specs::reader::Conditions::let_link))]
     #[inline(never)]
     fn let_link(&self, at: &mut Ahead<'_>) -> Result<Found<(Option<Pat>, Boxed<Expr>)>, ReadNone>
@@ -187,7 +188,7 @@ impl<
         })
     }
 
-    /// A link, whatever follows it.
+    /// Parses a link of a condition, whatever follows it.
     #[inline(never)]
     fn link_by(&self, at: &mut Ahead<'_>) -> Result<Found<(Option<Pat>, Boxed<Expr>)>, ReadNone>
         requires { AreCode self.now.rules.depth (P.pre self.now.rules.exprs)
@@ -208,7 +209,7 @@ impl<
         })
     }
 
-    /// A link.
+    /// Parses a link.
     #[tactic(auto, unfolding(lay_code::specs::reader::Conditions::one_link))]
     #[inline(never)]
     fn one_link(&self, at: &mut Ahead<'_>) -> Result<Found<(Option<Pat>, Boxed<Expr>)>, ReadNone>
@@ -227,7 +228,7 @@ impl<
         Ok(link)
     }
 
-    /// A link and the `&&` before it.
+    /// Parses a link and the `&&` before it.
     #[inline(never)]
     fn further_link(
         &self,
@@ -246,7 +247,7 @@ impl<
         self.one_link(at)
     }
 
-    /// The links that follow the first one, each after an `&&`.
+    /// Parses the links that follow the first one, each after an `&&`.
     #[tactic(auto, unfolding(lay_code::specs::reader::Conditions::further_links), using(lay_read_shared::proofs::Left::link_leaves))]
     #[inline(never)]
     fn further_links(
@@ -272,8 +273,8 @@ impl<
         )
     }
 
-    /// What goes on with the first operands of an expression, whose level is that of an `&&`. Further operands are read one level
-    /// deeper than these, as those of every expression are.
+    /// Parses the operators after links that are the operands of `&&`. Further operands are parsed
+    /// at the next deeper level, as those of every expression.
     #[inline(never)]
     fn goes_on(
         &self,
@@ -299,7 +300,7 @@ impl<
         rules.climb(at, plain(0, true), 3, lhs)
     }
 
-    /// The condition that these links are, or that begins with them.
+    /// Parses the condition that consists of these links, or begins with them.
     #[inline(never)]
     fn condition_found(
         &self,
@@ -328,7 +329,7 @@ impl<
         }
     }
 
-    /// The condition whose first link this is.
+    /// Parses the condition that begins with this link.
     #[tactic(auto, using(crate::proofs::ConditionSteps::condition_is))]
     #[inline(never)]
     fn condition_behind(
@@ -349,7 +350,7 @@ impl<
         self.condition_found(at, first, more)
     }
 
-    /// A condition.
+    /// Parses a condition.
     #[tactic(auto, unfolding(lay_code::specs::reader::Conditions::condition_by))]
     #[inline(never)]
     pub fn condition_by(&self, at: &mut Ahead<'_>) -> Result<Found<Condition>, ReadNone>

@@ -1,4 +1,5 @@
-//! What begins with a block, with a word before one, with a label, or as a closure does.
+//! Parsing of expressions that begin with a block, with a word before one, or with a label, and of
+//! closures.
 ghost use Rattle.std.specs.Prelude.{◌≡◌, ◌+◌, ◌≤◌, None, IfOk};
 ghost use Rattle.lay_code.specs.reader.Exprs as exprs;
 ghost use Rattle.lay_read_tokens.specs.Answers.{IsFound};
@@ -23,8 +24,8 @@ impl<
     B: Fn(Global, &mut Ahead<'_>, u32) -> Result<Found<Block>, ReadNone>,
     I: Fn(Global, &mut Ahead<'_>, Site, u32) -> Result<Found<Item>, ReadNone>,
 > BranchRules<P, B, I> {
-    /// What begins an expression that holds blocks, or a closure, told from what the first token begins, unless it is deeper
-    /// than may be.
+    /// Parses an expression that contains a block, or a closure, by its first token, unless it is
+    /// nested too deep.
     #[inline(never)]
     pub fn block_head(
         &self,
@@ -49,7 +50,7 @@ impl<
         }
     }
 
-    /// A block or a loop after its label.
+    /// Parses a block or a loop after its label.
     #[tactic(auto, unfolding(lay_code::specs::reader::Exprs::label_expr))]
     #[inline(never)]
     fn label_expr(&self, at: &mut Ahead<'_>) -> Result<Found<Boxed<Expr>>, ReadNone>
@@ -68,7 +69,7 @@ impl<
         self.labelled_expr(at, Some(label))
     }
 
-    /// A block or a loop, after its label if it has one.
+    /// Parses a block or a loop, after its label if it has one.
     #[inline(never)]
     fn labelled_expr(
         &self,
@@ -114,7 +115,7 @@ impl<
         refused(label)
     }
 
-    /// What begins with a word of an expression that holds a block.
+    /// Parses an expression that contains a block and begins with a word.
     #[tactic(auto, unfolding(lay_code::specs::reader::Exprs::block_word_expr))]
     #[inline(never)]
     fn block_word_expr(&self, at: &mut Ahead<'_>) -> Result<Found<Boxed<Expr>>, ReadNone>
@@ -135,7 +136,7 @@ impl<
         self.worded(at)
     }
 
-    /// A block after its `unsafe`, `const` or `async`.
+    /// Parses a block after its `unsafe`, `const` or `async`.
     #[inline(never)]
     fn worded_block(&self, at: &mut Ahead<'_>) -> Result<Found<Boxed<Expr>>, ReadNone>
         requires { AreCode self.now.rules.depth (P.pre self.now.rules.exprs)
@@ -177,7 +178,7 @@ impl<
         Err(ReadNone::NoReading)
     }
 
-    /// What begins with `if` or `match`, or is a loop.
+    /// Parses an `if`, a `match` or a loop.
     #[inline(always)]
     fn worded(&self, at: &mut Ahead<'_>) -> Result<Found<Boxed<Expr>>, ReadNone>
         requires { AreCode self.now.rules.depth (P.pre self.now.rules.exprs)

@@ -1,7 +1,8 @@
-//! The rules of branches of a level.
+//! The rules of conditions, branches and expressions with blocks, at one level.
 use lay_read_blocks::BlockRules;
 
-/// The rules of conditions, of branches, and of what begins with a block, over those of blocks.
+/// The rules of conditions, branches and expressions with blocks, over the rules of blocks of the
+/// same level.
 #[derive(Drop)]
 pub struct BranchRules<P, B, I> {
     pub rules: BlockRules<P, B, I>,

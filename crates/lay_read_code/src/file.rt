@@ -1,4 +1,4 @@
-//! Files.
+//! Parsing of files.
 ghost use Rattle.std.specs.Prelude.{◌≡◌, ◌++◌, ◌∷◌, [], IsTrue, OnOk, true};
 ghost use Rattle.lay_node.specs.reader.Attr.{attribute};
 ghost use Rattle.lay_code.specs.Written.{is_good_shebang};
@@ -13,14 +13,14 @@ use lay_read_tokens::{Ahead, ReadNone, read_attr};
 use lay_token::{FormatError, List, NoMemory, Refusal, Text};
 use std::alloc::Global;
 
-/// The one file that the tokens spell after this shebang, or the refusal where they spell none: at the token before
-/// which the longest run of inner attributes and then items ends.
+/// Parses a file with this shebang line. If the tokens spell no file, the syntax error is at the
+/// token before which the longest run of inner attributes and then items ends.
 ///
-/// The items of the file stand at the depth, and those within another item one lower; at 0 none is read. So no more of the
-/// stack is taken than a file of this depth needs.
+/// The items of the file fit in `depth` levels, and items within an item in one fewer; with 0
+/// levels none is read. So a file needs no more stack than this depth takes.
 ///
-/// The tokens are those that some text lexes to, and the shebang, if there is one, is given back whole where it
-/// stands alone as the first line.
+/// The tokens are those that some text lexes to. The shebang line, if there is one, is a whole
+/// first line.
 pub fn read_file(
     alloc: Global,
     nested: &Nested,
@@ -45,7 +45,7 @@ pub fn read_file(
     }
 }
 
-/// Inner attributes and then items, one by one, as long as they are read.
+/// Parses inner attributes and then items, as many as there are.
 fn read_front(
     alloc: Global,
     at: &mut Cursor<'_>,
@@ -61,7 +61,7 @@ fn read_front(
     Ok((attrs, items))
 }
 
-/// Inner attributes, as long as one is read.
+/// Parses inner attributes, as many as there are.
 fn inner_attrs(alloc: Global, at: &mut Cursor<'_>) -> Result<List<Attr>, NoMemory>
     requires { AreLexed at.old }
     ensures run { IsRun (longest (attribute true) at.old) result at.new }
@@ -74,7 +74,7 @@ fn inner_attrs(alloc: Global, at: &mut Cursor<'_>) -> Result<List<Attr>, NoMemor
     Ok(attrs)
 }
 
-/// The inner attribute at the beginning, or none. Where there is none the cursor stays.
+/// Parses the next inner attribute, or gives `None`; then the cursor doesn't move.
 fn next_attr(alloc: Global, at: &mut Cursor<'_>) -> Result<Option<Attr>, NoMemory>
     requires { AreLexed at.old }
     ensures next { IsNext (attribute true at.old) result at.old at.new }
@@ -87,7 +87,7 @@ fn next_attr(alloc: Global, at: &mut Cursor<'_>) -> Result<Option<Attr>, NoMemor
     }
 }
 
-/// Items of a file, as long as one is read.
+/// Parses items of a file, as many as there are.
 fn top_items(alloc: Global, at: &mut Ahead<'_>, depth: u32) -> Result<List<Item>, NoMemory>
     ensures { IsRun (longest (file_item depth) at.old) result at.new }
 {
@@ -98,7 +98,7 @@ fn top_items(alloc: Global, at: &mut Ahead<'_>, depth: u32) -> Result<List<Item>
     Ok(items)
 }
 
-/// The item of a file at the beginning, or none. Where there is none the place stays.
+/// Parses the next item of a file, or gives `None`; then the cursor doesn't move.
 fn next_item(alloc: Global, at: &mut Ahead<'_>, depth: u32) -> Result<Option<Item>, NoMemory>
     ensures { IsNext (file_item depth at.old) result at.old at.new }
 {
@@ -113,7 +113,7 @@ fn next_item(alloc: Global, at: &mut Ahead<'_>, depth: u32) -> Result<Option<Ite
     }
 }
 
-/// Adds a node at the end.
+/// Appends a node.
 fn hold<T: Drop>(list: &mut List<T>, node: T) -> Result<(), NoMemory>
     ensures { OnOk result (list.new ≡ list.old ++ node ∷ []) }
 {

@@ -1,4 +1,4 @@
-//! The knot of expressions, blocks and items, each read over what is one level deeper.
+//! The recursion: expressions, blocks and items, within a depth limit.
 ghost use Rattle.std.specs.Prelude.{◌≡◌, ◌+◌, ◌^◌, ◌<◌, ◌≤◌, ◌||◌, IfOk};
 ghost use Rattle.lay_code.specs.nodes.Item as nodes;
 ghost use Rattle.lay_code.specs.reader.Code.{code_in, expr_at, item_at};
@@ -26,7 +26,8 @@ use lay_read_tokens::{Ahead, Found, ReadNone};
 use lay_token::{Delim, List};
 use std::alloc::Global;
 
-/// An expression at its place, within a depth. Recursion goes one level deeper alone.
+/// Parses an expression at its place, within `depth` levels. Each recursive call has one level
+/// less.
 #[cycle(code)]
 #[inline(never)]
 pub fn expr_ahead(
@@ -57,7 +58,8 @@ pub fn expr_ahead(
     Climber { rules, heads }.expr_by(at, place)
 }
 
-/// A block after an `else`, within a depth. It stands one level deeper than what is around it.
+/// Parses a block after an `else`, within `depth` levels. It counts one level more than what is
+/// around it.
 #[cycle(code)]
 #[inline(never)]
 pub fn block_ahead(alloc: Global, at: &mut Ahead<'_>, depth: u32) -> Result<Found<Block>, ReadNone>
@@ -77,7 +79,7 @@ pub fn block_ahead(alloc: Global, at: &mut Ahead<'_>, depth: u32) -> Result<Foun
     rules.deeper_block(at)
 }
 
-/// Items at their site within a depth, up to where they end.
+/// Parses items at their site, within `depth` levels, up to the `}` or the end.
 #[cycle(code)]
 #[inline(never)]
 pub fn read_items(
@@ -99,7 +101,8 @@ pub fn read_items(
     Ok(Found { node: items, need })
 }
 
-/// An item at its site within a depth, with its attributes and its visibility. A macro has none.
+/// Parses an item at its site, within `depth` levels, with its attributes and its visibility. Macro
+/// calls and definitions have no visibility.
 #[cycle(code)]
 #[inline(never)]
 pub fn item_ahead(
@@ -131,8 +134,8 @@ pub fn item_ahead(
     )
 }
 
-/// What an item is at its site: what it begins with, and then its body, if it has one. What is within it stands within
-/// the depth.
+/// Parses an item at its site without its attributes and visibility: its head, and then its body,
+/// if it has one. What it contains fits in `depth` levels.
 #[cycle(code)]
 #[inline(never)]
 fn read_kind(
@@ -172,7 +175,7 @@ fn read_kind(
     }
 }
 
-/// An item that was made, in a box.
+/// Boxes the kind of an item, if it was made.
 fn boxed_kind(
     alloc: Global,
     made: Result<Found<ItemKind>, ReadNone>,
@@ -187,8 +190,9 @@ fn boxed_kind(
     })
 }
 
-/// An item with what was read in its braces, in a box. This and the next two put it together in a call of their own, so that no room
-/// for the moves is held while the body is read.
+/// Puts an item together with the content of its braces, and boxes it. This function and the next
+/// two are functions of their own, so that the caller's frame has no room for these moves while the
+/// body is read.
 #[inline(never)]
 fn items_kind(
     alloc: Global,
@@ -208,7 +212,7 @@ fn items_kind(
     )
 }
 
-/// A function with what was read of its body, in a box.
+/// Puts a function together with its body, if it has one, and boxes it.
 #[inline(never)]
 fn block_kind(
     alloc: Global,
@@ -222,7 +226,7 @@ fn block_kind(
     boxed_kind(alloc, with_block(begun, site, body))
 }
 
-/// A constant or a static with what was read of its value, in a box.
+/// Puts a constant or a static together with its value, if it has one, and boxes it.
 #[inline(never)]
 fn value_kind(
     alloc: Global,
@@ -236,7 +240,8 @@ fn value_kind(
     boxed_kind(alloc, with_value(begun, site, value))
 }
 
-/// The body of a function, or the `;` where it has none. What is within it stands within the depth.
+/// Parses the body of a function, or the `;` where it has none. What it contains fits in `depth`
+/// levels.
 #[cycle(code)]
 #[inline(never)]
 fn read_block_if(
@@ -258,7 +263,8 @@ fn read_block_if(
     rules.fn_body(at)
 }
 
-/// The value of a constant or a static, if it has one, and the `;` after it. The value stands within the depth.
+/// Parses the value of a constant or a static, if it has one, and the `;` after it. The value fits
+/// in `depth` levels.
 #[cycle(code)]
 #[inline(never)]
 fn read_value_if(
@@ -282,7 +288,7 @@ fn read_value_if(
     kept_if(value, keeps)
 }
 
-/// Inner attributes and items at their site, in braces. The items stand within the depth.
+/// Parses inner attributes and items at their site, in braces. The items fit in `depth` levels.
 #[cycle(code)]
 #[tactic(auto, unfolding(lay_code::specs::reader::Item::item_body))]
 #[inline(never)]
@@ -317,14 +323,14 @@ fn may_have(kind: &ItemKind, vis: &Vis) -> bool
     has_head(kind) || is_inherited(vis)
 }
 
-/// Whether an item has a head: it is no macro call, and declares no macro.
+/// Whether an item has a head: it is no macro call and no macro definition.
 fn has_head(kind: &ItemKind) -> bool
     ensures { result ≡ has_head kind.now }
 {
     !matches!(kind, ItemKind::MacroRules { .. } | ItemKind::Call { .. })
 }
 
-/// Whether nothing is said of who may name an item.
+/// Whether no visibility is written.
 fn is_inherited(vis: &Vis) -> bool
     ensures { result ≡ nodes.is_inherited vis.now }
 {

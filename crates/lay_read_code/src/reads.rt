@@ -1,4 +1,4 @@
-//! What stands at the beginning of the tokens of a text.
+//! The public readers of expressions, items, blocks, statements and arms.
 ghost use Rattle.lay_node.specs.nodes.Facts.{Front};
 ghost use Rattle.lay_code.specs.nodes.Code.{about_expr, about_item};
 ghost use Rattle.lay_code.specs.nodes.Exprs.{ExprFront};
@@ -16,7 +16,8 @@ use lay_read_blocks::BlockRules;
 use lay_read_tokens::{Ahead, Found, ReadNone};
 use std::alloc::Global;
 
-/// The expression at the beginning, at its place and within the depth. Where there is none the cursor stays.
+/// Parses the next expression, at its place and within `depth` levels. On an error the cursor
+/// doesn't move.
 pub fn read_expr(
     alloc: Global,
     at: &mut Cursor<'_>,
@@ -33,7 +34,8 @@ pub fn read_expr(
     Ok(found.node.into_inner())
 }
 
-/// The item at the beginning, at its site and within the depth. Where there is none the cursor stays.
+/// Parses the next item, at its site and within `depth` levels. On an error the cursor doesn't
+/// move.
 pub fn read_item(
     alloc: Global,
     at: &mut Cursor<'_>,
@@ -49,8 +51,8 @@ pub fn read_item(
     Ok(found.node)
 }
 
-/// The block at the beginning, within the depth. What is within it stands one level deeper. Where there is none the cursor
-/// stays.
+/// Parses the next block, within `depth` levels, of which it takes one. On an error the cursor
+/// doesn't move.
 pub fn read_block(alloc: Global, at: &mut Cursor<'_>, depth: u32) -> Result<Block, ReadNone>
     requires { AreLexed at.old }
     ensures { IsReadAt depth BlockFront at.old result at.new }
@@ -61,8 +63,9 @@ pub fn read_block(alloc: Global, at: &mut Cursor<'_>, depth: u32) -> Result<Bloc
     Ok(found.node)
 }
 
-/// The statement at the beginning, within the depth. What is within it stands one level deeper. An expression without a `;` that
-/// neither is block-like nor a macro call in braces is one only where no token follows. Where there is none the cursor stays.
+/// Parses the next statement, within `depth` levels, of which it takes one. An expression without a
+/// `;` counts as a statement only if no token follows, or if it is block-like or a macro call in
+/// braces. On an error the cursor doesn't move.
 pub fn read_stmt(alloc: Global, at: &mut Cursor<'_>, depth: u32) -> Result<Stmt, ReadNone>
     requires { AreLexed at.old }
     ensures { IsReadAt depth StmtFront at.old result at.new }
@@ -73,8 +76,9 @@ pub fn read_stmt(alloc: Global, at: &mut Cursor<'_>, depth: u32) -> Result<Stmt,
     Ok(found.node)
 }
 
-/// The arm of a match at the beginning, within the depth. What is within it stands one level deeper. A comma after it is its own;
-/// it may lack that where its body lets it, and where no token follows. Where there is none the cursor stays.
+/// Parses the next arm of a match, within `depth` levels, of which it takes one. A comma that
+/// follows belongs to it; the comma may be left out if its body allows that, or if no token
+/// follows. On an error the cursor doesn't move.
 pub fn read_arm(alloc: Global, at: &mut Cursor<'_>, depth: u32) -> Result<Arm, ReadNone>
     requires { AreLexed at.old }
     ensures { IsReadAt depth ArmFront at.old result at.new }
@@ -85,7 +89,7 @@ pub fn read_arm(alloc: Global, at: &mut Cursor<'_>, depth: u32) -> Result<Arm, R
     Ok(found.node)
 }
 
-/// A statement by itself, within a depth.
+/// Parses a statement that stands alone, within `depth` levels.
 fn stmt_ahead(alloc: Global, at: &mut Ahead<'_>, depth: u32) -> Result<Found<Stmt>, ReadNone>
     ensures { IsFound (alone stmt_alone depth at.old) result at.new }
 {
@@ -102,7 +106,7 @@ fn stmt_ahead(alloc: Global, at: &mut Ahead<'_>, depth: u32) -> Result<Found<Stm
     rules.deeper_stmt(at)
 }
 
-/// An arm by itself, within a depth.
+/// Parses an arm that stands alone, within `depth` levels.
 fn arm_ahead(alloc: Global, at: &mut Ahead<'_>, depth: u32) -> Result<Found<Arm>, ReadNone>
     ensures { IsFound (alone_arm depth at.old) result at.new }
 {

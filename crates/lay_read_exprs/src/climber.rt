@@ -1,4 +1,4 @@
-//! Expressions: what begins one, and the operators after it.
+//! Parsing of expressions: an operand, and the operators after it.
 ghost use Rattle.std.specs.Prelude.{◌≡◌, ◌+◌, ◌≤◌, IfOk};
 ghost use Rattle.lay_code.specs.reader.Exprs as reader;
 ghost use Rattle.lay_read_tokens.specs.Answers.{IsFound};
@@ -12,11 +12,11 @@ use lay_read_operators::climb::{accepted, is_ended};
 use lay_read_tokens::{Ahead, Found, ReadNone};
 use std::alloc::Global;
 
-/// The rules of expressions of a level, with what reads those that begin with a block.
+/// The rules of expressions of one level, with a reader of those that begin with a block.
 #[derive(Drop)]
 pub struct Climber<P, H> {
     pub rules: ExprRules<P>,
-    /// What reads expressions that begin with blocks, and closures.
+    /// The reader of closures and of expressions that begin with a block.
     pub heads: H,
 }
 
@@ -24,7 +24,7 @@ impl<
     P: Fn(Global, &mut Ahead<'_>, Place, u32) -> Result<Found<Boxed<Expr>>, ReadNone>,
     H: BlockHeads,
 > Climber<P, H> {
-    /// An expression at a place, with what is within it one level deeper.
+    /// Parses an expression at a place. What it contains is parsed at the next deeper level.
     #[tactic(auto, unfolding(lay_code::specs::reader::Exprs::expr_by))]
     #[inline(never)]
     pub fn expr_by(&self, at: &mut Ahead<'_>, place: Place) -> Result<Found<Boxed<Expr>>, ReadNone>

@@ -1,4 +1,4 @@
-//! Expressions in delimiters.
+//! Parsing of expressions in delimiters.
 ghost use Rattle.std.specs.Prelude.{◌≡◌, ◌+◌, ◌^◌, ◌<◌, ◌≤◌, IfOk};
 ghost use Rattle.lay_code.specs.reader.Exprs as reader;
 ghost use Rattle.lay_read_tokens.specs.Answers.{IsFound};
@@ -18,7 +18,7 @@ use lay_read_tokens::{Ahead, Found, ReadNone};
 use lay_token::{Delim, List};
 use std::alloc::Global;
 
-/// How often an expression stands in an array, after the `;`.
+/// The rest of an array `[a; n]` after its `;`.
 fn repeat_by(
     alloc: Global,
     at: &mut Ahead<'_>,
@@ -46,7 +46,7 @@ impl<P: Fn(Global, &mut Ahead<'_>, Place, u32) -> Result<Found<Boxed<Expr>>, Rea
     P,
     H,
 > {
-    /// What follows a `(`.
+    /// Parses an expression after its `(`.
     #[tactic(auto, unfolding(lay_code::specs::reader::Exprs::paren_expr))]
     #[inline(never)]
     pub fn paren_expr(&self, at: &mut Ahead<'_>) -> Result<Found<Boxed<Expr>>, ReadNone>
@@ -69,7 +69,7 @@ impl<P: Fn(Global, &mut Ahead<'_>, Place, u32) -> Result<Found<Boxed<Expr>>, Rea
         self.paren_by(at, first)
     }
 
-    /// What follows a `(` and an expression.
+    /// Parses an expression after its `(` and the first expression in it.
     #[inline(never)]
     fn paren_by(
         &self,
@@ -102,7 +102,7 @@ impl<P: Fn(Global, &mut Ahead<'_>, Place, u32) -> Result<Found<Boxed<Expr>>, Rea
         )
     }
 
-    /// What follows a `[`.
+    /// Parses an array after its `[`.
     #[tactic(auto, unfolding(lay_code::specs::reader::Exprs::bracket_expr))]
     #[inline(never)]
     pub fn bracket_expr(&self, at: &mut Ahead<'_>) -> Result<Found<Boxed<Expr>>, ReadNone>
@@ -129,7 +129,7 @@ impl<P: Fn(Global, &mut Ahead<'_>, Place, u32) -> Result<Found<Boxed<Expr>>, Rea
         }
     }
 
-    /// What follows a `[` and an expression, where it is no `;`.
+    /// Parses an array after its `[` and the first element, if no `;` follows.
     #[inline(never)]
     fn array_by(
         &self,

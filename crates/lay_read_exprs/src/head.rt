@@ -1,4 +1,4 @@
-//! What begins an expression.
+//! Parsing of operands, by their first token.
 ghost use Rattle.std.specs.Prelude.{◌≡◌, ◌+◌, ◌≤◌, Some, IfOk};
 ghost use Rattle.lay_code.specs.Operands.{expr_lead_at};
 ghost use Rattle.lay_code.specs.reader.Exprs as reader;
@@ -20,7 +20,7 @@ use lay_read_tokens::front::pass;
 use lay_read_tokens::{Ahead, Found, ReadNone};
 use std::alloc::Global;
 
-/// A literal.
+/// Parses a literal.
 #[tactic(auto, using(lay_read_parts::proofs::Steps::literal_is))]
 fn literal_expr(alloc: Global, at: &mut Ahead<'_>) -> Result<Found<Boxed<Expr>>, ReadNone>
     ensures read { IsFound (reader.literal_expr at.old) result at.new }
@@ -35,7 +35,8 @@ impl<
     P: Fn(Global, &mut Ahead<'_>, Place, u32) -> Result<Found<Boxed<Expr>>, ReadNone>,
     H: BlockHeads,
 > Climber<P, H> {
-    /// What begins an expression, without the operators after it, unless it is deeper than may be.
+    /// Parses an operand with its prefix operators, without any operators after it, unless it is
+    /// nested too deep.
     #[inline(never)]
     pub fn head(&self, at: &mut Ahead<'_>, no_struct: bool) -> Result<Found<Boxed<Expr>>, ReadNone>
         requires deeper { AreExprs self.now.rules.depth (P.pre self.now.rules.exprs)
@@ -53,7 +54,7 @@ impl<
         }
     }
 
-    /// The same, told from what the first token begins.
+    /// Parses an operand by its first token.
     #[inline(never)]
     fn head_by(
         &self,

@@ -1,4 +1,4 @@
-//! What follows `continue`, `break` and `return`.
+//! Parsing of `continue`, `break` and `return`.
 ghost use Rattle.std.specs.Prelude.{◌≡◌, ◌+◌, ◌≤◌, IfOk};
 ghost use Rattle.lay_code.specs.reader.Exprs as reader;
 ghost use Rattle.lay_read_tokens.specs.Answers.{IsFound};
@@ -13,7 +13,7 @@ use lay_read_shared::boxes::boxed_found;
 use lay_read_tokens::{Ahead, Found, ReadNone};
 use std::alloc::Global;
 
-/// What follows `continue`.
+/// Parses a `continue` after that word.
 #[tactic(auto, unfolding(lay_code::specs::reader::Exprs::continue_expr))]
 pub fn continue_expr(alloc: Global, at: &mut Ahead<'_>) -> Result<Found<Boxed<Expr>>, ReadNone>
     ensures read { IsFound (reader.continue_expr at.old) result at.new }
@@ -27,7 +27,7 @@ impl<P: Fn(Global, &mut Ahead<'_>, Place, u32) -> Result<Found<Boxed<Expr>>, Rea
     P,
     H,
 > {
-    /// What follows `return`.
+    /// Parses a `return` after that word.
     #[tactic(auto, unfolding(lay_code::specs::reader::Exprs::return_expr))]
     #[inline(never)]
     pub fn return_expr(
@@ -51,7 +51,7 @@ impl<P: Fn(Global, &mut Ahead<'_>, Place, u32) -> Result<Found<Boxed<Expr>>, Rea
         )
     }
 
-    /// What follows `break`.
+    /// Parses a `break` after that word.
     #[tactic(auto, unfolding(lay_code::specs::reader::Exprs::break_expr))]
     #[inline(never)]
     pub fn break_expr(

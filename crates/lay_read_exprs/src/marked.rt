@@ -1,4 +1,4 @@
-//! What begins an expression with a token of its own.
+//! Parsing of operands that begin with a token of their own.
 ghost use Rattle.std.specs.Prelude.{◌+◌, ◌≤◌, IfOk};
 ghost use Rattle.lay_read_tokens.specs.Answers.{IsFound};
 ghost use Rattle.lay_read_shared.specs.Code.{code_within};
@@ -17,7 +17,7 @@ impl<P: Fn(Global, &mut Ahead<'_>, Place, u32) -> Result<Found<Boxed<Expr>>, Rea
     P,
     H,
 > {
-    /// What begins an expression, after its first token.
+    /// Parses an operand after its first token.
     #[inline(never)]
     pub fn marked(
         &self,

@@ -1,4 +1,4 @@
-//! What begins with a path.
+//! Parsing of operands that begin with a path.
 ghost use Rattle.std.specs.Prelude.{◌≡◌, ◌+◌, ◌≤◌, IfOk};
 ghost use Rattle.lay_code.specs.reader.Exprs as reader;
 ghost use Rattle.lay_read_tokens.specs.Answers.{IsFound};
@@ -18,7 +18,7 @@ use lay_read_types::types::begins_call;
 use lay_token::Delim;
 use std::alloc::Global;
 
-/// A macro call that is an expression.
+/// Parses a macro call that is an expression.
 fn call_expr(alloc: Global, at: &mut Ahead<'_>) -> Result<Found<Boxed<Expr>>, ReadNone>
     ensures read { IsFound (reader.call_expr at.old) result at.new }
     ensures within { IfOk result (λ found. found.need ≡ 1) }
@@ -31,7 +31,7 @@ impl<P: Fn(Global, &mut Ahead<'_>, Place, u32) -> Result<Found<Boxed<Expr>>, Rea
     P,
     H,
 > {
-    /// A macro call, or what begins with a path.
+    /// Parses a macro call, or an operand that begins with a path.
     #[inline(never)]
     pub fn path_or_call(
         &self,
@@ -51,7 +51,7 @@ impl<P: Fn(Global, &mut Ahead<'_>, Place, u32) -> Result<Found<Boxed<Expr>>, Rea
         }
     }
 
-    /// A path, and what follows it.
+    /// Parses a path or a struct literal.
     #[tactic(auto, unfolding(lay_code::specs::reader::Exprs::path_expr))]
     #[inline(never)]
     fn path_expr(&self, at: &mut Ahead<'_>, no_struct: bool) -> Result<Found<Boxed<Expr>>, ReadNone>

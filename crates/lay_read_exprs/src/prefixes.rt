@@ -1,4 +1,4 @@
-//! Operators before an operand.
+//! Parsing of prefix operators.
 ghost use Rattle.std.specs.Prelude.{◌≡◌, ◌+◌, ◌≤◌, is_some, IfOk};
 ghost use Rattle.lay_node.specs.reader.Loops.{repeat};
 ghost use Rattle.lay_code.specs.Operators as operators;
@@ -20,7 +20,7 @@ use lay_read_tokens::{Ahead, Found, ReadNone};
 use lay_token::List;
 use std::alloc::Global;
 
-/// Operators before an operand, as long as one comes next.
+/// Parses prefix operators, as long as one comes next.
 fn read_prefixes(alloc: Global, at: &mut Ahead<'_>) -> Result<List<Prefix>, ReadNone>
     ensures { IsGot (repeat (λ us. is_some (operators.prefix us)) reader.one_prefix at.old) result
         at.new }
@@ -37,7 +37,7 @@ impl<P: Fn(Global, &mut Ahead<'_>, Place, u32) -> Result<Found<Boxed<Expr>>, Rea
     P,
     H,
 > {
-    /// Operators, and the operand after them.
+    /// Parses prefix operators and their operand.
     #[tactic(auto, unfolding(lay_code::specs::reader::Exprs::unary_expr))]
     #[inline(never)]
     pub fn unary_expr(

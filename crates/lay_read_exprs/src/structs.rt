@@ -1,4 +1,4 @@
-//! Struct literals.
+//! Parsing of struct literals.
 ghost use Rattle.std.specs.Prelude.{◌≡◌, ◌+◌, ◌≤◌, None, IfOk};
 ghost use Rattle.lay_code.specs.reader.Exprs as reader;
 ghost use Rattle.lay_read_tokens.specs.Answers.{IsFound};
@@ -21,7 +21,7 @@ use lay_read_tokens::{Ahead, Found, ReadNone};
 use lay_token::{Delim, List, Text};
 use std::alloc::Global;
 
-/// Fields, as elements of a struct literal.
+/// Fields as the elements of a struct literal.
 pub struct Fields;
 
 impl Part<FieldExpr, ()> for Fields {
@@ -32,7 +32,7 @@ impl<P: Fn(Global, &mut Ahead<'_>, Place, u32) -> Result<Found<Boxed<Expr>>, Rea
     P,
     H,
 > {
-    /// Fields in braces, after a path and the `{`.
+    /// Parses fields in braces, after a path and the `{`.
     #[tactic(auto, unfolding(lay_code::specs::reader::Exprs::struct_expr), using(lay_read_shared::proofs::Left::field_leaves))]
     #[inline(never)]
     pub fn struct_expr(
@@ -62,7 +62,8 @@ impl<P: Fn(Global, &mut Ahead<'_>, Place, u32) -> Result<Found<Boxed<Expr>>, Rea
         self.struct_by(at, path, found)
     }
 
-    /// What follows the fields, of which it is known whether they ended.
+    /// Parses the rest of a struct literal after its fields. The flag that stands with the fields
+    /// says that they ended.
     #[inline(never)]
     fn struct_by(
         &self,
@@ -95,7 +96,7 @@ impl<P: Fn(Global, &mut Ahead<'_>, Place, u32) -> Result<Found<Boxed<Expr>>, Rea
         )
     }
 
-    /// A base, if the fields ended and a `..` stands after them.
+    /// Parses the base of a struct literal, if its fields ended and a `..` follows.
     #[tactic(auto, unfolding(lay_code::specs::reader::Exprs::base))]
     #[inline(never)]
     fn base(
@@ -129,7 +130,7 @@ impl<P: Fn(Global, &mut Ahead<'_>, Place, u32) -> Result<Found<Boxed<Expr>>, Rea
         })
     }
 
-    /// A field, with its attributes.
+    /// Parses a field, with its attributes.
     #[tactic(auto, unfolding(lay_code::specs::reader::Exprs::one_field))]
     #[inline(never)]
     fn one_field(&self, at: &mut Ahead<'_>, _place: ()) -> Result<Found<FieldExpr>, ReadNone>
@@ -147,7 +148,7 @@ impl<P: Fn(Global, &mut Ahead<'_>, Place, u32) -> Result<Found<Boxed<Expr>>, Rea
         }
     }
 
-    /// A field after its number and the `:`.
+    /// Parses the value of a field after its tuple index and the `:`.
     #[inline(never)]
     fn numbered_field(
         &self,
@@ -172,7 +173,7 @@ impl<P: Fn(Global, &mut Ahead<'_>, Place, u32) -> Result<Found<Boxed<Expr>>, Rea
         })
     }
 
-    /// A field that is called by its name, after its attributes.
+    /// Parses a field with a name; its attributes were read.
     #[inline(never)]
     fn worded_field(
         &self,
@@ -189,7 +190,7 @@ impl<P: Fn(Global, &mut Ahead<'_>, Place, u32) -> Result<Found<Boxed<Expr>>, Rea
         self.named_field(at, attrs, name)
     }
 
-    /// A field after its name.
+    /// Parses a field after its name.
     #[inline(never)]
     fn named_field(
         &self,

@@ -1,4 +1,4 @@
-//! Generic parameters.
+//! Parsing of generic parameters.
 ghost use Rattle.std.specs.Prelude.{◌≡◌, ◌≤◌, codes, drop, IfOk};
 ghost use Rattle.lay_token.specs.Operators.{is_op};
 ghost use Rattle.lay_node.specs.Ahead.{is_mark};
@@ -24,7 +24,7 @@ use lay_read_types::{bounds_ahead, type_ahead};
 use lay_token::List;
 use std::alloc::Global;
 
-/// Generic parameters, as parts of a list.
+/// Generic parameters as the elements of a list.
 pub struct Params;
 
 impl Part<GenericParam, ()> for Params {
@@ -32,7 +32,7 @@ impl Part<GenericParam, ()> for Params {
 }
 
 impl Level {
-    /// Bounds after a `:`, none where none begins.
+    /// Parses the bounds after a `:`, which may be none.
     pub fn met(&self, at: &mut Ahead<'_>) -> Result<Found<List<Bound>>, ReadNone>
         ensures read { IsFound (reader.met (within self.now.depth) at.old) result at.new }
         ensures within { IfOk result (λ found. found.need ≤ self.now.depth) }
@@ -47,7 +47,7 @@ impl Level {
         }
     }
 
-    /// What a parameter meets, if anything is said of it.
+    /// Parses a `:` and the bounds of a parameter, if there are any.
     fn met_if(&self, at: &mut Ahead<'_>) -> Result<Found<List<Bound>>, ReadNone>
         ensures read { IsFound (reader.met_if (within self.now.depth) at.old) result at.new }
         ensures within { IfOk result (λ found. found.need ≤ self.now.depth) }
@@ -62,7 +62,7 @@ impl Level {
         }
     }
 
-    /// What a parameter that is a type is by default, if anything is said of it.
+    /// Parses the default of a type parameter (`= T`), if it has one.
     fn default_type(&self, at: &mut Ahead<'_>) -> Result<Found<Option<Ty>>, ReadNone>
         ensures read { IsFound (if_read (is_op (codes "=") at.old)
             (λ ts. (within self.now.depth).types Bounds (drop 1 ts)) at.old) result at.new }
@@ -81,7 +81,7 @@ impl Level {
         })
     }
 
-    /// A parameter that is a type, after its attributes.
+    /// Parses a type parameter; its attributes were read.
     #[tactic(auto, unfolding(lay_node::specs::reader::Generics::type_param))]
     fn type_param(
         &self,
@@ -107,7 +107,7 @@ impl Level {
         })
     }
 
-    /// A parameter that is a constant, after its keyword.
+    /// Parses a const parameter after its keyword.
     #[tactic(auto, unfolding(lay_node::specs::reader::Generics::const_param))]
     fn const_param(
         &self,
@@ -137,7 +137,7 @@ impl Level {
         })
     }
 
-    /// A generic parameter.
+    /// Parses a generic parameter.
     #[tactic(auto, unfolding(lay_node::specs::reader::Generics::one_param))]
     fn param(&self, at: &mut Ahead<'_>, _place: ()) -> Result<Found<GenericParam>, ReadNone>
         ensures read { IsFound (reader.one_param (within self.now.depth) at.old) result at.new }
@@ -158,7 +158,7 @@ impl Level {
         }
     }
 
-    /// Generic parameters after a `<`, and the `>` after them.
+    /// Parses generic parameters after the `<`, and the `>`.
     #[tactic(auto, using(crate::proofs::Left::one_param_leaves))]
     fn params(&self, at: &mut Ahead<'_>) -> Result<Found<List<GenericParam>>, ReadNone>
         ensures read { IsFound (gathered (elements (is_mark (codes ">"))
@@ -176,7 +176,7 @@ impl Level {
         )
     }
 
-    /// Generic parameters, and whether `<` and `>` are spelled.
+    /// Parses generic parameters. The flag says that there were `<` and `>`.
     #[tactic(auto, unfolding(lay_node::specs::reader::Generics::generics))]
     pub fn generics(&self, at: &mut Ahead<'_>) -> Result<Found<(Generics, bool)>, ReadNone>
         ensures read { IsFound (reader.generics (within self.now.depth) at.old) result at.new }
@@ -202,7 +202,7 @@ impl Level {
     }
 }
 
-/// What a parameter that is a constant is by default, if anything is said of it.
+/// Parses the default of a const parameter, if it has one.
 fn read_const_default_if(
     alloc: Global,
     at: &mut Ahead<'_>,

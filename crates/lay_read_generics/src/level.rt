@@ -1,4 +1,4 @@
-//! What is read within a depth.
+//! The readers of generic parameters and where clauses at a depth limit.
 ghost use Rattle.std.specs.Prelude.{◌≤◌, IfOk};
 ghost use Rattle.lay_node.specs.reader.Generics.{generics};
 ghost use Rattle.lay_node.specs.reader.Types.{within};
@@ -9,14 +9,15 @@ use lay_node::{Generics, Wheres};
 use lay_read_tokens::{Ahead, Found, ReadNone};
 use std::alloc::Global;
 
-/// A depth, within which parameters and predicates are read.
+/// The depth limit of what parameters and predicates contain.
 #[derive(Drop)]
 pub struct Level {
     pub alloc: Global,
     pub depth: u32,
 }
 
-/// Generic parameters, with what is within them within the depth, and whether `<` and `>` are spelled.
+/// Parses generic parameters. What they contain fits in `depth` levels. The flag says that there
+/// were `<` and `>`.
 pub fn generics_ahead(
     alloc: Global,
     at: &mut Ahead<'_>,
@@ -29,7 +30,8 @@ pub fn generics_ahead(
     level.generics(at)
 }
 
-/// A where clause, with what is within it within the depth, and whether its last part is spelled.
+/// Parses a where clause, with everything in it within `depth` levels. The flag says that its last
+/// predicate has a comma, or that it is a `where` without predicates.
 pub fn wheres_ahead(
     alloc: Global,
     at: &mut Ahead<'_>,

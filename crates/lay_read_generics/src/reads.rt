@@ -1,4 +1,4 @@
-//! What stands at the beginning of the tokens of a text.
+//! The public readers of generic parameters and where clauses.
 ghost use Rattle.lay_node.specs.nodes.Generics.{GenericsFront};
 ghost use Rattle.lay_node.specs.nodes.Where.{WheresFront};
 ghost use Rattle.lay_read_tokens.specs.Answers.{AreLexed};
@@ -10,8 +10,8 @@ use lay_node::{Generics, Wheres};
 use lay_read_tokens::{Ahead, ReadNone};
 use std::alloc::Global;
 
-/// The generic parameters at the beginning, within the depth. What is within stands one level deeper. Where there is
-/// none the cursor stays.
+/// Parses the next generic parameters, which may be none, within `depth` levels, of which they take
+/// one. On an error the cursor doesn't move.
 pub fn read_generics(alloc: Global, at: &mut Cursor<'_>, depth: u32) -> Result<Generics, ReadNone>
     requires { AreLexed at.old }
     ensures { IsReadAt depth GenericsFront at.old result at.new }
@@ -25,8 +25,8 @@ pub fn read_generics(alloc: Global, at: &mut Cursor<'_>, depth: u32) -> Result<G
     Ok(found.node.0)
 }
 
-/// The where clause at the beginning, within the depth. What is within stands one level deeper. Where there is none the
-/// cursor stays.
+/// Parses the next where clause, which may be none, within `depth` levels, of which it takes one.
+/// On an error the cursor doesn't move.
 pub fn read_wheres(alloc: Global, at: &mut Cursor<'_>, depth: u32) -> Result<Wheres, ReadNone>
     requires { AreLexed at.old }
     ensures { IsReadAt depth WheresFront at.old result at.new }

@@ -1,4 +1,4 @@
-//! Where clauses.
+//! Parsing of where clauses.
 ghost use Rattle.std.specs.Prelude.{◌≤◌, IfOk};
 ghost use Rattle.lay_node.specs.Begins.{begins_predicate};
 ghost use Rattle.lay_node.specs.reader.Loops.{open_elements};
@@ -20,7 +20,7 @@ use lay_read_types::type_ahead;
 use lay_token::List;
 use std::alloc::Global;
 
-/// Predicates, as parts of a where clause.
+/// Predicates as the elements of a where clause.
 pub struct Predicates;
 
 impl Part<Predicate, ()> for Predicates {
@@ -28,7 +28,7 @@ impl Part<Predicate, ()> for Predicates {
 }
 
 impl Level {
-    /// What is said of a type.
+    /// Parses a predicate of a type.
     #[tactic(auto, unfolding(lay_node::specs::reader::Where::type_predicate))]
     fn type_predicate(&self, at: &mut Ahead<'_>) -> Result<Found<Predicate>, ReadNone>
         ensures read { IsFound (reader.type_predicate (within self.now.depth) at.old) result
@@ -51,7 +51,7 @@ impl Level {
         })
     }
 
-    /// A predicate.
+    /// Parses a predicate.
     #[tactic(auto, unfolding(lay_node::specs::reader::Where::lifetime_predicate))]
     fn predicate(&self, at: &mut Ahead<'_>, _place: ()) -> Result<Found<Predicate>, ReadNone>
         ensures read { IsFound (reader.one_predicate (within self.now.depth) at.old) result at.new }
@@ -71,7 +71,7 @@ impl Level {
         })
     }
 
-    /// Predicates as long as one begins.
+    /// Parses predicates as long as one begins.
     #[tactic(auto, using(crate::proofs::Left::predicate_leaves))]
     fn predicates(&self, at: &mut Ahead<'_>) -> Result<Found<(List<Predicate>, bool)>, ReadNone>
         ensures read { IsFound (gathered_open

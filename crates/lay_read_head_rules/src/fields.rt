@@ -1,4 +1,4 @@
-//! Fields, and the variants of enumerations.
+//! Parsing of fields, and of the variants of enumerations.
 ghost use Rattle.std.specs.Prelude.{◌≤◌, drop, codes, IfOk};
 ghost use Rattle.lay_token.specs.Operators.{is_op};
 ghost use Rattle.lay_piece.specs.declared.kind.Delim.TheVariants.{Brace, Paren};
@@ -23,14 +23,14 @@ use lay_read_types::type_ahead;
 use lay_token::{Delim, List};
 use std::alloc::Global;
 
-/// Fields without names, as elements of a list.
+/// Fields without names as the elements of a list.
 struct TupleFields;
 
 impl Part<TupleField, ()> for TupleFields {
     ghost reads = { λ depth place ts. reader.tuple_field (within depth) ts };
 }
 
-/// A field without a name.
+/// Parses a field without a name.
 #[tactic(auto, unfolding(lay_node::specs::reader::Fields::tuple_field))]
 fn tuple_field(level: &Level, at: &mut Ahead<'_>, _place: ()) -> Result<Found<TupleField>, ReadNone>
     ensures read { IsFound (reader.tuple_field (within level.now.depth) at.old) result at.new }
@@ -49,7 +49,7 @@ fn tuple_field(level: &Level, at: &mut Ahead<'_>, _place: ()) -> Result<Found<Tu
     })
 }
 
-/// Fields without names, after a `(`, and the `)` after them.
+/// Parses fields without names, after a `(`, and the `)` after them.
 #[tactic(auto, using(lay_read_shared::proofs::HeadPartsLeft::tuple_field_leaves))]
 fn tuple_field_list(
     alloc: Global,
@@ -72,7 +72,7 @@ fn tuple_field_list(
     )
 }
 
-/// Fields without names in parentheses.
+/// Parses fields without names in parentheses.
 #[tactic(auto, unfolding(lay_node::specs::reader::Fields::tuple_fields))]
 pub(crate) fn tuple_fields_ahead(
     alloc: Global,
@@ -89,14 +89,14 @@ pub(crate) fn tuple_fields_ahead(
     }
 }
 
-/// Fields with names, as elements of a list.
+/// Fields with names as the elements of a list.
 struct NamedFields;
 
 impl Part<Field, ()> for NamedFields {
     ghost reads = { λ depth place ts. reader.field (within depth) ts };
 }
 
-/// A field with a name.
+/// Parses a field with a name.
 #[tactic(auto, unfolding(lay_node::specs::reader::Fields::field))]
 fn field(level: &Level, at: &mut Ahead<'_>, _place: ()) -> Result<Found<Field>, ReadNone>
     ensures read { IsFound (reader.field (within level.now.depth) at.old) result at.new }
@@ -120,7 +120,7 @@ fn field(level: &Level, at: &mut Ahead<'_>, _place: ()) -> Result<Found<Field>, 
     })
 }
 
-/// Fields with names, after a `{`, and the `}` after them.
+/// Parses fields with names, after a `{`, and the `}` after them.
 #[tactic(auto, using(lay_read_shared::proofs::HeadPartsLeft::field_leaves))]
 fn named_field_list(
     alloc: Global,
@@ -143,7 +143,7 @@ fn named_field_list(
     )
 }
 
-/// Fields with names in braces.
+/// Parses fields with names in braces.
 #[tactic(auto, unfolding(lay_node::specs::reader::Fields::named_fields))]
 pub(crate) fn named_fields_ahead(
     alloc: Global,
@@ -160,7 +160,7 @@ pub(crate) fn named_fields_ahead(
     }
 }
 
-/// The fields of a variant, if it has any.
+/// Parses the fields of a variant, if it has any.
 #[tactic(auto, unfolding(lay_node::specs::reader::Fields::variant_fields))]
 fn variant_fields(alloc: Global, at: &mut Ahead<'_>, depth: u32) -> Result<Found<Fields>, ReadNone>
     ensures read { IsFound (reader.variant_fields (within depth) at.old) result at.new }
@@ -190,7 +190,7 @@ fn variant_fields(alloc: Global, at: &mut Ahead<'_>, depth: u32) -> Result<Found
     }
 }
 
-/// The discriminant of a variant, if it has one.
+/// Parses the discriminant of a variant, if it has one.
 #[tactic(auto, unfolding(lay_node::specs::reader::Fields::discriminant))]
 fn read_discriminant_if(alloc: Global, at: &mut Ahead<'_>) -> Result<Option<Tokens>, ReadNone>
     ensures { IsGot (if_there (is_op (codes "=") at.old) (λ ts. reader.discriminant (drop 1 ts))
@@ -206,14 +206,14 @@ fn read_discriminant_if(alloc: Global, at: &mut Ahead<'_>) -> Result<Option<Toke
     Ok(Some(tokens))
 }
 
-/// Variants, as elements of a list.
+/// Variants as the elements of a list.
 struct Variants;
 
 impl Part<Variant, ()> for Variants {
     ghost reads = { λ depth place ts. reader.variant (within depth) ts };
 }
 
-/// A variant.
+/// Parses a variant.
 #[tactic(auto, unfolding(lay_node::specs::reader::Fields::variant))]
 fn variant(level: &Level, at: &mut Ahead<'_>, _place: ()) -> Result<Found<Variant>, ReadNone>
     ensures read { IsFound (reader.variant (within level.now.depth) at.old) result at.new }
@@ -236,7 +236,7 @@ fn variant(level: &Level, at: &mut Ahead<'_>, _place: ()) -> Result<Found<Varian
     })
 }
 
-/// Variants, after a `{`, and the `}` after them.
+/// Parses variants after the `{`, and the `}`.
 #[tactic(auto, using(lay_read_shared::proofs::HeadPartsLeft::variant_leaves))]
 fn variant_list(
     alloc: Global,
@@ -259,7 +259,7 @@ fn variant_list(
     )
 }
 
-/// Variants in braces.
+/// Parses variants in braces.
 #[tactic(auto, unfolding(lay_node::specs::reader::Fields::variants))]
 pub(crate) fn variants_ahead(
     alloc: Global,

@@ -1,4 +1,4 @@
-//! The heads of functions.
+//! Parsing of the heads of functions.
 ghost use Rattle.std.specs.Prelude.{◌≡◌, ◌≤◌, if◌then◌else◌, drop, codes, IfOk};
 ghost use Rattle.lay_token.specs.Operators.{is_op};
 ghost use Rattle.lay_node.specs.nodes.Functions as nodes;
@@ -31,14 +31,14 @@ use lay_read_types::type_ahead;
 use lay_token::{Delim, List};
 use std::alloc::Global;
 
-/// Whether a parameter ends at the beginning.
+/// Whether the next token ends a parameter.
 fn ends_param(at: &Ahead<'_>) -> bool
     ensures { result ≡ reader.ends_param at.now }
 {
     is_at_mark(at, b",") || is_at_closer(at, Delim::Paren)
 }
 
-/// Passes a lifetime, if one comes next.
+/// Moves past a lifetime if one comes next.
 fn pass_lifetime(at: &mut Ahead<'_>)
     ensures { at.new ≡ reader.behind_lifetime at.old }
 {
@@ -47,7 +47,7 @@ fn pass_lifetime(at: &mut Ahead<'_>)
     }
 }
 
-/// Whether `self` comes next as a receiver after a `&` does.
+/// Whether `self` comes next, and ends a receiver that began with a `&`.
 fn is_self_by_ref(at: &Ahead<'_>) -> bool
     ensures { result ≡ reader.is_self_by_ref at.now }
 {
@@ -55,7 +55,7 @@ fn is_self_by_ref(at: &Ahead<'_>) -> bool
     takes_keyword(&mut behind, b"self") && ends_param(&behind)
 }
 
-/// Whether `self` comes next as a receiver by itself does.
+/// Whether `self` comes next as a receiver without a `&`.
 fn is_self_by_itself(at: &Ahead<'_>) -> bool
     ensures { result ≡ reader.is_self_by_itself at.now }
 {
@@ -85,7 +85,7 @@ fn begins_own_self(at: &Ahead<'_>) -> bool
     is_self_by_itself(&behind)
 }
 
-/// A receiver, after its `&`.
+/// Parses a receiver, after its `&`.
 #[tactic(auto, unfolding(lay_node::specs::reader::Functions::ref_self))]
 fn ref_self(alloc: Global, at: &mut Ahead<'_>) -> Result<ParamKind, ReadNone>
     ensures { IsGot (reader.ref_self at.old) result at.new }
@@ -96,7 +96,7 @@ fn ref_self(alloc: Global, at: &mut Ahead<'_>) -> Result<ParamKind, ReadNone>
     Ok(ParamKind::RefSelf { lifetime, mutable })
 }
 
-/// A receiver without a `&`.
+/// Parses a receiver without a `&`.
 #[tactic(auto, unfolding(lay_node::specs::reader::Functions::own_self))]
 fn own_self(alloc: Global, at: &mut Ahead<'_>, depth: u32) -> Result<Found<ParamKind>, ReadNone>
     ensures read { IsFound (reader.own_self (within depth) at.old) result at.new }
@@ -114,7 +114,7 @@ fn own_self(alloc: Global, at: &mut Ahead<'_>, depth: u32) -> Result<Found<Param
     })
 }
 
-/// Passes `...`, if it comes next.
+/// Moves past `...` if it comes next, and says whether it did.
 fn takes_dots(at: &mut Ahead<'_>) -> bool
     ensures found { result ≡ is_op (codes "...") at.old }
     ensures passed { at.new ≡ (if result then drop 3 at.old else at.old) }
@@ -127,7 +127,7 @@ fn takes_dots(at: &mut Ahead<'_>) -> bool
     found
 }
 
-/// What follows a pattern and its `:`.
+/// Parses what follows a pattern and its `:`.
 fn typed_by(
     alloc: Global,
     at: &mut Ahead<'_>,
@@ -155,7 +155,7 @@ fn typed_by(
     })
 }
 
-/// A parameter with a pattern.
+/// Parses a parameter with a pattern.
 #[tactic(auto, unfolding(lay_node::specs::reader::Functions::typed))]
 fn typed(alloc: Global, at: &mut Ahead<'_>, depth: u32) -> Result<Found<ParamKind>, ReadNone>
     ensures read { IsFound (reader.typed (insides depth) at.old) result at.new }
@@ -167,7 +167,7 @@ fn typed(alloc: Global, at: &mut Ahead<'_>, depth: u32) -> Result<Found<ParamKin
     typed_by(alloc, at, pat, depth)
 }
 
-/// What a parameter is, after its attributes.
+/// Parses a parameter; its attributes were read.
 #[tactic(auto, unfolding(lay_node::specs::reader::Functions::param_kind))]
 fn param_kind(alloc: Global, at: &mut Ahead<'_>, depth: u32) -> Result<Found<ParamKind>, ReadNone>
     ensures read { IsFound (reader.param_kind (insides depth) at.old) result at.new }
@@ -189,14 +189,14 @@ fn param_kind(alloc: Global, at: &mut Ahead<'_>, depth: u32) -> Result<Found<Par
     }
 }
 
-/// Parameters, as parts of a list.
+/// Parameters as the elements of a list.
 struct Params;
 
 impl Part<Param, ()> for Params {
     ghost reads = { λ depth place ts. reader.fn_param (insides depth) ts };
 }
 
-/// A parameter.
+/// Parses a parameter.
 #[tactic(auto, unfolding(lay_node::specs::reader::Functions::fn_param))]
 fn fn_param(level: &Level, at: &mut Ahead<'_>, _place: ()) -> Result<Found<Param>, ReadNone>
     ensures read { IsFound (reader.fn_param (insides level.now.depth) at.old) result at.new }
@@ -213,7 +213,8 @@ fn fn_param(level: &Level, at: &mut Ahead<'_>, _place: ()) -> Result<Found<Param
     })
 }
 
-/// Parameters as long as one begins, and whether a comma stands after the last of them, or there is none.
+/// Parses parameters as long as one begins. The flag says that a comma follows the last one, or
+/// that there is none.
 #[tactic(auto, using(lay_read_shared::proofs::HeadPartsLeft::fn_param_leaves))]
 fn open_params(
     alloc: Global,
@@ -243,7 +244,7 @@ fn is_receiver(kind: &ParamKind) -> bool
     matches!(kind, ParamKind::RefSelf { .. } | ParamKind::OwnSelf { .. })
 }
 
-/// Whether the parameter takes further arguments.
+/// Whether the parameter is a `...`.
 fn is_variadic(kind: &ParamKind) -> bool
     ensures { result ≡ nodes.is_variadic kind.now }
 {
@@ -264,7 +265,7 @@ fn none_receives(params: &[Param]) -> bool
     true
 }
 
-/// Whether a receiver stands first alone.
+/// Whether no parameter but the first is a receiver.
 fn receives_first(params: &[Param]) -> bool
     ensures { result ≡ nodes.receives_first params.now }
 {
@@ -274,7 +275,7 @@ fn receives_first(params: &[Param]) -> bool
     }
 }
 
-/// Whether the last parameter takes further arguments.
+/// Whether the last parameter is a `...`.
 fn ends_variadic(params: &[Param]) -> bool
     ensures { result ≡ nodes.ends_variadic params.now }
 {
@@ -288,7 +289,7 @@ fn ends_variadic(params: &[Param]) -> bool
     false
 }
 
-/// Whether none but the last parameter takes further arguments.
+/// Whether no parameter but the last is a `...`.
 fn varies_last(params: &[Param]) -> bool
     ensures { result ≡ nodes.varies_last params.now }
 {
@@ -302,14 +303,14 @@ fn varies_last(params: &[Param]) -> bool
     true
 }
 
-/// Whether parameters stand in order, and no comma after one that takes further arguments.
+/// Whether receivers stand only first and `...` only last, with no comma after it.
 fn are_in_order(params: &[Param], comma: bool) -> bool
     ensures { result ≡ reader.are_in_order params.now comma }
 {
     receives_first(params) && varies_last(params) && !(ends_variadic(params) && comma)
 }
 
-/// Parameters, if they stand in order, and the `)` after them.
+/// The parameters that were read, if they are in order, and the `)` after them.
 fn closed_params(
     at: &mut Ahead<'_>,
     found: Found<(List<Param>, bool)>,
@@ -323,7 +324,7 @@ fn closed_params(
     kept_if(Found { node: params, need }, keeps)
 }
 
-/// The parameters of a function.
+/// Parses the parameters of a function.
 #[tactic(auto, using(crate::proofs::Steps::fn_params_is))]
 fn fn_params(alloc: Global, at: &mut Ahead<'_>, depth: u32) -> Result<Found<List<Param>>, ReadNone>
     ensures read { IsFound (reader.fn_params (insides depth) at.old) result at.new }
@@ -336,7 +337,7 @@ fn fn_params(alloc: Global, at: &mut Ahead<'_>, depth: u32) -> Result<Found<List
     closed_params(at, found)
 }
 
-/// A return type, if one stands there.
+/// Parses a return type, if one comes next.
 fn head_output(alloc: Global, at: &mut Ahead<'_>, depth: u32) -> Result<Found<Option<Ty>>, ReadNone>
     ensures read { IsFound (reader.head_output (within depth) at.old) result at.new }
     ensures within { IfOk result (λ found. found.need ≤ depth) }
@@ -355,7 +356,7 @@ fn head_output(alloc: Global, at: &mut Ahead<'_>, depth: u32) -> Result<Found<Op
     })
 }
 
-/// What a function says of its safety.
+/// Moves past `unsafe` or `safe` if one comes next, and gives it.
 fn take_safety(at: &mut Ahead<'_>) -> Option<Safety>
     ensures { reader.safety_at at.old ≡ (result, at.new) }
 {
@@ -368,14 +369,14 @@ fn take_safety(at: &mut Ahead<'_>) -> Option<Safety>
     }
 }
 
-/// Whether a function may say so of its safety where it stands.
+/// Whether a function may have this safety word at its site.
 fn may_say(site: Site, safety: Option<Safety>) -> bool
     ensures { result ≡ nodes.may_say site safety }
 {
     matches!(site, Site::Foreign) || !matches!(safety, Some(Safety::Safe))
 }
 
-/// What stands before `fn`.
+/// The words before `fn`.
 #[derive(Drop)]
 struct Qualifiers {
     is_const: bool,
@@ -384,7 +385,7 @@ struct Qualifiers {
     abi: Option<Abi>,
 }
 
-/// The head of a function, after its `fn`.
+/// Parses the head of a function, after its `fn`.
 fn named_fn(
     alloc: Global,
     at: &mut Ahead<'_>,
@@ -418,7 +419,7 @@ fn named_fn(
     )
 }
 
-/// What stands before `fn`, after what is said of safety, and `fn` itself.
+/// Parses an ABI, if one comes next, and `fn`; what stands before was read.
 fn with_abi(
     alloc: Global,
     at: &mut Ahead<'_>,
@@ -439,7 +440,7 @@ fn with_abi(
     kept_if(before, keeps)
 }
 
-/// What stands before `fn`, and `fn` itself.
+/// Parses the words before `fn`, and `fn`.
 fn read_qualifiers(alloc: Global, at: &mut Ahead<'_>) -> Result<Qualifiers, ReadNone>
     ensures { IsGot (qualifiers at.old) result at.new }
 {
@@ -449,7 +450,7 @@ fn read_qualifiers(alloc: Global, at: &mut Ahead<'_>) -> Result<Qualifiers, Read
     with_abi(alloc, at, is_const, is_async, safety)
 }
 
-/// The head of a function, with what is within it within the depth.
+/// Parses the head of a function, with everything in it within `depth` levels.
 #[tactic(auto, using(crate::proofs::Steps::fn_head_is))]
 pub fn fn_head_ahead(
     alloc: Global,

@@ -1,4 +1,4 @@
-//! The heads of items, and the items that are heads alone.
+//! Parsing of the heads of items, and of items that consist of a head alone.
 ghost use Rattle.std.specs.Prelude.{◌≡◌, ◌≤◌, ◌||◌, not, codes, IfOk};
 ghost use Rattle.lay_node.specs.Ahead.{first, is_mark};
 ghost use Rattle.lay_node.specs.nodes.Heads as nodes;
@@ -29,7 +29,7 @@ use lay_read_types::{path_ahead, type_ahead};
 use lay_token::Delim;
 use std::alloc::Global;
 
-/// A keyword and a name, with generic parameters after it.
+/// Parses a keyword, a name, and generic parameters.
 fn called(
     alloc: Global,
     at: &mut Ahead<'_>,
@@ -50,14 +50,14 @@ fn called(
     })
 }
 
-/// Whether a crate may be called by the word.
+/// Whether the word may name a crate in `extern crate`.
 fn is_crate_word(word: &Word) -> bool
     ensures { result ≡ nodes.is_crate_word word.now }
 {
     is_name(word) || is_self(word)
 }
 
-/// An extern crate declaration.
+/// Parses an extern crate declaration.
 #[tactic(auto, unfolding(lay_node::specs::reader::Heads::extern_crate))]
 pub fn extern_crate_ahead(alloc: Global, at: &mut Ahead<'_>) -> Result<ExternCrate, ReadNone>
     ensures { IsGot (reader.extern_crate at.old) result at.new }
@@ -71,7 +71,7 @@ pub fn extern_crate_ahead(alloc: Global, at: &mut Ahead<'_>) -> Result<ExternCra
     kept_if(ExternCrate { word, renamed }, keeps)
 }
 
-/// Whether a type alias may be given what it is given where it stands.
+/// Whether a type alias may stand at this site with this type, or without one.
 fn may_be_given(site: Site, ty: &Option<Ty>) -> bool
     ensures { result ≡ nodes.may_be_given site ty.now }
 {
@@ -83,7 +83,7 @@ fn may_be_given(site: Site, ty: &Option<Ty>) -> bool
     }
 }
 
-/// A type alias, with what is within it within the depth.
+/// Parses a type alias, with everything in it within `depth` levels.
 #[tactic(auto, unfolding(lay_node::specs::reader::Heads::alias))]
 pub fn alias_ahead(
     alloc: Global,
@@ -117,7 +117,7 @@ pub fn alias_ahead(
     )
 }
 
-/// A struct, with what is within it within the depth.
+/// Parses a struct, with everything in it within `depth` levels.
 #[tactic(auto, using(crate::proofs::Steps::struct_is))]
 pub fn struct_ahead(
     alloc: Global,
@@ -135,7 +135,7 @@ pub fn struct_ahead(
     }
 }
 
-/// A struct whose fields have no names, after its name.
+/// Parses a struct whose fields have no names, after its name.
 fn tuple_struct(
     alloc: Global,
     at: &mut Ahead<'_>,
@@ -166,7 +166,7 @@ fn tuple_struct(
     )
 }
 
-/// Another struct, after its name.
+/// Parses a unit struct or a struct with named fields, after its name.
 fn other_struct(
     alloc: Global,
     at: &mut Ahead<'_>,
@@ -197,7 +197,7 @@ fn other_struct(
     )
 }
 
-/// A struct whose fields have names, after its where clause.
+/// Parses a struct whose fields have names, after its where clause.
 fn named_struct(
     alloc: Global,
     at: &mut Ahead<'_>,
@@ -225,7 +225,7 @@ fn named_struct(
     })
 }
 
-/// A union, with what is within it within the depth.
+/// Parses a union, with everything in it within `depth` levels.
 #[tactic(auto, unfolding(lay_node::specs::reader::Heads::union))]
 pub fn union_ahead(alloc: Global, at: &mut Ahead<'_>, depth: u32) -> Result<Found<Union>, ReadNone>
     ensures read { IsFound (reader.union (within depth) at.old) result at.new }
@@ -245,7 +245,7 @@ pub fn union_ahead(alloc: Global, at: &mut Ahead<'_>, depth: u32) -> Result<Foun
     })
 }
 
-/// An enumeration, with what is within it within the depth.
+/// Parses an enumeration, with everything in it within `depth` levels.
 #[tactic(auto, using(crate::proofs::Steps::enum_is))]
 pub fn enum_ahead(alloc: Global, at: &mut Ahead<'_>, depth: u32) -> Result<Found<Enum>, ReadNone>
     ensures read { IsFound (reader.enum (within depth) at.old) result at.new }
@@ -265,7 +265,7 @@ pub fn enum_ahead(alloc: Global, at: &mut Ahead<'_>, depth: u32) -> Result<Found
     })
 }
 
-/// The head of a constant, after its keyword.
+/// Parses the head of a constant, after its keyword.
 fn const_head(alloc: Global, at: &mut Ahead<'_>, depth: u32) -> Result<Found<ValueHead>, ReadNone>
     ensures read { IsFound (reader.const_head (within depth) at.old) result at.new }
     ensures within { IfOk result (λ found. found.need ≤ depth) }
@@ -281,7 +281,7 @@ fn const_head(alloc: Global, at: &mut Ahead<'_>, depth: u32) -> Result<Found<Val
     })
 }
 
-/// The head of a static, after its keyword.
+/// Parses the head of a static, after its keyword.
 fn static_head(alloc: Global, at: &mut Ahead<'_>, depth: u32) -> Result<Found<ValueHead>, ReadNone>
     ensures read { IsFound (reader.static_head (within depth) at.old) result at.new }
     ensures within { IfOk result (λ found. found.need ≤ depth) }
@@ -302,7 +302,7 @@ fn static_head(alloc: Global, at: &mut Ahead<'_>, depth: u32) -> Result<Found<Va
     })
 }
 
-/// The head of a constant or of a static, with what is within it within the depth.
+/// Parses the head of a constant or of a static, with everything in it within `depth` levels.
 #[tactic(auto, unfolding(lay_node::specs::reader::Heads::value_head))]
 pub fn value_head_ahead(
     alloc: Global,
@@ -321,8 +321,8 @@ pub fn value_head_ahead(
     }
 }
 
-/// The head of a trait, with what is within it within the depth; whether `<` and `>` are spelled; and whether a `:`
-/// stands after them.
+/// Parses the head of a trait, with everything in it within `depth` levels. The flags say that its
+/// generic parameters are in `<` and `>`, and that a `:` follows them.
 #[tactic(auto, unfolding(lay_node::specs::reader::Heads::trait_head))]
 pub fn trait_head_ahead(
     alloc: Global,
@@ -355,7 +355,8 @@ pub fn trait_head_ahead(
     })
 }
 
-/// The trait that is implemented and the `for` after it, if they stand there. A type may begin as they do.
+/// Parses the trait of an implementation and the `for`, if they come next. A type can begin with
+/// the same tokens.
 #[tactic(auto, unfolding(lay_node::specs::reader::Heads::trait_ref))]
 fn trait_ref(
     alloc: Global,
@@ -386,21 +387,21 @@ fn trait_ref(
     }
 }
 
-/// Whether a head of an implementation ends at the beginning.
+/// Whether the next token ends the head of an implementation.
 fn ends_head(at: &Ahead<'_>) -> bool
     ensures { result ≡ nodes.ends_head at.now }
 {
     is_at_keyword(at, b"where") || is_at_opened(at, Delim::Brace)
 }
 
-/// Whether generic parameters are there, or no `<` comes next, which would open some.
+/// Whether there are generic parameters, or no `<` comes next that would open some.
 fn tells_generics(at: &Ahead<'_>, generics: &Generics) -> bool
     ensures { result ≡ (is_there generics.now.params || not (first (is_mark (codes "<")) at.now)) }
 {
     !generics.params.as_slice().is_empty() || !is_at_mark(at, b"<")
 }
 
-/// The head of an implementation, with what is within it within the depth.
+/// Parses the head of an implementation, with everything in it within `depth` levels.
 #[tactic(auto, unfolding(lay_node::specs::reader::Heads::impl_head))]
 pub fn impl_head_ahead(
     alloc: Global,

@@ -1,4 +1,4 @@
-//! What the readers of heads share.
+//! Helpers that the readers of heads share.
 ghost use Rattle.std.specs.Prelude.{◌≡◌, ◌≤◌, if◌then◌else◌, IfOk, Ok, Err};
 ghost use Rattle.lay_node.specs.Ahead.{is_keyword};
 ghost use Rattle.lay_node.specs.reader.Generics.{met_if};
@@ -13,14 +13,14 @@ use lay_read_types::bounds_ahead;
 use lay_token::List;
 use std::alloc::Global;
 
-/// The depth of what is within the parts of a list.
+/// The depth limit of what the elements of a list contain.
 #[derive(Clone, Copy)]
 pub struct Level {
     pub alloc: Global,
     pub depth: u32,
 }
 
-/// What was found, where it is kept.
+/// The value, or the error `NoReading` unless `keeps`.
 pub fn kept_if<T: Drop>(found: T, keeps: bool) -> Result<T, ReadNone>
     ensures { result ≡ (if keeps then Ok found else Err ReadNone.NoReading) }
 {
@@ -31,7 +31,7 @@ pub fn kept_if<T: Drop>(found: T, keeps: bool) -> Result<T, ReadNone>
     }
 }
 
-/// Passes the keyword, if it comes next, and tells whether it did.
+/// Moves past the keyword if it comes next, and says whether it did.
 pub fn takes_flag(at: &mut Ahead<'_>, word: &[u8]) -> bool
     ensures found { result ≡ (flag (is_keyword word.now) at.old).0 }
     ensures passed { at.new ≡ (flag (is_keyword word.now) at.old).1 }
@@ -39,7 +39,7 @@ pub fn takes_flag(at: &mut Ahead<'_>, word: &[u8]) -> bool
     takes_keyword(at, word)
 }
 
-/// What is met, if anything is said of it: a `:`, and bounds where one begins.
+/// Parses a `:` and bounds, if a `:` comes next; the bounds may be none.
 pub fn met_if(alloc: Global, at: &mut Ahead<'_>, depth: u32) -> Result<Found<List<Bound>>, ReadNone>
     ensures read { IsFound (met_if (within depth) at.old) result at.new }
     ensures within { IfOk result (λ found. found.need ≤ depth) }

@@ -1,4 +1,4 @@
-//! Use trees.
+//! Parsing of use trees.
 ghost use Rattle.std.specs.Prelude.{◌≡◌, ◌≤◌, IfOk};
 ghost use Rattle.lay_node.specs.reader.Use as reader;
 ghost use Rattle.lay_read_tokens.specs.Answers.{IsFound, IsGot};
@@ -16,7 +16,7 @@ use lay_read_tokens::stop::keep;
 use lay_token::{Delim, List};
 use std::alloc::Global;
 
-/// A use tree, within a depth.
+/// Parses a use tree, within `depth` levels.
 #[cycle(use_trees)]
 #[tactic(auto, unfolding(lay_node::specs::reader::Use::use_at))]
 pub fn use_ahead(alloc: Global, at: &mut Ahead<'_>, depth: u32) -> Result<Found<UseTree>, ReadNone>
@@ -42,7 +42,7 @@ pub fn use_ahead(alloc: Global, at: &mut Ahead<'_>, depth: u32) -> Result<Found<
     })
 }
 
-/// What follows the path of a use tree. The trees within it stand within the depth.
+/// Parses the end of a use tree, after its path. The trees in it fit in `depth` levels.
 #[cycle(use_trees)]
 fn read_use_end(alloc: Global, at: &mut Ahead<'_>, depth: u32) -> Result<Found<UseEnd>, ReadNone>
     ensures read { IsFound (reader.use_end_by (reader.use_at depth) at.old) result at.new }
@@ -60,7 +60,7 @@ fn read_use_end(alloc: Global, at: &mut Ahead<'_>, depth: u32) -> Result<Found<U
     }
 }
 
-/// The use trees of a group, which stand within the depth, and the `}` after them.
+/// Parses the use trees of a group, which fit in `depth` levels, and the `}` after them.
 #[cycle(use_trees)]
 fn read_group(alloc: Global, at: &mut Ahead<'_>, depth: u32) -> Result<Found<UseEnd>, ReadNone>
     ensures read { IsFound (reader.use_group (reader.use_at depth) at.old) result at.new }
@@ -82,7 +82,7 @@ fn read_group(alloc: Global, at: &mut Ahead<'_>, depth: u32) -> Result<Found<Use
     })
 }
 
-/// A word, and what it is called here.
+/// Parses a word, and `as` with another name if that follows.
 fn read_use_word(alloc: Global, at: &mut Ahead<'_>) -> Result<Found<UseEnd>, ReadNone>
     ensures read { IsFound (reader.use_word at.old) result at.new }
     ensures within { IfOk result (λ found. found.need ≡ 0) }
@@ -95,7 +95,7 @@ fn read_use_word(alloc: Global, at: &mut Ahead<'_>) -> Result<Found<UseEnd>, Rea
     })
 }
 
-/// What follows a word: `as` and another name, or nothing of a use tree.
+/// Parses `as` and another name, if they come next.
 #[tactic(auto, unfolding(lay_node::specs::reader::Use::renamed))]
 pub(crate) fn read_rename(alloc: Global, at: &mut Ahead<'_>) -> Result<Option<GivenName>, ReadNone>
     ensures { IsGot (reader.renamed at.old) result at.new }

@@ -1,4 +1,4 @@
-//! Visibilities.
+//! Parsing of visibilities.
 ghost use Rattle.std.specs.Prelude.{◌≡◌, if◌then◌else◌, drop};
 ghost use Rattle.lay_node.specs.nodes.Vis as nodes;
 ghost use Rattle.lay_node.specs.reader.Vis as reader;
@@ -14,7 +14,7 @@ use lay_read_tokens::{Ahead, ReadNone};
 use lay_token::Delim;
 use std::alloc::Global;
 
-/// A visibility, which may be nothing.
+/// Parses a visibility, which may be nothing.
 #[tactic(auto, unfolding(lay_node::specs::reader::Vis::visibility))]
 pub fn vis_ahead(alloc: Global, at: &mut Ahead<'_>) -> Result<Vis, ReadNone>
     ensures { IsGot (reader.visibility at.old) result at.new }
@@ -26,7 +26,7 @@ pub fn vis_ahead(alloc: Global, at: &mut Ahead<'_>) -> Result<Vis, ReadNone>
     }
 }
 
-/// What follows `pub`.
+/// Parses a visibility after its `pub`.
 fn vis_behind(alloc: Global, at: &mut Ahead<'_>) -> Result<Vis, ReadNone>
     ensures { IsGot (reader.vis_behind at.old) result at.new }
 {
@@ -41,7 +41,7 @@ fn vis_behind(alloc: Global, at: &mut Ahead<'_>) -> Result<Vis, ReadNone>
     }
 }
 
-/// Whether the word in parentheses comes next.
+/// Whether this word in parentheses comes next.
 fn is_restricted(at: &Ahead<'_>, word: &[u8]) -> bool
     ensures { result ≡ nodes.restricts_to word.now at.now }
 {
@@ -51,7 +51,7 @@ fn is_restricted(at: &Ahead<'_>, word: &[u8]) -> bool
         && is_at_closer(&behind, Delim::Paren)
 }
 
-/// Passes the word in parentheses, if it comes next.
+/// Moves past this word in parentheses if it comes next, and says whether it did.
 fn takes_restriction(at: &mut Ahead<'_>, word: &[u8]) -> bool
     ensures found { result ≡ nodes.restricts_to word.now at.old }
     ensures passed { at.new ≡ (if result then drop 3 at.old else at.old) }
@@ -64,7 +64,7 @@ fn takes_restriction(at: &mut Ahead<'_>, word: &[u8]) -> bool
     found
 }
 
-/// `in` and a path in parentheses, if they come next.
+/// Parses `in` and a path in parentheses, if they come next.
 fn read_vis_in(alloc: Global, at: &mut Ahead<'_>) -> Result<Vis, ReadNone>
     ensures { IsGot (vis_in at.old) result at.new }
 {

@@ -1,4 +1,4 @@
-//! What stands at the beginning of the tokens of a text, as what an item is.
+//! The public readers of items that consist of a head alone.
 ghost use Rattle.lay_node.specs.nodes.Facts.{by_itself};
 ghost use Rattle.lay_node.specs.nodes.Heads.{about_alias, about_enum, about_extern_crate, about_struct, about_union, headed};
 ghost use Rattle.lay_code.specs.declared.item.ItemKind.TheVariants as item;
@@ -15,8 +15,8 @@ use lay_read_tokens::front::is_at_keyword;
 use lay_read_tokens::{Ahead, ReadNone};
 use std::alloc::Global;
 
-/// The struct or the union at the beginning, within the depth. What is within stands one level deeper. Where there is none
-/// the cursor stays.
+/// Parses the next struct or union, within `depth` levels, of which it takes one. On an error the
+/// cursor doesn't move.
 pub fn read_struct(alloc: Global, at: &mut Cursor<'_>, depth: u32) -> Result<ItemKind, ReadNone>
     requires { AreLexed at.old }
     ensures { IsReadAt depth StructFront at.old result at.new }
@@ -29,7 +29,7 @@ pub fn read_struct(alloc: Global, at: &mut Cursor<'_>, depth: u32) -> Result<Ite
     }
 }
 
-/// The struct at the beginning.
+/// Parses the next struct.
 fn read_struct_alone(alloc: Global, at: &mut Cursor<'_>, depth: u32) -> Result<ItemKind, ReadNone>
     requires { AreLexed at.old }
     ensures { IsReadAt depth (OfKind item.Struct (λ x. by_itself (headed (about_struct x)))) at.old
@@ -44,7 +44,7 @@ fn read_struct_alone(alloc: Global, at: &mut Cursor<'_>, depth: u32) -> Result<I
     Ok(ItemKind::Struct { item: found.node })
 }
 
-/// The union at the beginning.
+/// Parses the next union.
 fn read_union_alone(alloc: Global, at: &mut Cursor<'_>, depth: u32) -> Result<ItemKind, ReadNone>
     requires { AreLexed at.old }
     ensures { IsReadAt depth (OfKind item.Union (λ x. by_itself (headed (about_union x)))) at.old
@@ -59,8 +59,8 @@ fn read_union_alone(alloc: Global, at: &mut Cursor<'_>, depth: u32) -> Result<It
     Ok(ItemKind::Union { item: found.node })
 }
 
-/// The enumeration at the beginning, within the depth. What is within stands one level deeper. Where there is none the cursor
-/// stays.
+/// Parses the next enumeration, within `depth` levels, of which it takes one. On an error the
+/// cursor doesn't move.
 pub fn read_enum(alloc: Global, at: &mut Cursor<'_>, depth: u32) -> Result<ItemKind, ReadNone>
     requires { AreLexed at.old }
     ensures { IsReadAt depth (OfKind item.Enum (λ x. by_itself (headed (about_enum x)))) at.old
@@ -75,8 +75,8 @@ pub fn read_enum(alloc: Global, at: &mut Cursor<'_>, depth: u32) -> Result<ItemK
     Ok(ItemKind::Enum { item: found.node })
 }
 
-/// The type alias at the beginning, as it stands at its site, within the depth. What is within stands one level deeper. Where
-/// there is none the cursor stays.
+/// Parses the next type alias, as it may be at this site, within `depth` levels, of which it takes
+/// one. On an error the cursor doesn't move.
 pub fn read_alias(
     alloc: Global,
     at: &mut Cursor<'_>,
@@ -96,7 +96,7 @@ pub fn read_alias(
     Ok(ItemKind::Alias { item: found.node })
 }
 
-/// The extern crate declaration at the beginning. Where there is none the cursor stays.
+/// Parses the next extern crate declaration. On an error the cursor doesn't move.
 pub fn read_extern_crate(alloc: Global, at: &mut Cursor<'_>) -> Result<ItemKind, ReadNone>
     requires { AreLexed at.old }
     ensures { IsRead (OfKind item.ExternCrate (λ x. headed (about_extern_crate x))) at.old result

@@ -1,7 +1,7 @@
-//! From nested tokens to the heads of items: visibilities, use trees, the heads of functions, of constants, traits and
-//! impls, and the items that are heads alone.
+//! The public readers of visibilities, use trees, and the heads of items: functions, constants,
+//! traits, implementations, and the items that consist of a head alone.
 //!
-//! Each call reads exactly what stands at the beginning of the tokens, by the rules of `lay_read_head_rules`.
+//! Each reads exactly what the next tokens spell, by the rules of `lay_read_head_rules`.
 #![tactic(auto)]
 
 mod kinds;

@@ -1,4 +1,4 @@
-//! What stands at the beginning of the tokens of a text.
+//! The public readers of visibilities, use trees, and the heads of items.
 ghost use Rattle.lay_node.specs.nodes.Facts.{Front, ToldFront, by_itself};
 ghost use Rattle.lay_node.specs.nodes.Functions.{about_fn_head};
 ghost use Rattle.lay_node.specs.nodes.Heads.{TraitHeadFront, about_impl_head, about_value_head};
@@ -21,7 +21,7 @@ use lay_read_head_rules::vis::vis_ahead;
 use lay_read_tokens::{Ahead, ReadNone};
 use std::alloc::Global;
 
-/// The visibility at the beginning, which may be nothing. Where it can't be read the cursor stays.
+/// Parses the next visibility, which may be nothing. On an error the cursor doesn't move.
 pub fn read_vis(alloc: Global, at: &mut Cursor<'_>) -> Result<Vis, ReadNone>
     requires { AreLexed at.old }
     ensures { IsRead (λ (x : VisValue). ToldFront (about_vis x)) at.old result at.new }
@@ -32,8 +32,8 @@ pub fn read_vis(alloc: Global, at: &mut Cursor<'_>) -> Result<Vis, ReadNone>
     Ok(vis)
 }
 
-/// The head of a function at the beginning, as it stands at its site, within the depth. What is within stands one level
-/// deeper. Where there is none the cursor stays.
+/// Parses the next head of a function, as it may be at this site, within `depth` levels, of which
+/// it takes one. On an error the cursor doesn't move.
 pub fn read_fn_head(
     alloc: Global,
     at: &mut Cursor<'_>,
@@ -53,8 +53,8 @@ pub fn read_fn_head(
     Ok(found.node)
 }
 
-/// The head of a constant or of a static at the beginning, within the depth. What is within stands one level deeper. Where
-/// there is none the cursor stays.
+/// Parses the head of a constant or of a static, within `depth` levels, of which it takes one. On
+/// an error the cursor doesn't move.
 pub fn read_value_head(
     alloc: Global,
     at: &mut Cursor<'_>,
@@ -73,8 +73,8 @@ pub fn read_value_head(
     Ok(found.node)
 }
 
-/// The head of a trait at the beginning, within the depth. What is within stands one level deeper. Where there is none the
-/// cursor stays.
+/// Parses the head of a trait, within `depth` levels, of which it takes one. On an error the cursor
+/// doesn't move.
 pub fn read_trait_head(
     alloc: Global,
     at: &mut Cursor<'_>,
@@ -92,8 +92,8 @@ pub fn read_trait_head(
     Ok(found.node.0)
 }
 
-/// The head of an implementation at the beginning, within the depth. What is within stands one level deeper. Where there is
-/// none the cursor stays.
+/// Parses the head of an implementation, within `depth` levels, of which it takes one. On an error
+/// the cursor doesn't move.
 pub fn read_impl_head(alloc: Global, at: &mut Cursor<'_>, depth: u32) -> Result<ImplHead, ReadNone>
     requires { AreLexed at.old }
     ensures { IsReadAt depth (λ (x : ImplHeadValue). ToldFront (by_itself (about_impl_head x)))
@@ -108,7 +108,7 @@ pub fn read_impl_head(alloc: Global, at: &mut Cursor<'_>, depth: u32) -> Result<
     Ok(found.node)
 }
 
-/// The use tree at the beginning, within the depth. Where there is none the cursor stays.
+/// Parses the next use tree, within `depth` levels. On an error the cursor doesn't move.
 pub fn read_use(alloc: Global, at: &mut Cursor<'_>, depth: u32) -> Result<UseTree, ReadNone>
     requires { AreLexed at.old }
     ensures { IsReadAt depth (λ (x : UseTreeValue). Front (about_use x)) at.old result at.new }

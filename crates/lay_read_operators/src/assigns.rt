@@ -1,4 +1,4 @@
-//! Assignments.
+//! Parsing of assignments.
 ghost use Rattle.std.specs.Prelude.{◌≡◌, ◌+◌, ◌≤◌, IfOk, IfErr};
 ghost use Rattle.lay_code.specs.reader.Exprs as reader;
 ghost use Rattle.lay_code.specs.reader.Exprs.{targets_of, value_of};
@@ -16,7 +16,7 @@ use lay_read_tokens::{Ahead, Found, ReadNone};
 use lay_token::List;
 use std::alloc::Global;
 
-/// Operands with operators between them, as targets and a value.
+/// Splits operands with operators between them into targets and the value.
 fn split(
     alloc: Global,
     first: Boxed<Expr>,
@@ -40,7 +40,7 @@ fn split(
 impl<P: Fn(Global, &mut Ahead<'_>, Place, u32) -> Result<Found<Boxed<Expr>>, ReadNone>> ExprRules<
     P,
 > {
-    /// An expression with assignments after it.
+    /// Parses the assignments after an expression, and gives the whole.
     #[tactic(auto, unfolding(lay_code::specs::reader::Exprs::assign_expr))]
     #[inline(never)]
     pub fn assign_expr(

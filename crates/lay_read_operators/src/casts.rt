@@ -1,4 +1,4 @@
-//! Casts.
+//! Parsing of casts.
 ghost use Rattle.std.specs.Prelude.{◌≡◌, ◌+◌, ◌≤◌, IfOk};
 ghost use Rattle.lay_code.specs.reader.Exprs as reader;
 ghost use Rattle.lay_read_tokens.specs.Answers.{IsFound};
@@ -18,7 +18,7 @@ use lay_read_types::type_ahead;
 use lay_token::List;
 use std::alloc::Global;
 
-/// Types after `as`, as parts that stand one after another.
+/// Types after `as` as consecutive parts.
 pub struct Types;
 
 impl Part<Ty, ()> for Types {
@@ -28,7 +28,7 @@ impl Part<Ty, ()> for Types {
 impl<P: Fn(Global, &mut Ahead<'_>, Place, u32) -> Result<Found<Boxed<Expr>>, ReadNone>> ExprRules<
     P,
 > {
-    /// A type after its `as`.
+    /// Parses a type after its `as`.
     #[tactic(auto, unfolding(lay_code::specs::reader::Exprs::one_type))]
     #[inline(never)]
     fn one_type(&self, at: &mut Ahead<'_>, _place: ()) -> Result<Found<Ty>, ReadNone>
@@ -43,7 +43,7 @@ impl<P: Fn(Global, &mut Ahead<'_>, Place, u32) -> Result<Found<Boxed<Expr>>, Rea
         }
     }
 
-    /// An expression with types after it.
+    /// Parses the casts after an expression, and gives the whole.
     #[tactic(auto, unfolding(lay_code::specs::reader::Exprs::cast_expr), using(lay_read_shared::proofs::Left::type_leaves))]
     #[inline(never)]
     pub fn cast_expr(

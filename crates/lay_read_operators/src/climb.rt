@@ -1,4 +1,4 @@
-//! The operators after an expression, from the strongest on.
+//! Precedence climbing: the operators after an expression, the tightest first.
 ghost use Rattle.std.specs.Prelude.{◌≡◌, ◌+◌, ◌<◌, ◌≤◌, nat_le, nat_lt, ◌&&◌, IfOk};
 ghost use Rattle.lay_code.specs.Operators as operators;
 ghost use Rattle.lay_code.specs.nodes.Exprs as nodes;
@@ -32,7 +32,7 @@ fn is_whole(start: Start) -> bool
     matches!(start, Start::Whole)
 }
 
-/// Where the expression before an operator of this level stands.
+/// The place of the expression before an operator of this precedence level.
 fn left_place(at: &Ahead<'_>, place: Place, level: u8) -> Place
     requires { level < 14 }
     ensures { result ≡ reader.left_place place level at.now }
@@ -41,14 +41,15 @@ fn left_place(at: &Ahead<'_>, place: Place, level: u8) -> Place
     before_op(level + 1, place.no_struct, first, is_angle(at))
 }
 
-/// Whether nothing but `.` and `?` goes on with an expression, and neither comes next.
+/// Whether the expression has ended as a statement: only `.` and `?` could go on with it, and
+/// neither comes next.
 pub fn is_ended(at: &Ahead<'_>, place: Place, expr: &Expr) -> bool
     ensures { result ≡ reader.is_ended place (about_expr expr.now) at.now }
 {
     is_whole(place.start) && is_block_like(expr) && !is_dot_or_try(at)
 }
 
-/// Whether what is ahead may follow the root of an expression.
+/// Whether the next tokens may follow the root of the expression.
 fn root_follows(at: &Ahead<'_>, place: Place, expr: &Expr) -> bool
     ensures { result ≡ nodes.root_follows (about_expr expr.now) place at.now }
 {
@@ -59,7 +60,8 @@ fn root_follows(at: &Ahead<'_>, place: Place, expr: &Expr) -> bool
     }
 }
 
-/// The expression, if it may stand at the place, what is ahead may follow it, and it is within the budget.
+/// The expression, if it may stand at the place, the next tokens may follow it, and it is nested no
+/// deeper than `budget`.
 pub fn accepted(
     at: &Ahead<'_>,
     place: Place,
@@ -76,7 +78,8 @@ pub fn accepted(
     if passes { Ok(found) } else { refused(found) }
 }
 
-/// Whether an operator that the place allows goes on, below the level that is reached.
+/// Whether an operator comes next that the place allows and whose precedence level is below
+/// `reached`.
 fn goes_on(at: &Ahead<'_>, place: Place, reached: u8) -> bool
     ensures { result ≡ (nat_lt place.level (operators.strength at.now)
         && nat_le (operators.strength at.now) reached) }
@@ -88,7 +91,8 @@ fn goes_on(at: &Ahead<'_>, place: Place, reached: u8) -> bool
 impl<P: Fn(Global, &mut Ahead<'_>, Place, u32) -> Result<Found<Boxed<Expr>>, ReadNone>> ExprRules<
     P,
 > {
-    /// The operators after an expression that the place allows, from the strongest on, below a level that is reached.
+    /// Parses the operators after an expression that the place allows, the tightest first. Their
+    /// precedence level is below `from`.
     #[inline(never)]
     pub fn climb(
         &self,
@@ -112,8 +116,8 @@ impl<P: Fn(Global, &mut Ahead<'_>, Place, u32) -> Result<Found<Boxed<Expr>>, Rea
         accepted(at, place, lhs, self.depth + 1)
     }
 
-    /// What the operator of the level at the beginning makes of the expression before it, if that may stand there, and what
-    /// is made needn't be deeper than may be.
+    /// Parses the operators of one precedence level after an expression, if the expression may
+    /// stand before them and the whole isn't nested too deep.
     #[inline(never)]
     fn climb_once(
         &self,
@@ -134,7 +138,8 @@ impl<P: Fn(Global, &mut Ahead<'_>, Place, u32) -> Result<Found<Boxed<Expr>>, Rea
         self.stage(at, level, place.no_struct, lhs)
     }
 
-    /// What an operator of the level makes of the expression before it.
+    /// Parses the operators of this precedence level, or the postfix steps, after an expression, by
+    /// the rule of the level.
     #[inline(never)]
     fn stage(
         &self,

@@ -1,4 +1,4 @@
-//! Expressions with commas between them, in delimiters.
+//! Parsing of expressions with commas between them, in delimiters.
 ghost use Rattle.std.specs.Prelude.{◌≤◌, IfOk};
 ghost use Rattle.lay_node.specs.Ahead.{closes};
 ghost use Rattle.lay_code.specs.reader.Exprs as reader;
@@ -16,7 +16,7 @@ use lay_read_tokens::{Ahead, Found, ReadNone};
 use lay_token::{Delim, List};
 use std::alloc::Global;
 
-/// Expressions one level deeper, as elements of a list.
+/// Expressions of the next deeper level as the elements of a list.
 pub struct Elements;
 
 impl Part<Boxed<Expr>, Place> for Elements {
@@ -26,7 +26,7 @@ impl Part<Boxed<Expr>, Place> for Elements {
 impl<P: Fn(Global, &mut Ahead<'_>, Place, u32) -> Result<Found<Boxed<Expr>>, ReadNone>> ExprRules<
     P,
 > {
-    /// Expressions with commas, and the closing delimiter after them, each in its box.
+    /// Parses expressions with commas between them, and the closing delimiter. Each is boxed.
     #[tactic(auto, using(lay_read_shared::proofs::Left::exprs_leave))]
     #[inline(never)]
     pub fn boxed_elements(
@@ -50,7 +50,7 @@ impl<P: Fn(Global, &mut Ahead<'_>, Place, u32) -> Result<Found<Boxed<Expr>>, Rea
         )
     }
 
-    /// Expressions with commas, and the closing delimiter after them.
+    /// Parses expressions with commas between them, and the closing delimiter.
     #[inline(never)]
     pub fn free_elements(
         &self,

@@ -1,4 +1,4 @@
-//! Numbers, and the indices of tuples.
+//! Lookahead: tuple indices.
 ghost use Rattle.std.specs.Prelude.{◌≡◌, IsUtf8};
 ghost use Rattle.std.specs.Str.{chars};
 ghost use Rattle.lay_piece.specs.Number.{is_index};
@@ -10,7 +10,7 @@ use lay_read_tokens::Ahead;
 use lay_read_tokens::front::takes_op;
 use lay_token::Kind;
 
-/// Whether the index of a tuple comes next.
+/// Whether a tuple index comes next.
 pub fn is_at_tuple_index(at: &Ahead<'_>) -> bool
     ensures { result ≡ first reader.is_index_token at.now }
 {
@@ -20,7 +20,7 @@ pub fn is_at_tuple_index(at: &Ahead<'_>) -> bool
     }
 }
 
-/// Whether a `.` and the index of a tuple come next.
+/// Whether a `.` and then a tuple index come next.
 pub fn begins_tuple_index(at: &Ahead<'_>) -> bool
     ensures { result ≡ reader.begins_tuple_index at.now }
 {

@@ -1,4 +1,4 @@
-//! Operators of one level, and the operands after them.
+//! Parsing of operators of one precedence level with their operands.
 ghost use Rattle.std.specs.Prelude.{◌≡◌, ◌+◌, ◌<◌, ◌≤◌, drop, IfOk};
 ghost use Rattle.lay_code.specs.nodes.Code.{about_expr};
 ghost use Rattle.lay_code.specs.nodes.Places as places;
@@ -22,14 +22,14 @@ use lay_read_tokens::{Ahead, Found, ReadNone};
 use lay_token::List;
 use std::alloc::Global;
 
-/// Operators and their operands, as parts that stand one after another.
+/// Operators with their operands as consecutive parts.
 pub struct Operands;
 
 impl Part<(Op, Boxed<Expr>), (u8, bool)> for Operands {
     ghost reads = { λ depth place ts. reader.operand (code_within depth) place.0 place.1 ts };
 }
 
-/// Passes so many tokens, or all there are.
+/// Moves past `count` tokens, or as many as there are.
 #[tactic(auto, using(crate::proofs::Steps::tail_dropped))]
 pub fn pass_tokens(at: &mut Ahead<'_>, count: usize)
     ensures { at.new ≡ drop count at.old }
@@ -39,7 +39,7 @@ pub fn pass_tokens(at: &mut Ahead<'_>, count: usize)
     }
 }
 
-/// Whether an operand of the level may end where the tokens ahead stand.
+/// Whether an operand of this precedence level may end before the next tokens.
 fn operand_ends(at: &Ahead<'_>, operand: &Expr, level: u8, no_struct: bool) -> bool
     requires { level < 14 }
     ensures { result ≡ reader.operand_ends level no_struct (about_expr operand.now) at.now }
@@ -58,7 +58,7 @@ fn operand_ends(at: &Ahead<'_>, operand: &Expr, level: u8, no_struct: bool) -> b
 impl<P: Fn(Global, &mut Ahead<'_>, Place, u32) -> Result<Found<Boxed<Expr>>, ReadNone>> ExprRules<
     P,
 > {
-    /// Operators of a level and their operands, as long as one begins.
+    /// Parses operators of one precedence level with their operands, as long as one begins.
     #[tactic(auto, unfolding(lay_code::specs::reader::Exprs::operands), using(lay_read_shared::proofs::Left::operand_leaves))]
     #[inline(never)]
     pub fn operands(
@@ -84,7 +84,7 @@ impl<P: Fn(Global, &mut Ahead<'_>, Place, u32) -> Result<Found<Boxed<Expr>>, Rea
         )
     }
 
-    /// An operator of a level, and its operand.
+    /// Parses an operator of this precedence level, and its operand.
     #[tactic(auto, unfolding(lay_code::specs::reader::Exprs::operand))]
     #[inline(never)]
     fn operand(
@@ -114,7 +114,7 @@ impl<P: Fn(Global, &mut Ahead<'_>, Place, u32) -> Result<Found<Boxed<Expr>>, Rea
         })
     }
 
-    /// An operand at a level, if one begins.
+    /// Parses an operand of this precedence level, if one begins.
     #[inline(never)]
     pub fn operand_if(
         &self,
@@ -140,7 +140,8 @@ impl<P: Fn(Global, &mut Ahead<'_>, Place, u32) -> Result<Found<Boxed<Expr>>, Rea
         })
     }
 
-    /// An expression with operators of a level after it.
+    /// Parses the operators of one precedence level after an expression with their operands, and
+    /// gives the whole.
     #[tactic(auto, unfolding(lay_code::specs::reader::Exprs::chain_expr))]
     #[inline(never)]
     pub fn chain_expr(

@@ -1,4 +1,4 @@
-//! Postfix steps.
+//! Parsing of postfix steps.
 ghost use Rattle.std.specs.Prelude.{◌≡◌, ◌+◌, ◌≤◌, true, IfOk};
 ghost use Rattle.lay_node.specs.Ahead.{opens_args_late};
 ghost use Rattle.lay_node.specs.reader.Types.{within};
@@ -26,14 +26,14 @@ use lay_read_types::args_ahead;
 use lay_token::{Delim, List};
 use std::alloc::Global;
 
-/// Postfix steps, as parts that stand one after another.
+/// Postfix steps as consecutive parts.
 pub struct Steps;
 
 impl Part<Step, ()> for Steps {
     ghost reads = { λ depth place ts. reader.one_step (code_within depth) ts };
 }
 
-/// The generic arguments after a `::`.
+/// Parses the generic arguments after a `::`.
 #[tactic(auto, unfolding(lay_node::specs::reader::Types::args_by, lay_node::specs::reader::Types::angle))]
 fn read_late_args(
     alloc: Global,
@@ -55,7 +55,8 @@ fn read_late_args(
 impl<P: Fn(Global, &mut Ahead<'_>, Place, u32) -> Result<Found<Boxed<Expr>>, ReadNone>> ExprRules<
     P,
 > {
-    /// An expression with postfix steps after it. A tuple index doesn't stand directly after a number without suffix.
+    /// Parses the postfix steps after an expression, and gives the whole. A tuple index may not
+    /// directly follow a number without suffix.
     #[tactic(auto, unfolding(lay_code::specs::reader::Exprs::postfix_expr), using(lay_read_shared::proofs::Left::step_leaves))]
     #[inline(never)]
     pub fn postfix_expr(
@@ -94,7 +95,7 @@ impl<P: Fn(Global, &mut Ahead<'_>, Place, u32) -> Result<Found<Boxed<Expr>>, Rea
         )
     }
 
-    /// A step.
+    /// Parses a postfix step.
     #[tactic(auto, unfolding(lay_code::specs::reader::Exprs::one_step))]
     #[inline(never)]
     fn one_step(&self, at: &mut Ahead<'_>, _place: ()) -> Result<Found<Step>, ReadNone>
@@ -120,7 +121,7 @@ impl<P: Fn(Global, &mut Ahead<'_>, Place, u32) -> Result<Found<Boxed<Expr>>, Rea
         }
     }
 
-    /// An index in brackets.
+    /// Parses an index after its `[`.
     #[inline(never)]
     fn bracket_step(&self, at: &mut Ahead<'_>) -> Result<Found<Step>, ReadNone>
         requires { AreExprs self.now.depth (P.pre self.now.exprs) (P.post self.now.exprs) }
@@ -140,7 +141,7 @@ impl<P: Fn(Global, &mut Ahead<'_>, Place, u32) -> Result<Found<Boxed<Expr>>, Rea
         })
     }
 
-    /// What follows a `.`.
+    /// Parses a postfix step after its `.`.
     #[tactic(auto, unfolding(lay_code::specs::reader::Exprs::dot_step), using(lay_read_parts::proofs::Steps::literal_is))]
     #[inline(never)]
     fn dot_step(&self, at: &mut Ahead<'_>) -> Result<Found<Step>, ReadNone>
@@ -165,7 +166,7 @@ impl<P: Fn(Global, &mut Ahead<'_>, Place, u32) -> Result<Found<Boxed<Expr>>, Rea
         self.member(at, name)
     }
 
-    /// What follows a `.` and a name.
+    /// Parses a field access or a method call after its name.
     #[inline(never)]
     fn member(&self, at: &mut Ahead<'_>, name: Name) -> Result<Found<Step>, ReadNone>
         requires { AreExprs self.now.depth (P.pre self.now.exprs) (P.post self.now.exprs) }
@@ -191,7 +192,7 @@ impl<P: Fn(Global, &mut Ahead<'_>, Place, u32) -> Result<Found<Boxed<Expr>>, Rea
         }
     }
 
-    /// A method after its name, where generic arguments stand after that.
+    /// Parses a method call with generic arguments, after its name.
     #[inline(never)]
     fn generic_method(&self, at: &mut Ahead<'_>, name: Name) -> Result<Found<Step>, ReadNone>
         requires deeper { AreExprs self.now.depth (P.pre self.now.exprs) (P.post self.now.exprs) }
@@ -208,7 +209,7 @@ impl<P: Fn(Global, &mut Ahead<'_>, Place, u32) -> Result<Found<Boxed<Expr>>, Rea
         self.method(at, name, generics)
     }
 
-    /// The arguments of a method, after its name and its generic arguments.
+    /// Parses the arguments of a method, after its name and its generic arguments.
     #[inline(never)]
     fn method(
         &self,

@@ -1,4 +1,4 @@
-//! Ranges.
+//! Parsing of ranges.
 ghost use Rattle.std.specs.Prelude.{◌≡◌, ◌+◌, ◌≤◌, IfOk};
 ghost use Rattle.lay_code.specs.reader.Exprs as reader;
 ghost use Rattle.lay_read_tokens.specs.Answers.{IsFound};
@@ -17,7 +17,7 @@ use std::alloc::Global;
 impl<P: Fn(Global, &mut Ahead<'_>, Place, u32) -> Result<Found<Boxed<Expr>>, ReadNone>> ExprRules<
     P,
 > {
-    /// A range, from its `..` or `..=` on.
+    /// Parses a range, from its `..` or `..=` on.
     #[tactic(auto, unfolding(lay_code::specs::reader::Exprs::range_expr))]
     #[inline(never)]
     pub fn range_expr(
@@ -40,7 +40,7 @@ impl<P: Fn(Global, &mut Ahead<'_>, Place, u32) -> Result<Found<Boxed<Expr>>, Rea
         self.range_by(at, no_struct, start, inclusive)
     }
 
-    /// What follows the operator of a range.
+    /// Parses the end of a range, if it has one, after its operator.
     #[inline(never)]
     fn range_by(
         &self,

@@ -1,4 +1,4 @@
-//! The rules of a level, and how what is one level deeper is read.
+//! The rules of one level, over the reader of the next deeper level.
 ghost use Rattle.std.specs.Prelude.{◌≡◌, ◌≤◌, IfOk};
 ghost use Rattle.lay_code.specs.reader.Code.{expr_at};
 ghost use Rattle.lay_read_tokens.specs.Answers.{IsFound};
@@ -8,11 +8,11 @@ use lay_code::{Boxed, Expr, Place};
 use lay_read_tokens::{Ahead, Found, ReadNone};
 use std::alloc::Global;
 
-/// The rules of a level, over the reader of expressions one level deeper, at a place.
+/// The rules of one level, over the reader of expressions of the next deeper level, at a place.
 #[derive(Drop)]
 pub struct ExprRules<P> {
     pub alloc: Global,
-    /// At this depth what is one level deeper is read.
+    /// The depth limit of the next deeper level.
     pub depth: u32,
     pub exprs: P,
 }
@@ -20,7 +20,7 @@ pub struct ExprRules<P> {
 impl<P: Fn(Global, &mut Ahead<'_>, Place, u32) -> Result<Found<Boxed<Expr>>, ReadNone>> ExprRules<
     P,
 > {
-    /// An expression one level deeper, in its box.
+    /// Parses an expression of the next deeper level, and boxes it.
     #[inline(never)]
     pub fn inner(&self, at: &mut Ahead<'_>, place: Place) -> Result<Found<Boxed<Expr>>, ReadNone>
         requires { AreExprs self.now.depth (P.pre self.now.exprs) (P.post self.now.exprs) }

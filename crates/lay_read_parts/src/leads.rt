@@ -1,4 +1,4 @@
-//! What the tokens ahead begin.
+//! Lookahead: what kind of node the next tokens begin.
 ghost use Rattle.std.specs.Prelude.{◌≡◌, option_map};
 ghost use Rattle.lay_piece.specs.Word.{class_of};
 ghost use Rattle.lay_node.specs.Begins.{is_literal_token};
@@ -16,7 +16,7 @@ use lay_read_tokens::front::{is_at_closer, is_at_keyword, is_at_mark, is_at_open
 use lay_token::word::{Class, word_class};
 use lay_token::{Delim, Kind, Token};
 
-/// What begins a type.
+/// The tokens that can begin a type.
 #[derive(Clone, Copy)]
 pub enum Lead {
     Path,
@@ -31,7 +31,7 @@ pub enum Lead {
     Func,
 }
 
-/// What the tokens ahead begin, if it is a type.
+/// How a type begins with the next tokens, if one does.
 #[tactic(auto, unfolding(lay_node::specs::Begins::lead_at))]
 pub fn lead_at(at: &Ahead<'_>) -> Option<Lead>
     ensures { option_map told result ≡ begins.lead_at at.now }
@@ -50,7 +50,7 @@ pub fn lead_at(at: &Ahead<'_>) -> Option<Lead>
     }
 }
 
-/// What a word begins, if it is a type.
+/// How a type begins with this word, if one does.
 fn lead_of_word(word: &[u8]) -> Option<Lead>
     ensures { option_map told result ≡ begins.lead_of_word word.now }
 {
@@ -71,7 +71,7 @@ fn lead_of_word(word: &[u8]) -> Option<Lead>
     }
 }
 
-/// What punctuation begins, if it is a type.
+/// How a type begins with this punctuation, if one does.
 fn lead_of_punct(character: &[u8], at: &Ahead<'_>) -> Option<Lead>
     ensures { option_map told result ≡ begins.lead_of_punct character.now at.now }
 {
@@ -131,21 +131,21 @@ pub(crate) fn begins_fn_param(at: &Ahead<'_>) -> bool
     !is_at_closer(at, Delim::Paren)
 }
 
-/// Whether a field in the pattern of a struct comes next.
+/// Whether a field of a struct pattern comes next.
 pub(crate) fn begins_field(at: &Ahead<'_>) -> bool
     ensures { result ≡ patterns.begins_field at.now }
 {
     !(is_at_closer(at, Delim::Brace) || at.op_is(b".."))
 }
 
-/// Whether generic arguments open at the beginning.
+/// Whether generic arguments open with the next token.
 pub fn opens_args(at: &Ahead<'_>) -> bool
     ensures { result ≡ ahead.opens_args at.now }
 {
     at.op_is(b"<") || at.op_is(b"<<") || at.op_is(b"<-")
 }
 
-/// Whether generic arguments open after a `::` at the beginning.
+/// Whether a `::` comes next, and then generic arguments open.
 pub fn opens_args_late(at: &Ahead<'_>) -> bool
     ensures { result ≡ ahead.opens_args_late at.now }
 {
@@ -194,7 +194,7 @@ pub fn is_at_number(at: &Ahead<'_>) -> bool
     }
 }
 
-/// Whether a generic argument that is a constant comes next.
+/// Whether a const generic argument comes next.
 pub fn begins_const(at: &Ahead<'_>) -> bool
     ensures { result ≡ reader.begins_const at.now }
 {

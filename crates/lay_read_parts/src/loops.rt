@@ -1,4 +1,4 @@
-//! The loops of all rules, over a function that reads one part.
+//! The loops over lists and chains, which are given a reader of parts.
 ghost use Rattle.std.specs.Prelude.{◌≡◌, ◌≤◌, ℕ, if◌then◌else◌, drop, length, IfOk, Some, None};
 ghost use Rattle.lay_token.specs.Operators.{is_op};
 ghost use Rattle.lay_node.specs.Ahead.{Tokens, first, tail};
@@ -17,7 +17,7 @@ use lay_read_tokens::{Ahead, Found, ReadNone};
 use lay_token::{Delim, List};
 use std::alloc::Global;
 
-/// What closes a list.
+/// The token that closes a list.
 #[derive(Clone, Copy)]
 pub enum Closer {
     Group(Delim),
@@ -27,7 +27,7 @@ pub enum Closer {
     Bar,
 }
 
-/// What stands between the parts of a chain.
+/// The operator between the parts of a chain.
 #[derive(Clone, Copy)]
 pub enum Joint {
     /// `+`
@@ -38,25 +38,25 @@ pub enum Joint {
     Bar,
 }
 
-/// What goes on as long as a part of it begins.
+/// A list without a closing token, which goes on as long as a further part begins.
 #[derive(Clone, Copy)]
 pub enum Opening {
     /// The parameters of a function type.
     Param,
     /// A where clause.
     Predicate,
-    /// The fields in the pattern of a struct.
+    /// The fields of a struct pattern.
     Field,
     /// The parameters of a function.
     FnParam,
 }
 
-/// How parts are read within a depth and at a place.
+/// A reader of parts, which are read within a depth and at a place.
 pub trait Part<T, X> {
     ghost reads: { ℕ → X → Tokens → Read T };
 }
 
-/// Whether what closes the list comes next.
+/// Whether the token that closes the list comes next.
 fn is_at_end(at: &Ahead<'_>, closer: Closer) -> bool
     ensures { result ≡ first (closed_by closer) at.now }
 {
@@ -67,7 +67,7 @@ fn is_at_end(at: &Ahead<'_>, closer: Closer) -> bool
     }
 }
 
-/// Passes what closes the list, if it comes next.
+/// Moves past the token that closes the list if it comes next, and says whether it did.
 fn takes_end(at: &mut Ahead<'_>, closer: Closer) -> bool
     ensures found { result ≡ first (closed_by closer) at.old }
     ensures passed { at.new ≡ (if result then tail at.old else at.old) }
@@ -79,14 +79,15 @@ fn takes_end(at: &mut Ahead<'_>, closer: Closer) -> bool
     }
 }
 
-/// After an element a `,` is passed, and where there is none what closes the list stands.
+/// Moves past a `,` after an element. Without a `,` it says whether the token that closes the list
+/// comes next.
 fn takes_element_end(at: &mut Ahead<'_>, closer: Closer) -> bool
     ensures { (if result then Some at.new else None) ≡ element_end (closed_by closer) at.old }
 {
     takes_mark(at, b",") || is_at_end(at, closer)
 }
 
-/// Passes what stands between two parts, if it comes next.
+/// Moves past the operator of the chain if it comes next, and says whether it did.
 fn takes_joint(at: &mut Ahead<'_>, joint: Joint) -> bool
     ensures found { result ≡ is_op (joined_by joint) at.old }
     ensures passed { at.new ≡ (if result then drop (length (joined_by joint)) at.old else at.old) }
@@ -98,7 +99,7 @@ fn takes_joint(at: &mut Ahead<'_>, joint: Joint) -> bool
     }
 }
 
-/// Elements with commas, and what closes them.
+/// Parses elements with commas between them, and the token that closes the list.
 pub fn read_elements<
     P: Part<T, X>,
     R,
@@ -132,7 +133,7 @@ pub fn read_elements<
     Ok(Found { node: nodes, need })
 }
 
-/// Parts with what stands between them, one at least.
+/// Parses a chain of at least one part, with the operator between the parts.
 pub fn read_chain<
     P: Part<T, X>,
     R,
@@ -164,7 +165,7 @@ pub fn read_chain<
     Ok(Found { node: nodes, need })
 }
 
-/// Whether a part that goes on comes next.
+/// Whether a further part begins with the next tokens.
 fn goes_on(at: &Ahead<'_>, opening: Opening) -> bool
     ensures { result ≡ begins_part opening at.now }
 {
@@ -176,7 +177,8 @@ fn goes_on(at: &Ahead<'_>, opening: Opening) -> bool
     }
 }
 
-/// Elements with commas as long as one begins; and whether a comma stands after the last of them, or there is none.
+/// Parses elements with commas between them, as long as one begins. The flag says that a comma
+/// follows the last one, or that there is none.
 pub fn read_open_elements<
     P: Part<T, X>,
     R,

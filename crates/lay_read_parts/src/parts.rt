@@ -1,4 +1,4 @@
-//! Lifetimes, literals, binders, constants and ABIs.
+//! Parsing of lifetimes, literals, binders, const arguments and ABIs.
 ghost use Rattle.std.specs.Prelude.{◌≡◌, ◌≤◌, codes, IfOk};
 ghost use Rattle.lay_node.specs.Ahead.{first, is_keyword, is_lifetime, is_mark};
 ghost use Rattle.lay_node.specs.nodes.Types as nodes;
@@ -24,7 +24,7 @@ use lay_read_tokens::{Ahead, Found, ReadNone};
 use lay_token::{Delim, List, NoMemory};
 use std::alloc::Global;
 
-/// A lifetime.
+/// Parses a lifetime.
 #[tactic(auto, unfolding(lay_node::specs::reader::Types::lifetime))]
 pub fn read_lifetime(alloc: Global, at: &mut Ahead<'_>) -> Result<Lifetime, ReadNone>
     ensures { IsGot (reader.lifetime at.old) result at.new }
@@ -41,7 +41,7 @@ pub fn read_lifetime(alloc: Global, at: &mut Ahead<'_>) -> Result<Lifetime, Read
     Ok(Lifetime { text })
 }
 
-/// A lifetime, if one comes next.
+/// Parses a lifetime, if one comes next.
 pub fn read_lifetime_if(alloc: Global, at: &mut Ahead<'_>) -> Result<Option<Lifetime>, ReadNone>
     ensures { IsGot (reader.if_there (first is_lifetime at.old) reader.lifetime at.old) result
         at.new }
@@ -53,14 +53,14 @@ pub fn read_lifetime_if(alloc: Global, at: &mut Ahead<'_>) -> Result<Option<Life
     Ok(Some(lifetime))
 }
 
-/// Lifetimes, as parts of a chain.
+/// Lifetimes as the parts of a chain.
 struct Lifetimes;
 
 impl Part<Lifetime, ()> for Lifetimes {
     ghost reads = { λ depth place ts. needless reader.lifetime 0 ts };
 }
 
-/// A lifetime, which needs no depth.
+/// Parses a lifetime, which needs no depth.
 fn free_lifetime(
     alloc: &Global,
     at: &mut Ahead<'_>,
@@ -73,7 +73,7 @@ fn free_lifetime(
     Ok(Found { node, need: 0 })
 }
 
-/// Lifetimes after a `:`.
+/// Parses the lifetimes after a `:`.
 #[tactic(auto, using(crate::proofs::Left::lifetime_free))]
 pub fn read_lifetimes(alloc: Global, at: &mut Ahead<'_>) -> Result<List<Lifetime>, ReadNone>
     ensures { IsGot (reader.lifetimes at.old) result at.new }
@@ -93,7 +93,7 @@ pub fn read_lifetimes(alloc: Global, at: &mut Ahead<'_>) -> Result<List<Lifetime
     Ok(found.node)
 }
 
-/// What a lifetime outlives, if anything is said of it.
+/// Parses the bounds of a lifetime, if it has any.
 fn read_outlived(alloc: Global, at: &mut Ahead<'_>) -> Result<List<Lifetime>, ReadNone>
     ensures { IsGot (reader.outlived at.old) result at.new }
 {
@@ -104,7 +104,7 @@ fn read_outlived(alloc: Global, at: &mut Ahead<'_>) -> Result<List<Lifetime>, Re
     }
 }
 
-/// A lifetime that is a parameter, after its attributes.
+/// Parses a lifetime parameter; its attributes were read.
 #[tactic(auto, unfolding(lay_node::specs::reader::Types::lifetime_behind))]
 pub fn read_lifetime_behind(
     alloc: Global,
@@ -122,7 +122,7 @@ pub fn read_lifetime_behind(
     })
 }
 
-/// A lifetime that is a parameter, with its attributes.
+/// Parses a lifetime parameter with its attributes.
 fn read_lifetime_param(alloc: Global, at: &mut Ahead<'_>) -> Result<LifetimeParam, ReadNone>
     ensures { IsGot (reader.lifetime_param at.old) result at.new }
 {
@@ -130,14 +130,14 @@ fn read_lifetime_param(alloc: Global, at: &mut Ahead<'_>) -> Result<LifetimePara
     read_lifetime_behind(alloc, at, attrs)
 }
 
-/// Lifetimes that are parameters, as elements of a list.
+/// Lifetime parameters as the elements of a list.
 struct LifetimeParams;
 
 impl Part<LifetimeParam, ()> for LifetimeParams {
     ghost reads = { λ depth place ts. needless reader.lifetime_param 0 ts };
 }
 
-/// A lifetime that is a parameter, which needs no depth.
+/// Parses a lifetime parameter, which needs no depth.
 fn free_param(
     alloc: &Global,
     at: &mut Ahead<'_>,
@@ -150,7 +150,7 @@ fn free_param(
     Ok(Found { node, need: 0 })
 }
 
-/// The parameters of a binder, after its `<`.
+/// Parses the parameters of a binder, after its `<`.
 #[tactic(auto, using(crate::proofs::Left::param_free))]
 fn read_params(alloc: Global, at: &mut Ahead<'_>) -> Result<List<LifetimeParam>, ReadNone>
     ensures { IsGot (elements (is_mark (codes ">")) reader.lifetime_param at.old) result at.new }
@@ -167,7 +167,7 @@ fn read_params(alloc: Global, at: &mut Ahead<'_>) -> Result<List<LifetimeParam>,
     Ok(found.node)
 }
 
-/// A binder, if one comes next.
+/// Parses a binder, if one comes next.
 #[tactic(auto, unfolding(lay_node::specs::reader::Types::binder))]
 pub fn read_binder_if(alloc: Global, at: &mut Ahead<'_>) -> Result<Option<Binder>, ReadNone>
     ensures { IsGot (reader.binder_if at.old) result at.new }
@@ -182,14 +182,14 @@ pub fn read_binder_if(alloc: Global, at: &mut Ahead<'_>) -> Result<Option<Binder
     Ok(Some(Binder { params }))
 }
 
-/// Whether a word may be captured: a name, or `Self`.
+/// Whether the word may stand in `use<..>`: a name, or `Self`.
 fn is_captured(word: &Word) -> bool
     ensures { result ≡ nodes.is_captured word.now }
 {
     word.raw || is_plain(word.text.as_bytes()) || word.text.as_bytes() == b"Self".as_slice()
 }
 
-/// A lifetime or a word that is captured.
+/// Parses a lifetime or a word in `use<..>`.
 #[tactic(auto, unfolding(lay_node::specs::reader::Types::one_capture))]
 fn read_capture(alloc: Global, at: &mut Ahead<'_>) -> Result<Capture, ReadNone>
     ensures { IsGot (reader.one_capture at.old) result at.new }
@@ -206,14 +206,14 @@ fn read_capture(alloc: Global, at: &mut Ahead<'_>) -> Result<Capture, ReadNone>
     }
 }
 
-/// What is captured, as elements of a list.
+/// The arguments of `use<..>` as the elements of a list.
 struct Captures;
 
 impl Part<Capture, ()> for Captures {
     ghost reads = { λ depth place ts. needless reader.one_capture 0 ts };
 }
 
-/// A lifetime or a word that is captured, which needs no depth.
+/// Parses a lifetime or a word in `use<..>`, which needs no depth.
 fn free_capture(alloc: &Global, at: &mut Ahead<'_>, _place: ()) -> Result<Found<Capture>, ReadNone>
     ensures read { IsFound (needless reader.one_capture 0 at.old) result at.new }
     ensures within { IfOk result (λ found. found.need ≤ 0) }
@@ -222,7 +222,7 @@ fn free_capture(alloc: &Global, at: &mut Ahead<'_>, _place: ()) -> Result<Found<
     Ok(Found { node, need: 0 })
 }
 
-/// What is captured, after its `<`.
+/// Parses the arguments of `use<..>`, after the `<`.
 #[tactic(auto, using(crate::proofs::Left::capture_free))]
 fn read_captured(alloc: Global, at: &mut Ahead<'_>) -> Result<List<Capture>, ReadNone>
     ensures { IsGot (elements (is_mark (codes ">")) reader.one_capture at.old) result at.new }
@@ -239,7 +239,7 @@ fn read_captured(alloc: Global, at: &mut Ahead<'_>) -> Result<List<Capture>, Rea
     Ok(found.node)
 }
 
-/// What is captured, after `use`.
+/// Parses the `<..>` of `use<..>`.
 pub fn read_captures(alloc: Global, at: &mut Ahead<'_>) -> Result<List<Capture>, ReadNone>
     ensures { IsGot (reader.angled reader.one_capture at.old) result at.new }
 {
@@ -249,7 +249,7 @@ pub fn read_captures(alloc: Global, at: &mut Ahead<'_>) -> Result<List<Capture>,
     read_captured(alloc, at)
 }
 
-/// The first token as a literal, if it passes.
+/// The next token as a literal, if `passes`.
 pub fn read_literal(alloc: Global, at: &mut Ahead<'_>, passes: bool) -> Result<Literal, ReadNone>
     ensures { IsGot (literal_if passes at.old) result at.new }
 {
@@ -268,7 +268,7 @@ pub fn read_literal(alloc: Global, at: &mut Ahead<'_>, passes: bool) -> Result<L
     })
 }
 
-/// A generic argument that is a constant.
+/// Parses a const generic argument.
 #[tactic(auto, using(crate::proofs::Steps::const_literal, crate::proofs::Steps::const_other))]
 pub fn read_const(alloc: Global, at: &mut Ahead<'_>) -> Result<ConstArg, ReadNone>
     ensures { IsGot (reader.const at.old) result at.new }
@@ -283,7 +283,7 @@ pub fn read_const(alloc: Global, at: &mut Ahead<'_>) -> Result<ConstArg, ReadNon
     }
 }
 
-/// A number, after its `-`.
+/// Parses the number after a `-`.
 #[tactic(auto, using(crate::proofs::Steps::literal_is))]
 fn read_negative(alloc: Global, at: &mut Ahead<'_>) -> Result<ConstArg, ReadNone>
     ensures { IsGot (reader.negative at.old) result at.new }
@@ -293,7 +293,7 @@ fn read_negative(alloc: Global, at: &mut Ahead<'_>) -> Result<ConstArg, ReadNone
     Ok(ConstArg::Negative(literal))
 }
 
-/// A constant in braces.
+/// Parses a const argument in braces.
 fn read_braces(alloc: Global, at: &mut Ahead<'_>) -> Result<ConstArg, ReadNone>
     ensures { IsGot (reader.braces at.old) result at.new }
 {
@@ -322,7 +322,7 @@ fn is_at_string(alloc: Global, at: &Ahead<'_>) -> Result<bool, ReadNone>
     }
 }
 
-/// An ABI, after `extern`.
+/// Parses the string of an ABI, after `extern`.
 #[tactic(auto, using(crate::proofs::Steps::literal_is))]
 fn read_abi_name(alloc: Global, at: &mut Ahead<'_>) -> Result<Option<Literal>, ReadNone>
     ensures { IsGot (reader.if_there (first reader.is_string_token at.old)
@@ -335,7 +335,7 @@ fn read_abi_name(alloc: Global, at: &mut Ahead<'_>) -> Result<Option<Literal>, R
     Ok(Some(name))
 }
 
-/// An ABI, if one comes next.
+/// Parses an ABI, if one comes next.
 #[tactic(auto, unfolding(lay_node::specs::reader::Types::abi))]
 pub fn read_abi_if(alloc: Global, at: &mut Ahead<'_>) -> Result<Option<Abi>, ReadNone>
     ensures { IsGot (reader.if_there (first (is_keyword (codes "extern")) at.old) reader.abi at.old)

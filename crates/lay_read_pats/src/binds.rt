@@ -1,4 +1,4 @@
-//! Names that are bound.
+//! Parsing of bindings.
 ghost use Rattle.std.specs.Prelude.{◌≡◌, ◌+◌, ◌≤◌, IfOk};
 ghost use Rattle.lay_node.specs.reader.Patterns as reader;
 ghost use Rattle.lay_read_tokens.specs.Answers.{IsFound};
@@ -12,14 +12,14 @@ use lay_read_tokens::names::read_name;
 use lay_read_tokens::{Ahead, Found, ReadNone};
 use std::alloc::Global;
 
-/// Whether a name after `ref` or `mut` comes next.
+/// Whether a binding comes next that begins with `ref` or `mut`.
 pub fn begins_bind(at: &Ahead<'_>) -> bool
     ensures { result ≡ reader.begins_bind at.now }
 {
     is_at_keyword(at, b"ref") || is_at_keyword(at, b"mut")
 }
 
-/// A name that is bound, if neither `::` nor `!` stands after it.
+/// The binding that was read, if neither `::` nor `!` follows.
 fn bound(at: &Ahead<'_>, found: Found<Pat>) -> Result<Found<Pat>, ReadNone>
     ensures read { IsFound (reader.bound (found.node, found.need) at.now) result at.now }
     ensures within { IfOk result (λ read. read.need ≡ found.need) }
@@ -32,7 +32,7 @@ fn bound(at: &Ahead<'_>, found: Found<Pat>) -> Result<Found<Pat>, ReadNone>
 }
 
 impl<P: Fn(Global, &mut Ahead<'_>, PatPlace, u32) -> Result<Found<Pat>, ReadNone>> PatRules<P> {
-    /// What a name is bound to, after it.
+    /// Parses the `@` and the pattern of a binding, if they come next.
     #[tactic(auto, unfolding(lay_node::specs::reader::Patterns::bind))]
     pub fn bind(
         &self,
@@ -72,7 +72,7 @@ impl<P: Fn(Global, &mut Ahead<'_>, PatPlace, u32) -> Result<Found<Pat>, ReadNone
         }
     }
 
-    /// A name after `ref` or `mut`, or both.
+    /// Parses a binding that begins with `ref` or `mut`.
     #[tactic(auto, unfolding(lay_node::specs::reader::Patterns::marked_bind), using(crate::proofs::Steps::flag_found, crate::proofs::Steps::flag_rest))]
     pub fn marked_bind(&self, at: &mut Ahead<'_>) -> Result<Found<Pat>, ReadNone>
         requires { ArePats self.now.depth (P.pre self.now.pats) (P.post self.now.pats) }

@@ -1,4 +1,4 @@
-//! What the rules ask of a pattern or a path that was read.
+//! Facts about patterns and paths that the rules need.
 ghost use Rattle.std.specs.Prelude.{◌≡◌, option_copied};
 ghost use Rattle.lay_node.specs.Words as words;
 ghost use Rattle.lay_node.specs.nodes.Patterns as nodes;
@@ -8,7 +8,7 @@ ghost use Rattle.lay_node.specs.nodes.Types as types;
 use lay_node::{Args, Pat, Path, PathStart, Word};
 use lay_token::word::{Class, word_class};
 
-/// Whether the pattern is a name that is bound, with nothing after it.
+/// Whether the pattern is a name alone, which it binds.
 #[tactic(auto, using(crate::proofs::Steps::short_is))]
 pub(crate) fn is_short(pat: &Pat) -> bool
     ensures { result ≡ (about_pat pat.now).short }
@@ -19,7 +19,7 @@ pub(crate) fn is_short(pat: &Pat) -> bool
     }
 }
 
-/// Whether the pattern is a span.
+/// Whether the pattern is a range.
 #[tactic(auto, using(crate::proofs::Steps::span_is))]
 pub(crate) fn is_span(pat: &Pat) -> bool
     ensures { result ≡ (about_pat pat.now).span }
@@ -35,7 +35,7 @@ pub fn is_rest(pat: &Pat) -> bool
     matches!(pat, Pat::Rest)
 }
 
-/// The word that the path is, without arguments.
+/// The word of a path that is one word without generic arguments.
 pub(crate) fn lone_word(path: &Path) -> Option<&Word>
     ensures { option_copied result ≡ types.lone_word path.now }
 {

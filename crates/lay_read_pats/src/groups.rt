@@ -1,4 +1,4 @@
-//! Patterns in delimiters, and references.
+//! Parsing of patterns in delimiters, and of reference patterns.
 ghost use Rattle.std.specs.Prelude.{◌≡◌, ◌+◌, ◌^◌, ◌<◌, ◌≤◌, ◌∷◌, [], max, IfOk};
 ghost use Rattle.lay_node.specs.Ahead.{closes};
 ghost use Rattle.lay_node.specs.declared.patterns.PatPlace.TheVariants.{Alternatives};
@@ -20,7 +20,7 @@ use lay_read_tokens::{Ahead, Found, ReadNone};
 use lay_token::{Delim, List};
 use std::alloc::Global;
 
-/// Patterns one level deeper, as elements of a list.
+/// Patterns of the next deeper level as the elements of a list.
 pub struct Elements;
 
 impl Part<Pat, PatPlace> for Elements {
@@ -36,7 +36,7 @@ fn only(alloc: Global, pat: Pat) -> Result<List<Pat>, ReadNone>
     Ok(pats)
 }
 
-/// A pattern alone in parentheses, after it and the `)`: `..` is the one element of a tuple.
+/// A pattern alone in parentheses, which were read: a tuple if it is `..`, else in parentheses.
 fn alone_of(alloc: Global, at: &Ahead<'_>, found: Found<Pat>) -> Result<Found<Pat>, ReadNone>
     requires { found.need + 1 < 2 ^ 32 }
     ensures read { IsFound (reader.alone_of (found.node, found.need) at.now) result at.now }
@@ -57,7 +57,7 @@ fn alone_of(alloc: Global, at: &Ahead<'_>, found: Found<Pat>) -> Result<Found<Pa
     })
 }
 
-/// A tuple of a first element and the others. One that is `..` alone has no comma.
+/// A tuple pattern of a first element and the others. After `..` alone it has no comma.
 fn tuple_of(
     at: &Ahead<'_>,
     first: Found<Pat>,
@@ -81,7 +81,7 @@ fn tuple_of(
 }
 
 impl<P: Fn(Global, &mut Ahead<'_>, PatPlace, u32) -> Result<Found<Pat>, ReadNone>> PatRules<P> {
-    /// Patterns with commas, and the closing delimiter after them.
+    /// Parses patterns with commas between them, and the closing delimiter.
     #[tactic(auto, using(crate::proofs::Left::alternatives_leave))]
     pub fn elements(&self, at: &mut Ahead<'_>, delim: Delim) -> Result<Found<List<Pat>>, ReadNone>
         requires { ArePats self.now.depth (P.pre self.now.pats) (P.post self.now.pats) }
@@ -100,7 +100,7 @@ impl<P: Fn(Global, &mut Ahead<'_>, PatPlace, u32) -> Result<Found<Pat>, ReadNone
         )
     }
 
-    /// What follows a `&`.
+    /// Parses a pattern after its `&`.
     #[tactic(auto, unfolding(lay_node::specs::reader::Patterns::ref_pat), using(crate::proofs::Steps::flag_found, crate::proofs::Steps::flag_rest))]
     pub fn ref_pat(&self, at: &mut Ahead<'_>) -> Result<Found<Pat>, ReadNone>
         requires { ArePats self.now.depth (P.pre self.now.pats) (P.post self.now.pats) }
@@ -120,7 +120,7 @@ impl<P: Fn(Global, &mut Ahead<'_>, PatPlace, u32) -> Result<Found<Pat>, ReadNone
         })
     }
 
-    /// What follows a `[`.
+    /// Parses a pattern after its `[`.
     #[tactic(auto, unfolding(lay_node::specs::reader::Patterns::slice_pat))]
     pub fn slice_pat(&self, at: &mut Ahead<'_>) -> Result<Found<Pat>, ReadNone>
         requires { ArePats self.now.depth (P.pre self.now.pats) (P.post self.now.pats) }
@@ -137,7 +137,7 @@ impl<P: Fn(Global, &mut Ahead<'_>, PatPlace, u32) -> Result<Found<Pat>, ReadNone
         })
     }
 
-    /// What follows a `(`.
+    /// Parses a pattern after its `(`.
     #[tactic(auto, unfolding(lay_node::specs::reader::Patterns::paren_pat))]
     pub fn paren_pat(&self, at: &mut Ahead<'_>) -> Result<Found<Pat>, ReadNone>
         requires { ArePats self.now.depth (P.pre self.now.pats) (P.post self.now.pats) }
@@ -156,7 +156,7 @@ impl<P: Fn(Global, &mut Ahead<'_>, PatPlace, u32) -> Result<Found<Pat>, ReadNone
         self.paren_by(at, first)
     }
 
-    /// What follows a `(` and a pattern.
+    /// Parses a pattern after its `(` and the first pattern in it.
     fn paren_by(&self, at: &mut Ahead<'_>, first: Found<Pat>) -> Result<Found<Pat>, ReadNone>
         requires deeper { ArePats self.now.depth (P.pre self.now.pats) (P.post self.now.pats) }
         requires within { first.need ≤ self.now.depth }

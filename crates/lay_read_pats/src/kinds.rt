@@ -1,4 +1,4 @@
-//! Each kind of pattern, told from what begins it.
+//! Parsing of each kind of pattern, by its first token.
 ghost use Rattle.std.specs.Prelude.{◌≡◌, ◌+◌, ◌≤◌, IfOk};
 ghost use Rattle.lay_node.specs.Follow as follow;
 ghost use Rattle.lay_node.specs.reader.Patterns as reader;
@@ -17,7 +17,7 @@ use lay_read_types::types::begins_call;
 use lay_token::Delim;
 use std::alloc::Global;
 
-/// A macro call that is a pattern.
+/// Parses a macro call as a pattern.
 fn call_pat(alloc: Global, at: &mut Ahead<'_>) -> Result<Found<Pat>, ReadNone>
     ensures read { IsFound (reader.call_pat at.old) result at.new }
     ensures within { IfOk result (λ found. found.need ≡ 1) }
@@ -29,7 +29,7 @@ fn call_pat(alloc: Global, at: &mut Ahead<'_>) -> Result<Found<Pat>, ReadNone>
     })
 }
 
-/// Whether what no pattern is followed by comes next.
+/// Whether a token comes next that can't follow a pattern.
 fn goes_on(at: &Ahead<'_>) -> bool
     ensures { result ≡ follow.goes_on_pattern at.now }
 {
@@ -37,7 +37,7 @@ fn goes_on(at: &Ahead<'_>) -> bool
 }
 
 impl<P: Fn(Global, &mut Ahead<'_>, PatPlace, u32) -> Result<Found<Pat>, ReadNone>> PatRules<P> {
-    /// A pattern that isn't followed by what goes on with one.
+    /// Parses a pattern that isn't an alternation, and that nothing goes on with.
     pub fn single_by(&self, at: &mut Ahead<'_>) -> Result<Found<Pat>, ReadNone>
         requires { ArePats self.now.depth (P.pre self.now.pats) (P.post self.now.pats) }
         ensures read { IsFound (reader.single_by (pats_within self.now.depth) at.old) result
@@ -52,7 +52,7 @@ impl<P: Fn(Global, &mut Ahead<'_>, PatPlace, u32) -> Result<Found<Pat>, ReadNone
         }
     }
 
-    /// A pattern, told from what begins it.
+    /// Parses a pattern by its first token.
     #[tactic(auto, unfolding(lay_node::specs::reader::Patterns::pat_by), using(crate::proofs::Steps::underscore_is))]
     fn pat_by(&self, at: &mut Ahead<'_>) -> Result<Found<Pat>, ReadNone>
         requires { ArePats self.now.depth (P.pre self.now.pats) (P.post self.now.pats) }
@@ -83,7 +83,7 @@ impl<P: Fn(Global, &mut Ahead<'_>, PatPlace, u32) -> Result<Found<Pat>, ReadNone
         }
     }
 
-    /// A pattern that begins with a word, or with what a path begins with.
+    /// Parses a pattern that begins with a word or a path.
     fn word_led(&self, at: &mut Ahead<'_>) -> Result<Found<Pat>, ReadNone>
         requires { ArePats self.now.depth (P.pre self.now.pats) (P.post self.now.pats) }
         ensures read { IsFound (reader.word_led (pats_within self.now.depth) at.old) result at.new }

@@ -1,7 +1,7 @@
-//! From nested tokens to patterns.
+//! Parsing of patterns.
 //!
-//! Each reader is proved equal to a function of the tokens ahead that `lay_node` defines, and that function reads what
-//! is spelled and nothing else.
+//! Each reader is proved equal to a function of the tokens ahead that `lay_node` defines. That
+//! function reads exactly what the grammar spells.
 #![tactic(auto)]
 
 mod binds;

@@ -1,4 +1,4 @@
-//! Patterns at their places.
+//! The recursion: patterns at their places, within a depth limit.
 ghost use Rattle.std.specs.Prelude.{◌≡◌, ◌≤◌, codes, IfOk};
 ghost use Rattle.lay_node.specs.reader.Patterns.{pat_at, single_at};
 ghost use Rattle.lay_node.specs.reader.Types.{chain};
@@ -13,21 +13,21 @@ use lay_read_tokens::{Ahead, Found, ReadNone};
 use lay_token::List;
 use std::alloc::Global;
 
-/// A depth, at which alternatives are read.
+/// The depth limit at which alternatives are read.
 #[derive(Clone, Copy)]
 struct Level {
     alloc: Global,
     depth: u32,
 }
 
-/// Patterns without alternatives, as parts of a chain.
+/// Single patterns as the parts of an alternation.
 struct Singles;
 
 impl Part<Pat, ()> for Singles {
     ghost reads = { λ depth place ts. single_at depth ts };
 }
 
-/// A pattern at its place, within a depth.
+/// Parses a pattern at its place, within `depth` levels.
 #[cycle(pats)]
 pub fn pat_ahead(
     alloc: Global,
@@ -48,7 +48,7 @@ pub fn pat_ahead(
     }
 }
 
-/// A pattern without alternatives, within a depth.
+/// Parses a pattern that is no alternation, within `depth` levels.
 #[cycle(pats)]
 #[tactic(auto, unfolding(lay_node::specs::reader::Patterns::single_at))]
 pub fn single_ahead(alloc: Global, at: &mut Ahead<'_>, depth: u32) -> Result<Found<Pat>, ReadNone>
@@ -66,7 +66,7 @@ pub fn single_ahead(alloc: Global, at: &mut Ahead<'_>, depth: u32) -> Result<Fou
     rules.single_by(at)
 }
 
-/// Patterns with a `|` between them, one at least.
+/// Parses one or more patterns with a `|` between them.
 #[cycle(pats)]
 #[tactic(auto, using(crate::proofs::Left::single_leaves))]
 fn alternatives(alloc: Global, at: &mut Ahead<'_>, depth: u32) -> Result<Found<List<Pat>>, ReadNone>
@@ -85,7 +85,7 @@ fn alternatives(alloc: Global, at: &mut Ahead<'_>, depth: u32) -> Result<Found<L
     )
 }
 
-/// One of several alternatives.
+/// Parses one of the alternatives.
 #[cycle(pats)]
 fn one_alternative(level: &Level, at: &mut Ahead<'_>, _place: ()) -> Result<Found<Pat>, ReadNone>
     ensures read { IsFound (single_at level.now.depth at.old) result at.new }
@@ -94,7 +94,8 @@ fn one_alternative(level: &Level, at: &mut Ahead<'_>, _place: ()) -> Result<Foun
     single_ahead(level.alloc, at, level.depth)
 }
 
-/// Alternatives, where there are several, which stand one level deeper, within the depth; and else the one pattern.
+/// The alternation of these patterns, which counts one level of depth more; or, if there is only
+/// one, that pattern.
 pub fn alternatives_of(
     at: &Ahead<'_>,
     found: Found<List<Pat>>,

@@ -1,4 +1,4 @@
-//! The pattern at a cursor.
+//! The public readers of patterns.
 ghost use Rattle.lay_node.specs.nodes.Patterns.{PatFront, about_pat};
 ghost use Rattle.lay_node.specs.declared.patterns.Pat.{Pat};
 ghost use Rattle.lay_node.specs.declared.patterns.PatPlace.TheVariants.{Alternatives, Single};
@@ -11,7 +11,8 @@ use lay_node::{Pat, PatPlace};
 use lay_read_tokens::{Ahead, ReadNone};
 use std::alloc::Global;
 
-/// The pattern at the beginning, which may be several alternatives, within a depth. Where there is none the cursor stays.
+/// Parses the next pattern, which may be an alternation, within `depth` levels. On an error the
+/// cursor doesn't move.
 pub fn read_pat(alloc: Global, at: &mut Cursor<'_>, depth: u32) -> Result<Pat, ReadNone>
     requires { AreLexed at.old }
     ensures { IsReadAt depth (λ (x : Pat). PatFront Alternatives (about_pat x)) at.old result
@@ -20,7 +21,8 @@ pub fn read_pat(alloc: Global, at: &mut Cursor<'_>, depth: u32) -> Result<Pat, R
     read_at(alloc, at, PatPlace::Alternatives, depth)
 }
 
-/// The pattern at the beginning, which is no alternatives, within a depth. Where there is none the cursor stays.
+/// Parses the next pattern that is no alternation, within `depth` levels. On an error the cursor
+/// doesn't move.
 pub fn read_pat_no_alt(alloc: Global, at: &mut Cursor<'_>, depth: u32) -> Result<Pat, ReadNone>
     requires { AreLexed at.old }
     ensures { IsReadAt depth (λ (x : Pat). PatFront Single (about_pat x)) at.old result at.new }
@@ -28,7 +30,8 @@ pub fn read_pat_no_alt(alloc: Global, at: &mut Cursor<'_>, depth: u32) -> Result
     read_at(alloc, at, PatPlace::Single, depth)
 }
 
-/// The pattern at the beginning, at its place and within a depth. Where there is none the cursor stays.
+/// Parses the next pattern at its place, within `depth` levels. On an error the cursor doesn't
+/// move.
 fn read_at(alloc: Global, at: &mut Cursor<'_>, place: PatPlace, depth: u32) -> Result<Pat, ReadNone>
     requires { AreLexed at.old }
     ensures { IsReadAt depth (λ (x : Pat). PatFront place (about_pat x)) at.old result at.new }

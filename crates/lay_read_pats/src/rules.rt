@@ -1,4 +1,4 @@
-//! The rules of a level, and how what is one level deeper is read.
+//! The rules of one level, over the reader of the next deeper level.
 ghost use Rattle.std.specs.Prelude.{◌≡◌, ◌≤◌, IfOk};
 ghost use Rattle.lay_node.specs.reader.Patterns.{pat_at};
 ghost use Rattle.lay_read_tokens.specs.Answers.{IsFound};
@@ -9,17 +9,17 @@ use lay_read_tokens::stop::boxed;
 use lay_read_tokens::{Ahead, Found, ReadNone};
 use std::alloc::Global;
 
-/// The rules of a level, over the reader of patterns one level deeper, at a place.
+/// The rules of one level, over the reader of patterns of the next deeper level.
 #[derive(Drop)]
 pub struct PatRules<P> {
     pub alloc: Global,
-    /// At this depth what is one level deeper is read.
+    /// The depth limit of the next deeper level.
     pub depth: u32,
     pub pats: P,
 }
 
 impl<P: Fn(Global, &mut Ahead<'_>, PatPlace, u32) -> Result<Found<Pat>, ReadNone>> PatRules<P> {
-    /// A pattern one level deeper.
+    /// Parses a pattern of the next deeper level.
     pub fn inner(&self, at: &mut Ahead<'_>, place: PatPlace) -> Result<Found<Pat>, ReadNone>
         requires { ArePats self.now.depth (P.pre self.now.pats) (P.post self.now.pats) }
         ensures read { IsFound (pat_at place self.now.depth at.old) result at.new }
@@ -28,7 +28,7 @@ impl<P: Fn(Global, &mut Ahead<'_>, PatPlace, u32) -> Result<Found<Pat>, ReadNone
         (self.pats)(self.alloc, at, place, self.depth)
     }
 
-    /// The same in a box.
+    /// Parses a pattern of the next deeper level, and boxes it.
     pub fn boxed_inner(
         &self,
         at: &mut Ahead<'_>,

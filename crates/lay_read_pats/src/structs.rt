@@ -1,4 +1,4 @@
-//! What begins with a path.
+//! Parsing of patterns that begin with a path.
 ghost use Rattle.std.specs.Prelude.{◌≡◌, ◌+◌, ◌^◌, ◌<◌, ◌≤◌, false, IfOk, is_some};
 ghost use Rattle.lay_node.specs.nodes.Types as types;
 ghost use Rattle.lay_node.specs.reader.Patterns as reader;
@@ -21,7 +21,7 @@ use lay_read_types::path_ahead;
 use lay_token::{Delim, Kind, List, Text};
 use std::alloc::Global;
 
-/// A path that is a pattern, if no `!` stands after it.
+/// The path as a pattern, if no `!` follows.
 fn plain_path(at: &Ahead<'_>, path: Found<Path>) -> Result<Found<Pat>, ReadNone>
     requires { path.need + 1 < 2 ^ 32 }
     ensures read { IsFound (reader.plain_path (path.node, path.need) at.now) result at.now }
@@ -36,7 +36,7 @@ fn plain_path(at: &Ahead<'_>, path: Found<Path>) -> Result<Found<Pat>, ReadNone>
     })
 }
 
-/// Whether the number of a field and a `:` come next.
+/// Whether a tuple index and a `:` come next.
 fn is_at_index(at: &Ahead<'_>) -> bool
     ensures { result ≡ is_some (reader.index at.now) }
 {
@@ -50,7 +50,7 @@ fn is_at_index(at: &Ahead<'_>) -> bool
     }
 }
 
-/// The number that a field is called by, and the `:` after it, if they come next.
+/// Parses a tuple index and the `:` after it, if they come next.
 pub fn read_index_if(alloc: Global, at: &mut Ahead<'_>) -> Result<Option<Text>, ReadNone>
     ensures { IsTried (reader.index at.old) at.old result at.new }
 {
@@ -65,7 +65,7 @@ pub fn read_index_if(alloc: Global, at: &mut Ahead<'_>) -> Result<Option<Text>, 
     }
 }
 
-/// Whether a name and a `:` after it come next.
+/// Whether a name and a `:` come next.
 #[tactic(auto, unfolding(lay_node::specs::reader::Words::name))]
 fn is_at_field_name(at: &Ahead<'_>) -> bool
     ensures { result ≡ is_some (reader.field_name at.now) }
@@ -75,7 +75,7 @@ fn is_at_field_name(at: &Ahead<'_>) -> bool
     is_at_name(at) && behind.op_is(b":")
 }
 
-/// A name with a `:` after it, if they come next.
+/// Parses a name and the `:` after it, if they come next.
 fn read_field_name_if(alloc: Global, at: &mut Ahead<'_>) -> Result<Option<Name>, ReadNone>
     ensures { IsTried (reader.field_name at.old) at.old result at.new }
 {
@@ -87,7 +87,7 @@ fn read_field_name_if(alloc: Global, at: &mut Ahead<'_>) -> Result<Option<Name>,
     Ok(Some(name))
 }
 
-/// Fields, as elements of the pattern of a struct.
+/// Fields as the elements of a struct pattern.
 pub struct Fields;
 
 impl Part<FieldPat, ()> for Fields {
@@ -95,7 +95,7 @@ impl Part<FieldPat, ()> for Fields {
 }
 
 impl<P: Fn(Global, &mut Ahead<'_>, PatPlace, u32) -> Result<Found<Pat>, ReadNone>> PatRules<P> {
-    /// A path, and what follows it.
+    /// Parses a pattern that begins with a path.
     #[tactic(auto, unfolding(lay_node::specs::reader::Patterns::path_pat))]
     pub fn path_pat(&self, at: &mut Ahead<'_>) -> Result<Found<Pat>, ReadNone>
         requires { ArePats self.now.depth (P.pre self.now.pats) (P.post self.now.pats) }
@@ -106,7 +106,7 @@ impl<P: Fn(Global, &mut Ahead<'_>, PatPlace, u32) -> Result<Found<Pat>, ReadNone
         self.path_by(at, path)
     }
 
-    /// What follows a path.
+    /// Parses a pattern after the path that it begins with.
     #[tactic(auto, unfolding(lay_node::specs::reader::Patterns::path_by))]
     fn path_by(&self, at: &mut Ahead<'_>, path: Found<Path>) -> Result<Found<Pat>, ReadNone>
         requires deeper { ArePats self.now.depth (P.pre self.now.pats) (P.post self.now.pats) }
@@ -130,7 +130,7 @@ impl<P: Fn(Global, &mut Ahead<'_>, PatPlace, u32) -> Result<Found<Pat>, ReadNone
         }
     }
 
-    /// A path with nothing after it: where it is one word that is a name, that is bound.
+    /// A path that nothing follows: a binding, if it is one word that is a name.
     fn word_pat(&self, at: &mut Ahead<'_>, path: Found<Path>) -> Result<Found<Pat>, ReadNone>
         requires deeper { ArePats self.now.depth (P.pre self.now.pats) (P.post self.now.pats) }
         requires within { path.need ≤ self.now.depth }
@@ -145,7 +145,7 @@ impl<P: Fn(Global, &mut Ahead<'_>, PatPlace, u32) -> Result<Found<Pat>, ReadNone
         }
     }
 
-    /// The word is a name that is bound.
+    /// Parses a binding of this word, which is a name.
     fn word_bind(&self, at: &mut Ahead<'_>, word: &Word) -> Result<Found<Pat>, ReadNone>
         requires { ArePats self.now.depth (P.pre self.now.pats) (P.post self.now.pats) }
         ensures read { IsFound (reader.bind (pats_within self.now.depth) false false
@@ -160,7 +160,7 @@ impl<P: Fn(Global, &mut Ahead<'_>, PatPlace, u32) -> Result<Found<Pat>, ReadNone
         self.bind(at, false, false, name)
     }
 
-    /// Elements in parentheses, after a path and the `(`.
+    /// Parses the elements of a tuple struct pattern, after its path and the `(`.
     fn tuple_struct(&self, at: &mut Ahead<'_>, path: Found<Path>) -> Result<Found<Pat>, ReadNone>
         requires deeper { ArePats self.now.depth (P.pre self.now.pats) (P.post self.now.pats) }
         requires within { path.need ≤ self.now.depth }
@@ -178,7 +178,7 @@ impl<P: Fn(Global, &mut Ahead<'_>, PatPlace, u32) -> Result<Found<Pat>, ReadNone
         })
     }
 
-    /// Fields in braces, after a path and the `{`.
+    /// Parses the fields of a struct pattern, after its path and the `{`.
     fn struct_pat(&self, at: &mut Ahead<'_>, path: Found<Path>) -> Result<Found<Pat>, ReadNone>
         requires deeper { ArePats self.now.depth (P.pre self.now.pats) (P.post self.now.pats) }
         requires within { path.need ≤ self.now.depth }
@@ -199,7 +199,7 @@ impl<P: Fn(Global, &mut Ahead<'_>, PatPlace, u32) -> Result<Found<Pat>, ReadNone
         })
     }
 
-    /// Fields after a `{`, and whether a `..` stands after them.
+    /// Parses fields after the `{`. The flag says that a `..` follows them.
     #[tactic(auto, unfolding(lay_node::specs::reader::Patterns::fields), using(crate::proofs::Left::field_leaves))]
     fn fields(&self, at: &mut Ahead<'_>) -> Result<Found<(List<FieldPat>, bool)>, ReadNone>
         requires { ArePats self.now.depth (P.pre self.now.pats) (P.post self.now.pats) }
@@ -230,7 +230,7 @@ impl<P: Fn(Global, &mut Ahead<'_>, PatPlace, u32) -> Result<Found<Pat>, ReadNone
         })
     }
 
-    /// A field, with its attributes.
+    /// Parses a field with its attributes.
     #[tactic(auto, unfolding(lay_node::specs::reader::Patterns::one_field))]
     fn one_field(&self, at: &mut Ahead<'_>, _place: ()) -> Result<Found<FieldPat>, ReadNone>
         requires { ArePats self.now.depth (P.pre self.now.pats) (P.post self.now.pats) }
@@ -246,7 +246,7 @@ impl<P: Fn(Global, &mut Ahead<'_>, PatPlace, u32) -> Result<Found<Pat>, ReadNone
         }
     }
 
-    /// A field after its number and the `:`.
+    /// Parses the pattern of a field after its tuple index and the `:`.
     fn index_field(
         &self,
         at: &mut Ahead<'_>,
@@ -269,7 +269,7 @@ impl<P: Fn(Global, &mut Ahead<'_>, PatPlace, u32) -> Result<Found<Pat>, ReadNone
         })
     }
 
-    /// A field that is called by its name, after its attributes.
+    /// Parses a field with a name; its attributes were read.
     fn named_field(
         &self,
         at: &mut Ahead<'_>,
@@ -287,7 +287,7 @@ impl<P: Fn(Global, &mut Ahead<'_>, PatPlace, u32) -> Result<Found<Pat>, ReadNone
         }
     }
 
-    /// A field after its name and the `:`.
+    /// Parses the pattern of a field after its name and the `:`.
     fn full_field(
         &self,
         at: &mut Ahead<'_>,
@@ -310,7 +310,7 @@ impl<P: Fn(Global, &mut Ahead<'_>, PatPlace, u32) -> Result<Found<Pat>, ReadNone
         })
     }
 
-    /// A field that is bound to its own name.
+    /// Parses a field that is bound to its own name.
     fn short_field(
         &self,
         at: &mut Ahead<'_>,

@@ -1,4 +1,4 @@
-//! Values, and spans of them.
+//! Parsing of literals in patterns, and of range patterns.
 ghost use Rattle.std.specs.Prelude.{◌≡◌, ◌+◌, ◌^◌, ◌<◌, ◌≤◌, drop, IfOk};
 ghost use Rattle.lay_node.specs.Begins as begins;
 ghost use Rattle.lay_node.specs.Follow as follow;
@@ -17,28 +17,28 @@ use lay_read_tokens::{Ahead, Found, ReadNone};
 use lay_read_types::path_ahead;
 use std::alloc::Global;
 
-/// Whether the `..` or `..=` of a span comes next.
+/// Whether the `..` or `..=` of a range pattern comes next.
 pub fn begins_dots(at: &Ahead<'_>) -> bool
     ensures { result ≡ follow.begins_dots at.now }
 {
     at.op_is(b"..") || at.op_is(b"..=")
 }
 
-/// Whether a value comes next.
+/// Whether a literal or a negative number comes next.
 pub fn begins_value(at: &Ahead<'_>) -> bool
     ensures { result ≡ begins.begins_value at.now }
 {
     is_at_literal(at) || is_at_mark(at, b"-")
 }
 
-/// Whether the end of a span comes next.
+/// Whether the end of a range pattern comes next.
 fn begins_span_end(at: &Ahead<'_>) -> bool
     ensures { result ≡ begins.begins_span_end at.now }
 {
     begins_value(at) || matches!(lead_at(at), Some(Lead::Path))
 }
 
-/// Passes three tokens, if there are so many.
+/// Moves past three tokens, or as many as there are.
 fn pass_three(at: &mut Ahead<'_>)
     ensures { at.new ≡ drop 3 at.old }
 {
@@ -46,7 +46,7 @@ fn pass_three(at: &mut Ahead<'_>)
     pass_two(at);
 }
 
-/// A literal, or a number after a `-`.
+/// Parses a literal, or a negative number.
 #[tactic(auto, using(crate::proofs::Steps::negative_value, crate::proofs::Steps::plain_value))]
 fn read_value(alloc: Global, at: &mut Ahead<'_>) -> Result<PatValue, ReadNone>
     ensures { IsGot (reader.value at.old) result at.new }
@@ -68,7 +68,7 @@ fn read_value(alloc: Global, at: &mut Ahead<'_>) -> Result<PatValue, ReadNone>
     }
 }
 
-/// An end of a span.
+/// Parses an end of a range pattern.
 #[tactic(auto, unfolding(lay_node::specs::reader::Patterns::one_end))]
 fn one_end(alloc: Global, at: &mut Ahead<'_>, depth: u32) -> Result<Found<SpanEnd>, ReadNone>
     ensures read { IsFound (reader.one_end (within depth) at.old) result at.new }
@@ -89,7 +89,7 @@ fn one_end(alloc: Global, at: &mut Ahead<'_>, depth: u32) -> Result<Found<SpanEn
     }
 }
 
-/// A span that ends, after its `..` or `..=`.
+/// Parses the end of a range pattern, after its `..` or `..=`.
 fn closed_span(
     alloc: Global,
     at: &mut Ahead<'_>,
@@ -117,7 +117,7 @@ fn closed_span(
     })
 }
 
-/// A `..` without an end after it: a rest, or a span with its first end alone.
+/// A `..` that no end follows: a rest pattern, or a range with a start alone.
 fn open_span(
     alloc: Global,
     at: &Ahead<'_>,
@@ -148,7 +148,7 @@ fn open_span(
     }
 }
 
-/// A span, or a rest, from its `..` or `..=` on.
+/// Parses a range pattern from its `..` or `..=` on, or a rest pattern.
 #[tactic(auto, unfolding(lay_node::specs::reader::Patterns::span))]
 pub fn span(
     alloc: Global,
@@ -173,7 +173,7 @@ pub fn span(
     }
 }
 
-/// A value, or a span that it begins.
+/// Parses a literal, or a range pattern that begins with one.
 #[tactic(auto, unfolding(lay_node::specs::reader::Patterns::value_pat))]
 pub fn value_pat(alloc: Global, at: &mut Ahead<'_>, depth: u32) -> Result<Found<Pat>, ReadNone>
     requires { depth + 1 < 2 ^ 32 }

@@ -1,4 +1,4 @@
-//! Nodes in boxes of their own.
+//! Boxing of nodes.
 ghost use Rattle.std.specs.Prelude.{◌≡◌, IfErr, IfOk};
 
 use lay_node::Boxed;
@@ -7,7 +7,7 @@ use lay_read_tokens::{Found, ReadNone};
 use lay_token::List;
 use std::alloc::Global;
 
-/// A node in a box, with what it needs.
+/// Boxes the node, and keeps the depth that it needs.
 pub fn boxed_found<T: Drop>(alloc: Global, node: T, need: u32) -> Result<Found<Boxed<T>>, ReadNone>
     ensures node { IfOk result (λ found. found.node ≡ node) }
     ensures need { IfOk result (λ found. found.need ≡ need) }
@@ -17,7 +17,7 @@ pub fn boxed_found<T: Drop>(alloc: Global, node: T, need: u32) -> Result<Found<B
     Ok(Found { node, need })
 }
 
-/// Nodes out of their boxes, in a list with room for them alone.
+/// Takes the nodes out of their boxes, into a list with no spare capacity.
 pub fn unboxed<T: Drop>(alloc: Global, boxes: List<Boxed<T>>) -> Result<List<T>, ReadNone>
     ensures ok { IfOk result (λ nodes. nodes ≡ boxes) }
     ensures err { IfErr result (λ none. none ≡ ReadNone.NoMemory) }

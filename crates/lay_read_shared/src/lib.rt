@@ -1,8 +1,8 @@
-//! What the readers of heads, of blocks and of expressions share, so that none of them stands on another: the loop of parts
-//! that stand one after another, nodes in boxes, and a type that may be there.
+//! What the readers of heads, blocks and expressions share, so that they don't depend on each
+//! other: the loop over consecutive parts, boxing, and optional types.
 //!
-//! Its lemmas say what reading leaves: after whatever is read, at any depth, stands the rest of the tokens that were ahead,
-//! and a node has a token at least. So each loop of those readers ends.
+//! The lemmas here say that after whatever is read, at any depth limit, the rest of the tokens is
+//! ahead, and that a node has at least one token. So every loop of those readers ends.
 #![tactic(auto)]
 
 pub mod alone;

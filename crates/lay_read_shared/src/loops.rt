@@ -1,4 +1,4 @@
-//! The loop of parts that stand one after another, over a function that reads one of them.
+//! The loop over consecutive parts, which is given a reader of parts.
 ghost use Rattle.std.specs.Prelude.{◌≡◌, ◌≤◌, ◌++◌, ◌∷◌, [], IfErr, IfOk, MatchResult};
 ghost use Rattle.lay_node.specs.reader.Loops.{repeat};
 ghost use Rattle.lay_code.specs.reader.Exprs.{begins_else_if};
@@ -15,16 +15,16 @@ use lay_read_tokens::{Ahead, Found, ReadNone};
 use lay_token::List;
 use std::alloc::Global;
 
-/// What goes on as long as a part of it begins.
+/// A list that goes on as long as a further part begins.
 #[derive(Clone, Copy)]
 pub enum Going {
     /// Postfix steps.
     Steps,
-    /// Operators of this level and their operands.
+    /// Operators of this precedence level with their operands.
     Operands(u8),
     /// Types after `as`.
     Types,
-    /// What stands within braces.
+    /// Statements or items, up to the `}`.
     Items,
     /// Branches after `else if`.
     ElseIfs,
@@ -38,7 +38,7 @@ fn begins_else_if(at: &Ahead<'_>) -> bool
     takes_keyword(&mut behind, b"else") && is_at_keyword(&behind, b"if")
 }
 
-/// Whether one more part comes next.
+/// Whether a further part begins with the next tokens.
 fn goes_on(at: &Ahead<'_>, going: Going) -> bool
     ensures { result ≡ goes_on going at.now }
 {
@@ -51,8 +51,8 @@ fn goes_on(at: &Ahead<'_>, going: Going) -> bool
     }
 }
 
-/// Keeps a part after those before it, and tells what it needs. It is taken apart in a call of its own, so that the loop holds no
-/// room for the moves while a part is read.
+/// Appends the part to `nodes`, and gives the depth that it needs. It is a function of its own, so
+/// that the loop's frame has no room for these moves while a part is read.
 #[inline(never)]
 fn keep_part<T: Drop>(
     nodes: &mut List<T>,
@@ -72,7 +72,7 @@ fn keep_part<T: Drop>(
     }
 }
 
-/// Parts as long as one begins.
+/// Parses parts as long as one begins.
 #[inline(never)]
 pub fn read_parts<
     P: Part<T, X>,

@@ -1,4 +1,4 @@
-//! Types that may be there.
+//! Parsing of optional types.
 ghost use Rattle.std.specs.Prelude.{◌≤◌, drop, IfOk};
 ghost use Rattle.lay_token.specs.Operators.{is_op};
 ghost use Rattle.lay_node.specs.reader.Types.{if_read, within};
@@ -11,7 +11,7 @@ use lay_read_tokens::{Ahead, Found, ReadNone};
 use lay_read_types::type_ahead;
 use std::alloc::Global;
 
-/// A type after an operator of one character, if that comes next.
+/// Parses an operator of one character and a type, if the operator comes next.
 pub fn type_if(
     alloc: Global,
     at: &mut Ahead<'_>,

@@ -1,4 +1,4 @@
-//! The tokens ahead.
+//! The cursor that readers use: tokens of a text that was lexed.
 ghost use Rattle.std.specs.Prelude.{◌≡◌, ◌↔◌, ◌<◌, ◌≤◌, ◌++◌, IsTrue, IsUtf8, IfSome, MatchOption, drop, length, option_copied, slice_get};
 ghost use Rattle.lay_cook.specs.Cooking.{IsString};
 ghost use Rattle.lay_nest.specs.Groups.{AreTree, Grouped, begins_group, begins_tree};
@@ -9,7 +9,8 @@ use lay_nest::Cursor;
 use lay_token::Token;
 use std::marker::Model;
 
-/// A place in the tokens of a text, seen as the list of the tokens ahead. Each of these is a piece of its kind.
+/// A cursor over lexed tokens. Contracts see it as the list of the tokens ahead, each of which is a
+/// piece of its kind.
 #[derive(Debug, Drop)]
 pub struct Ahead<'a> {
     at: Cursor<'a>,
@@ -28,7 +29,7 @@ impl<'a> Model for Ahead<'a> {
 }
 
 impl<'a> Ahead<'a> {
-    /// What is ahead of the cursor.
+    /// A reader's cursor at the same place.
     pub fn new(at: Cursor<'a>) -> Ahead<'a>
         requires { AreLexed at }
         ensures { result ≡ at.entry }
@@ -36,21 +37,21 @@ impl<'a> Ahead<'a> {
         Ahead { at }
     }
 
-    /// The cursor that is where this place is.
+    /// The plain cursor at the same place.
     pub fn into_cursor(self) -> Cursor<'a>
         ensures { result ≡ self.entry }
     {
         self.at
     }
 
-    /// The same place once more.
+    /// A second cursor at the same place.
     pub fn fork(&self) -> Ahead<'a>
         ensures { result ≡ self.now }
     {
         Ahead { at: self.at.fork() }
     }
 
-    /// The token after this many others, or `None` where no more than so many are ahead.
+    /// The token after `ahead` others, or `None` if there is none.
     pub fn peek(&self, ahead: usize) -> Option<&'a Token>
         ensures token { option_copied result ≡ slice_get self.now ahead }
         ensures within { MatchOption result (length self.now ≤ ahead)
@@ -59,7 +60,7 @@ impl<'a> Ahead<'a> {
         self.at.peek(ahead)
     }
 
-    /// The token at the beginning, whose text is UTF-8, and which is a piece of its kind where it is a string.
+    /// The next token. Its text is UTF-8, and if it is a string literal, it is a whole one.
     pub fn front(&self) -> Option<&'a Token>
         ensures token { option_copied result ≡ slice_get self.now 0 }
         ensures text { IfSome result (λ token. IsUtf8 token.now.text) }
@@ -75,14 +76,14 @@ impl<'a> Ahead<'a> {
         self.at.is_end()
     }
 
-    /// Whether the operator at the beginning is this one.
+    /// Whether the next tokens are this operator, and no longer one.
     pub fn op_is(&self, op: &[u8]) -> bool
         ensures { result ≡ is_op op.now self.now }
     {
         self.at.op_is(op)
     }
 
-    /// Moves past one token, past an opener alone too.
+    /// Moves past one token. Past an opener it moves into the group.
     pub fn step(&mut self)
         requires { 0 < length self.old }
         ensures { self.new ≡ drop 1 self.old }
@@ -90,7 +91,7 @@ impl<'a> Ahead<'a> {
         self.at.step();
     }
 
-    /// Moves past the group at the beginning, and gives what is inside its delimiters.
+    /// Moves past the next group, and gives a cursor over what is between its delimiters.
     pub fn group(&mut self) -> Ahead<'a>
         requires { IsTrue (begins_group self.old) }
         ensures { Grouped self.old result self.new }
@@ -100,7 +101,8 @@ impl<'a> Ahead<'a> {
         }
     }
 
-    /// Moves past the token tree at the beginning, and gives its tokens: one token, or a group with its delimiters.
+    /// Moves past the next token tree, and gives its tokens: one token, or a group with its
+    /// delimiters.
     pub(crate) fn tree(&mut self) -> &'a [Token]
         requires { IsTrue (begins_tree self.old) }
         ensures whole { self.old ≡ result.now ++ self.new }

@@ -1,4 +1,4 @@
-//! Attributes and documentation.
+//! Parsing of attributes and documentation.
 ghost use Rattle.std.specs.Prelude.{◌≡◌, if◌then◌else◌, Some, None};
 ghost use Rattle.std.specs.Str.{chars};
 ghost use Rattle.lay_cook.specs.Cooking.{IsString};
@@ -26,7 +26,8 @@ use lay_node::{Attr, MetaInput, MetaPath};
 use lay_token::{Delim, Kind, List, NoMemory, Text, Token};
 use std::alloc::Global;
 
-/// All the attributes at the beginning: inner ones, or outer ones. Where one that begins there can't be read the cursor stays.
+/// Parses all attributes that come next: the inner ones, or the outer ones. On an error the cursor
+/// doesn't move.
 pub fn read_attrs(alloc: Global, at: &mut Cursor<'_>, inner: bool) -> Result<List<Attr>, ReadNone>
     requires { AreLexed at.old }
     ensures { AreRead (λ (attr : Attr). Front (about_attr inner attr)) (reader.begins_attr inner)
@@ -38,7 +39,7 @@ pub fn read_attrs(alloc: Global, at: &mut Cursor<'_>, inner: bool) -> Result<Lis
     Ok(attrs)
 }
 
-/// The attribute at the beginning, an inner one or an outer one. Where there is none the cursor stays.
+/// Parses the next attribute, an inner or an outer one. On an error the cursor doesn't move.
 pub fn read_attr(alloc: Global, at: &mut Cursor<'_>, inner: bool) -> Result<Attr, ReadNone>
     requires { AreLexed at.old }
     ensures { IsRead (λ (attr : Attr). Front (about_attr inner attr)) at.old result at.new }
@@ -49,7 +50,7 @@ pub fn read_attr(alloc: Global, at: &mut Cursor<'_>, inner: bool) -> Result<Attr
     Ok(attr)
 }
 
-/// The attributes at the beginning. Where one can't be read the cursor may stand anywhere.
+/// Parses all attributes that come next. After an error the cursor may be anywhere.
 pub fn attrs_ahead(alloc: Global, at: &mut Ahead<'_>, inner: bool) -> Result<List<Attr>, ReadNone>
     ensures { IsGot (reader.attributes inner at.old) result at.new }
 {
@@ -79,7 +80,7 @@ fn begins_attr(at: &Ahead<'_>, inner: bool) -> bool
     is_at_mark(&behind, b"!")
 }
 
-/// The attribute at the beginning. Where there is none the cursor may stand anywhere.
+/// Parses the next attribute. After an error the cursor may be anywhere.
 #[tactic(auto, unfolding(lay_node::specs::reader::Attr::attribute))]
 fn attr_ahead(alloc: Global, at: &mut Ahead<'_>, inner: bool) -> Result<Attr, ReadNone>
     ensures { IsGot (reader.attribute inner at.old) result at.new }
@@ -104,7 +105,7 @@ fn is_at_doc(at: &Ahead<'_>, inner: bool) -> bool
     }
 }
 
-/// Documentation at the beginning, spelled as a comment.
+/// Parses a documentation comment.
 #[tactic(auto, unfolding(lay_node::specs::reader::Attr::doc_attr))]
 fn read_doc(alloc: Global, at: &mut Ahead<'_>, inner: bool) -> Result<Attr, ReadNone>
     ensures { IsGot (reader.doc_attr inner at.old) result at.new }
@@ -121,7 +122,7 @@ fn read_doc(alloc: Global, at: &mut Ahead<'_>, inner: bool) -> Result<Attr, Read
     Ok(Attr::Doc { inner, text })
 }
 
-/// An attribute in brackets.
+/// Parses an attribute in brackets.
 #[tactic(auto, unfolding(lay_node::specs::reader::Attr::meta_attr))]
 fn read_meta(alloc: Global, at: &mut Ahead<'_>, inner: bool) -> Result<Attr, ReadNone>
     ensures { IsGot (reader.meta_attr inner at.old) result at.new }
@@ -146,7 +147,7 @@ fn takes_opening(at: &mut Ahead<'_>, inner: bool) -> bool
     takes_opener(at, Delim::Bracket)
 }
 
-/// What an attribute is called.
+/// Parses the name of an attribute.
 #[tactic(auto, unfolding(lay_node::specs::reader::Attr::meta_name))]
 fn read_meta_path(alloc: Global, at: &mut Ahead<'_>) -> Result<MetaPath, ReadNone>
     ensures { IsGot (reader.meta_name at.old) result at.new }
@@ -158,7 +159,7 @@ fn read_meta_path(alloc: Global, at: &mut Ahead<'_>) -> Result<MetaPath, ReadNon
     Ok(MetaPath::Path(path))
 }
 
-/// What an attribute is given, and its closing bracket.
+/// Parses the input of an attribute, and its closing bracket.
 fn read_meta_input(
     alloc: Global,
     at: &mut Ahead<'_>,
@@ -176,7 +177,7 @@ fn read_meta_input(
     }
 }
 
-/// The closing bracket of an attribute that is no documentation.
+/// Parses the closing bracket of an attribute that is no documentation.
 fn close(
     at: &mut Ahead<'_>,
     inner: bool,
@@ -192,7 +193,7 @@ fn close(
     }
 }
 
-/// The group that an attribute is given, and its closing bracket.
+/// Parses the input of an attribute that is a group, and the closing bracket.
 fn read_grouped(
     alloc: Global,
     at: &mut Ahead<'_>,
@@ -205,7 +206,7 @@ fn read_grouped(
     close(at, inner, path, MetaInput::Group(group))
 }
 
-/// The value that an attribute is given, and its closing bracket.
+/// Parses the value of an attribute, and its closing bracket.
 fn read_value(
     alloc: Global,
     at: &mut Ahead<'_>,
@@ -223,7 +224,7 @@ fn read_value(
     }
 }
 
-/// A value that makes no documentation of the attribute, and its closing bracket.
+/// Parses a value of an attribute that is no documentation, and the closing bracket.
 fn read_other_value(
     alloc: Global,
     at: &mut Ahead<'_>,
@@ -237,7 +238,7 @@ fn read_other_value(
     close(at, inner, path, input)
 }
 
-/// A token list of one token at least.
+/// Parses a token list with at least one token.
 fn read_listed(alloc: Global, at: &mut Ahead<'_>) -> Result<MetaInput, ReadNone>
     ensures { IsGot (value_behind at.old) result at.new }
 {
@@ -248,7 +249,7 @@ fn read_listed(alloc: Global, at: &mut Ahead<'_>) -> Result<MetaInput, ReadNone>
     Ok(MetaInput::Value(tokens))
 }
 
-/// The text of the documentation that an attribute is, where its value is one string before the closing bracket.
+/// The text of the documentation, if the value is one string literal before the closing bracket.
 fn doc_value(
     alloc: Global,
     at: &Ahead<'_>,
@@ -273,7 +274,7 @@ fn is_alone(at: &Ahead<'_>) -> bool
     is_at_closer(&behind, Delim::Bracket)
 }
 
-/// The text of documentation whose value is the first token.
+/// The text of the documentation whose value is the next token.
 fn front_doc(alloc: Global, at: &Ahead<'_>, inner: bool) -> Result<Option<Text>, ReadNone>
     ensures { IsMade (front_doc inner at.now) result }
 {
@@ -283,7 +284,7 @@ fn front_doc(alloc: Global, at: &Ahead<'_>, inner: bool) -> Result<Option<Text>,
     }
 }
 
-/// The text of documentation whose value is the token.
+/// The text of the documentation whose value is the token.
 fn doc_text(alloc: Global, token: &Token, inner: bool) -> Result<Option<Text>, ReadNone>
     requires { IsString token.now }
     ensures { IsMade (doc_text inner (value_of token.now.kind (chars token.now.text))) result }
@@ -295,7 +296,7 @@ fn doc_text(alloc: Global, token: &Token, inner: bool) -> Result<Option<Text>, R
     }
 }
 
-/// Whether an attribute is called `doc`.
+/// Whether the name of an attribute is `doc`.
 fn is_doc_path(path: &MetaPath) -> bool
     ensures { result ≡ is_doc_path path.now }
 {

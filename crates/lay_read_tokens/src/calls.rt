@@ -1,4 +1,4 @@
-//! Macro calls.
+//! Parsing of macro calls.
 ghost use Rattle.std.specs.Prelude.{◌≡◌, if◌then◌else◌, Some, None};
 ghost use Rattle.lay_node.specs.reader.Call as reader;
 ghost use Rattle.lay_node.specs.nodes.Call.{about_call};
@@ -16,7 +16,7 @@ use lay_node::MacroCall;
 use lay_token::Delim;
 use std::alloc::Global;
 
-/// The macro call at the beginning. Where there is none the cursor stays.
+/// Parses the next macro call. On an error the cursor doesn't move.
 pub fn read_call(alloc: Global, at: &mut Cursor<'_>) -> Result<MacroCall, ReadNone>
     requires { AreLexed at.old }
     ensures { IsRead (λ (call : MacroCall). Front (about_call call)) at.old result at.new }
@@ -27,7 +27,7 @@ pub fn read_call(alloc: Global, at: &mut Cursor<'_>) -> Result<MacroCall, ReadNo
     Ok(call)
 }
 
-/// The macro call at the beginning. Where there is none the cursor may stand anywhere.
+/// Parses the next macro call. After an error the cursor may be anywhere.
 #[tactic(auto, unfolding(lay_node::specs::reader::Call::call))]
 pub fn call_ahead(alloc: Global, at: &mut Ahead<'_>) -> Result<MacroCall, ReadNone>
     ensures { IsGot (reader.call at.old) result at.new }
@@ -40,7 +40,8 @@ pub fn call_ahead(alloc: Global, at: &mut Ahead<'_>) -> Result<MacroCall, ReadNo
     Ok(MacroCall { path, tokens })
 }
 
-/// Passes what ends an item that is a macro call or declares a macro: after braces nothing, and else a `;`.
+/// Moves past the end of an item that is a macro call or a macro definition: after braces nothing,
+/// else a `;`. Says whether it was there.
 pub fn takes_end(at: &mut Ahead<'_>, delim: Delim) -> bool
     ensures { (if result then Some at.new else None) ≡ reader.behind_end delim at.old }
 {

@@ -1,4 +1,4 @@
-//! The beginning of the tokens ahead.
+//! Lookahead: tests of the next tokens, and moves past them.
 ghost use Rattle.std.specs.Prelude.{◌≡◌, ◌&&◌, if◌then◌else◌, drop, codes, Some, None};
 ghost use Rattle.lay_token.specs.Operators.{is_op};
 ghost use Rattle.lay_node.specs.Ahead as ahead;
@@ -10,7 +10,7 @@ ghost use Rattle.lay_read_tokens.specs.Answers.{is_underscore};
 use crate::ahead::Ahead;
 use lay_token::{Delim, Kind, Token};
 
-/// Whether the token is the keyword.
+/// Whether the token is this keyword.
 #[inline]
 pub fn is_keyword(token: &Token, word: &[u8]) -> bool
     ensures { result ≡ ahead.is_keyword word.now token.now }
@@ -18,7 +18,7 @@ pub fn is_keyword(token: &Token, word: &[u8]) -> bool
     matches!(token.kind, Kind::Ident) && token.text.as_bytes() == word
 }
 
-/// Whether the token is the punctuation of the character.
+/// Whether the token is punctuation with this character.
 fn is_mark(token: &Token, character: &[u8]) -> bool
     ensures { result ≡ ahead.is_mark character.now token.now }
 {
@@ -36,7 +36,7 @@ fn is_same(delim: Delim, other: Delim) -> bool
     }
 }
 
-/// Whether the token opens a group in the delimiter.
+/// Whether the token opens a group with this delimiter.
 fn opens(token: &Token, delim: Delim) -> bool
     ensures { result ≡ ahead.opens delim token.now }
 {
@@ -46,7 +46,7 @@ fn opens(token: &Token, delim: Delim) -> bool
     }
 }
 
-/// Whether the token closes a group in the delimiter.
+/// Whether the token closes a group with this delimiter.
 fn closes(token: &Token, delim: Delim) -> bool
     ensures { result ≡ ahead.closes delim token.now }
 {
@@ -56,7 +56,7 @@ fn closes(token: &Token, delim: Delim) -> bool
     }
 }
 
-/// Passes the first token, if there is one.
+/// Moves past the next token, if there is one.
 pub fn pass(at: &mut Ahead<'_>)
     ensures { at.new ≡ tail at.old }
 {
@@ -65,7 +65,7 @@ pub fn pass(at: &mut Ahead<'_>)
     }
 }
 
-/// Passes the first token, if it is what was asked for.
+/// Moves past the next token, if `found`.
 fn pass_if(at: &mut Ahead<'_>, found: bool)
     ensures { at.new ≡ (if found then tail at.old else at.old) }
 {
@@ -74,7 +74,7 @@ fn pass_if(at: &mut Ahead<'_>, found: bool)
     }
 }
 
-/// Whether the keyword comes next.
+/// Whether this keyword comes next.
 pub fn is_at_keyword(at: &Ahead<'_>, word: &[u8]) -> bool
     ensures { result ≡ first (ahead.is_keyword word.now) at.now }
 {
@@ -84,7 +84,7 @@ pub fn is_at_keyword(at: &Ahead<'_>, word: &[u8]) -> bool
     }
 }
 
-/// Passes the keyword, if it comes next.
+/// Moves past this keyword if it comes next, and says whether it did.
 pub fn takes_keyword(at: &mut Ahead<'_>, word: &[u8]) -> bool
     ensures found { result ≡ first (ahead.is_keyword word.now) at.old }
     ensures passed { at.new ≡ (if result then tail at.old else at.old) }
@@ -94,7 +94,7 @@ pub fn takes_keyword(at: &mut Ahead<'_>, word: &[u8]) -> bool
     found
 }
 
-/// Whether the mark comes next.
+/// Whether punctuation with this character comes next.
 pub fn is_at_mark(at: &Ahead<'_>, character: &[u8]) -> bool
     ensures { result ≡ first (ahead.is_mark character.now) at.now }
 {
@@ -104,7 +104,7 @@ pub fn is_at_mark(at: &Ahead<'_>, character: &[u8]) -> bool
     }
 }
 
-/// Passes the mark, if it comes next.
+/// Moves past punctuation with this character if it comes next, and says whether it did.
 pub fn takes_mark(at: &mut Ahead<'_>, character: &[u8]) -> bool
     ensures found { result ≡ first (ahead.is_mark character.now) at.old }
     ensures passed { at.new ≡ (if result then tail at.old else at.old) }
@@ -124,7 +124,7 @@ pub(crate) fn is_at_opener(at: &Ahead<'_>) -> bool
     }
 }
 
-/// Whether an opener of the delimiter comes next.
+/// Whether an opener of this delimiter comes next.
 pub fn is_at_opened(at: &Ahead<'_>, delim: Delim) -> bool
     ensures { result ≡ first (ahead.opens delim) at.now }
 {
@@ -134,7 +134,7 @@ pub fn is_at_opened(at: &Ahead<'_>, delim: Delim) -> bool
     }
 }
 
-/// Passes an opener of the delimiter, if it comes next.
+/// Moves past an opener of this delimiter if it comes next, and says whether it did.
 pub fn takes_opener(at: &mut Ahead<'_>, delim: Delim) -> bool
     ensures found { result ≡ first (ahead.opens delim) at.old }
     ensures passed { at.new ≡ (if result then tail at.old else at.old) }
@@ -144,7 +144,7 @@ pub fn takes_opener(at: &mut Ahead<'_>, delim: Delim) -> bool
     found
 }
 
-/// Whether a closer of the delimiter comes next.
+/// Whether a closer of this delimiter comes next.
 pub fn is_at_closer(at: &Ahead<'_>, delim: Delim) -> bool
     ensures { result ≡ first (ahead.closes delim) at.now }
 {
@@ -154,7 +154,7 @@ pub fn is_at_closer(at: &Ahead<'_>, delim: Delim) -> bool
     }
 }
 
-/// Passes a closer of the delimiter, if it comes next.
+/// Moves past a closer of this delimiter if it comes next, and says whether it did.
 pub fn takes_closer(at: &mut Ahead<'_>, delim: Delim) -> bool
     ensures found { result ≡ first (ahead.closes delim) at.old }
     ensures passed { at.new ≡ (if result then tail at.old else at.old) }
@@ -164,7 +164,7 @@ pub fn takes_closer(at: &mut Ahead<'_>, delim: Delim) -> bool
     found
 }
 
-/// Passes a `_`, if it comes next.
+/// Moves past a `_` if it comes next, and says whether it did.
 pub fn takes_underscore(at: &mut Ahead<'_>) -> bool
     ensures found { result ≡ first is_underscore at.old }
     ensures passed { at.new ≡ (if result then tail at.old else at.old) }
@@ -177,7 +177,7 @@ pub fn takes_underscore(at: &mut Ahead<'_>) -> bool
     found
 }
 
-/// Passes the operator of one character, if it comes next.
+/// Moves past this operator of one character if it comes next, and says whether it did.
 pub fn takes_op(at: &mut Ahead<'_>, op: &[u8]) -> bool
     ensures found { result ≡ is_op op.now at.old }
     ensures passed { at.new ≡ (if result then drop 1 at.old else at.old) }
@@ -189,7 +189,7 @@ pub fn takes_op(at: &mut Ahead<'_>, op: &[u8]) -> bool
     found
 }
 
-/// Passes two tokens, if there are so many.
+/// Moves past two tokens, or as many as there are.
 pub fn pass_two(at: &mut Ahead<'_>)
     ensures { at.new ≡ drop 2 at.old }
 {
@@ -204,7 +204,7 @@ pub fn is_at_colons(at: &Ahead<'_>) -> bool
     at.op_is(b"::")
 }
 
-/// Passes a `::`, if it comes next.
+/// Moves past a `::` if it comes next, and says whether it did.
 pub fn takes_colons(at: &mut Ahead<'_>) -> bool
     ensures found { result ≡ is_op (codes "::") at.old }
     ensures passed { at.new ≡ (if result then drop 2 at.old else at.old) }
@@ -216,14 +216,15 @@ pub fn takes_colons(at: &mut Ahead<'_>) -> bool
     found
 }
 
-/// After an element of a list a `,` is passed, and where there is none the closer of the list stands.
+/// Moves past a `,` after an element of a list. Without a `,` it says whether the closer of the
+/// list comes next.
 pub fn takes_element_end(at: &mut Ahead<'_>, delim: Delim) -> bool
     ensures { (if result then Some at.new else None) ≡ element_end (ahead.closes delim) at.old }
 {
     takes_mark(at, b",") || is_at_closer(at, delim)
 }
 
-/// Items end where no token is left, and before a `}`.
+/// Whether items may go on: a token is left, and no `}` comes next.
 pub fn has_items(at: &Ahead<'_>) -> bool
     ensures { result ≡ more_items at.now }
 {

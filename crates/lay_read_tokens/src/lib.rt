@@ -1,8 +1,8 @@
-//! From nested tokens to what all nodes are made of: names, simple paths, token lists, macro calls and
+//! Parsing of what all nodes are made of: names, simple paths, token lists, macro calls and
 //! attributes.
 //!
-//! Each reader is proved equal to a function of the tokens ahead that `lay_node` defines, and that function reads what
-//! is spelled and nothing else. Where a reader reads none, [`ReadNone`] says why.
+//! Each reader is proved equal to a function of the tokens ahead that `lay_node` defines. That
+//! function reads exactly what the grammar spells. If nothing is read, [`ReadNone`] says why.
 #![tactic(auto)]
 
 pub mod ahead;

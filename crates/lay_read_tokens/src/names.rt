@@ -1,4 +1,4 @@
-//! Names and the words of paths.
+//! Parsing of names and of the words of paths.
 ghost use Rattle.std.specs.Prelude.{◌≡◌, is_some, option_map};
 ghost use Rattle.lay_piece.specs.Word.{class_of};
 ghost use Rattle.lay_node.specs.Words.{is_path_class, is_plain};
@@ -27,7 +27,7 @@ fn is_path_word(word: &[u8]) -> bool
     matches!(word_class(word), Class::Plain | Class::PathWord)
 }
 
-/// Whether the token is a name, and then whether it is a raw one.
+/// Whether the token is a name; if it is, whether it is a raw identifier.
 fn name_of(token: &Token) -> Option<bool>
     ensures { option_map (named token.now.text) result
         ≡ reader.name_by token.now.kind token.now.text }
@@ -39,7 +39,7 @@ fn name_of(token: &Token) -> Option<bool>
     }
 }
 
-/// Whether the token is a word of a path, and then whether it is a raw identifier.
+/// Whether the token is a word of a path; if it is, whether it is a raw identifier.
 fn word_of(token: &Token) -> Option<bool>
     ensures { option_map (worded token.now.text) result
         ≡ reader.word_by token.now.kind token.now.text }
@@ -51,7 +51,7 @@ fn word_of(token: &Token) -> Option<bool>
     }
 }
 
-/// The name at the beginning.
+/// Parses a name.
 #[tactic(auto, unfolding(lay_node::specs::reader::Words::name))]
 pub fn read_name(alloc: Global, at: &mut Ahead<'_>) -> Result<Name, ReadNone>
     ensures { IsGot (reader.name at.old) result at.new }
@@ -81,7 +81,7 @@ pub fn is_at_name(at: &Ahead<'_>) -> bool
     }
 }
 
-/// The word at the beginning.
+/// Parses a word of a path.
 #[tactic(auto, unfolding(lay_node::specs::reader::Words::word))]
 pub fn read_word(alloc: Global, at: &mut Ahead<'_>) -> Result<Word, ReadNone>
     ensures { IsGot (reader.word at.old) result at.new }
@@ -100,7 +100,7 @@ pub fn read_word(alloc: Global, at: &mut Ahead<'_>) -> Result<Word, ReadNone>
     }
 }
 
-/// The words of a path that have a `::` after them.
+/// Parses the words of a path that have a `::` after them.
 pub fn read_path_words(alloc: Global, at: &mut Ahead<'_>) -> Result<List<Word>, ReadNone>
     ensures { IsGot (reader.path_words at.old) result at.new }
 {
@@ -112,7 +112,7 @@ pub fn read_path_words(alloc: Global, at: &mut Ahead<'_>) -> Result<List<Word>, 
     Ok(words)
 }
 
-/// Whether a word and a `::` after it come next.
+/// Whether a word comes next, and then a `::`.
 #[tactic(auto, unfolding(lay_node::specs::reader::Words::path_word, lay_node::specs::reader::Words::word))]
 fn begins_path_word(at: &Ahead<'_>) -> bool
     ensures { result ≡ reader.begins_path_word at.now }
@@ -127,7 +127,7 @@ fn begins_path_word(at: &Ahead<'_>) -> bool
     }
 }
 
-/// A word and the `::` after it.
+/// Parses a word and the `::` after it.
 #[tactic(auto, unfolding(lay_node::specs::reader::Words::path_word))]
 fn read_path_word(alloc: Global, at: &mut Ahead<'_>) -> Result<Word, ReadNone>
     ensures { IsGot (reader.path_word at.old) result at.new }
@@ -140,7 +140,7 @@ fn read_path_word(alloc: Global, at: &mut Ahead<'_>) -> Result<Word, ReadNone>
     }
 }
 
-/// A name, or `_`.
+/// Parses a name, or `_`.
 pub fn read_given_name(alloc: Global, at: &mut Ahead<'_>) -> Result<GivenName, ReadNone>
     ensures { IsGot (reader.given_name at.old) result at.new }
 {

@@ -1,4 +1,4 @@
-//! Simple paths.
+//! Parsing of simple paths.
 ghost use Rattle.std.specs.Prelude.{◌≡◌};
 ghost use Rattle.lay_node.specs.reader.Loops.{repeat};
 ghost use Rattle.lay_node.specs.reader.SimplePath as reader;
@@ -12,7 +12,7 @@ use lay_node::{SimplePath, Word};
 use lay_token::List;
 use std::alloc::Global;
 
-/// A simple path.
+/// Parses a simple path.
 #[tactic(auto, unfolding(lay_node::specs::reader::SimplePath::simple_path))]
 pub fn read_simple_path(alloc: Global, at: &mut Ahead<'_>) -> Result<SimplePath, ReadNone>
     ensures { IsGot (reader.simple_path at.old) result at.new }
@@ -23,7 +23,8 @@ pub fn read_simple_path(alloc: Global, at: &mut Ahead<'_>) -> Result<SimplePath,
     Ok(SimplePath { global, words })
 }
 
-/// The words of a simple path: its first one, and those after it, each with a `::` before it.
+/// Parses the words of a simple path after the word `first`, each with a `::` before it, and gives
+/// all of them.
 fn read_words(alloc: Global, at: &mut Ahead<'_>, first: Word) -> Result<List<Word>, ReadNone>
     ensures { IsHeld (BeginWith first) (repeat reader.begins_colons reader.further_word at.old)
         result at.new }
@@ -37,7 +38,7 @@ fn read_words(alloc: Global, at: &mut Ahead<'_>, first: Word) -> Result<List<Wor
     Ok(words)
 }
 
-/// A word after its `::`.
+/// Parses a `::` and a word.
 fn read_further_word(alloc: Global, at: &mut Ahead<'_>) -> Result<Word, ReadNone>
     ensures { IsGot (reader.further_word at.old) result at.new }
 {

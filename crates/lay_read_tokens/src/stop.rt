@@ -1,4 +1,4 @@
-//! Why a reader stops.
+//! Why a reader reads nothing.
 ghost use Rattle.std.specs.Prelude.{◌≡◌, ◌++◌, ◌∷◌, [], IfOk, OnOk, IfErr};
 ghost use Rattle.lay_read_tokens.specs.Answers.{IsCopy};
 
@@ -9,13 +9,13 @@ use std::alloc::Global;
 /// Why nothing was read.
 #[derive(Clone, Copy, Debug)]
 pub enum ReadNone {
-    /// The tokens ahead spell nothing of the kind.
+    /// The tokens ahead spell no such node.
     NoReading,
-    /// Memory was not found, which says nothing of the tokens.
+    /// Memory could not be allocated. It says nothing about the tokens.
     NoMemory,
 }
 
-/// An empty list with room for so many items, and for no more.
+/// An empty list with a capacity of `count` items.
 pub fn room_for<T>(alloc: Global, count: usize) -> Result<List<T>, ReadNone>
     ensures ok { IfOk result (λ list. list ≡ []) }
     ensures err { IfErr result (λ none. none ≡ ReadNone.NoMemory) }
@@ -26,7 +26,7 @@ pub fn room_for<T>(alloc: Global, count: usize) -> Result<List<T>, ReadNone>
     }
 }
 
-/// Adds an item at the end.
+/// Appends an item.
 pub fn keep<T: Drop>(list: &mut List<T>, item: T) -> Result<(), ReadNone>
     ensures ok { OnOk result (list.new ≡ list.old ++ item ∷ []) }
     ensures err { IfErr result (λ none. none ≡ ReadNone.NoMemory) }
@@ -37,7 +37,7 @@ pub fn keep<T: Drop>(list: &mut List<T>, item: T) -> Result<(), ReadNone>
     }
 }
 
-/// The value in a box of its own.
+/// Boxes the value.
 pub fn boxed<T: Drop>(alloc: Global, value: T) -> Result<Boxed<T>, ReadNone>
     ensures ok { IfOk result (λ boxed. boxed ≡ value) }
     ensures err { IfErr result (λ none. none ≡ ReadNone.NoMemory) }
@@ -48,7 +48,7 @@ pub fn boxed<T: Drop>(alloc: Global, value: T) -> Result<Boxed<T>, ReadNone>
     }
 }
 
-/// The text once more, on its own.
+/// A copy of the text.
 #[inline(always)]
 pub fn copy_of(alloc: Global, text: &Text) -> Result<Text, ReadNone>
     ensures { IsCopy text.now result }

@@ -1,4 +1,4 @@
-//! Token lists and groups.
+//! Parsing of token lists and groups.
 ghost use Rattle.std.specs.Prelude.{◌≡◌, ◌&&◌, Some};
 ghost use Rattle.lay_token.specs.Delimiters.{Balanced};
 ghost use Rattle.lay_token.specs.Lexes.{is_punct};
@@ -15,21 +15,21 @@ use lay_node::{Group, Listed, Tokens};
 use lay_token::{Delim, DocForm, Kind, List, Text, Token, doc_form};
 use std::alloc::Global;
 
-/// The token list at the beginning: the tokens up to the closer of the group that they stand in, or to the end.
+/// Parses a token list: the tokens up to the closer of the group around it, or to the end.
 pub fn read_tokens(alloc: Global, at: &mut Ahead<'_>) -> Result<Tokens, ReadNone>
     ensures { IsGot (reader.tokens at.old) result at.new }
 {
     read_list(alloc, at, false)
 }
 
-/// The same, up to a comma that stands in no group of it.
+/// Parses a token list that ends before the first comma outside its groups, if there is one.
 pub fn read_tokens_before_comma(alloc: Global, at: &mut Ahead<'_>) -> Result<Tokens, ReadNone>
     ensures { IsGot (reader.tokens_before_comma at.old) result at.new }
 {
     read_list(alloc, at, true)
 }
 
-/// The token list at the beginning, up to a comma that stands in no group of it, if it is asked for.
+/// Parses a token list; `to_comma` says that it ends before the first comma outside its groups.
 fn read_list(alloc: Global, at: &mut Ahead<'_>, to_comma: bool) -> Result<Tokens, ReadNone>
     ensures { IsGot (reader.tokens_of to_comma at.old) result at.new }
 {
@@ -40,7 +40,7 @@ fn read_list(alloc: Global, at: &mut Ahead<'_>, to_comma: bool) -> Result<Tokens
     Ok(Tokens::new(list))
 }
 
-/// Whether a token tree begins that a list goes on to.
+/// Whether a token tree comes next that belongs to the list.
 fn goes_on(at: &Ahead<'_>, to_comma: bool) -> bool
     ensures { result ≡ goes_on to_comma at.now }
 {
@@ -57,7 +57,7 @@ fn is_at_tree(at: &Ahead<'_>) -> bool
     }
 }
 
-/// The group at the beginning.
+/// Parses a group.
 pub fn read_group(alloc: Global, at: &mut Ahead<'_>) -> Result<Group, ReadNone>
     ensures { IsGot (reader.group at.old) result at.new }
 {
@@ -67,7 +67,7 @@ pub fn read_group(alloc: Global, at: &mut Ahead<'_>) -> Result<Group, ReadNone>
     }
 }
 
-/// The delimiter of the opener at the beginning.
+/// The delimiter of the next token, if that is an opener.
 fn opener(at: &Ahead<'_>) -> Option<Delim>
     ensures { result ≡ front_opener at.now }
 {
@@ -80,7 +80,7 @@ fn opener(at: &Ahead<'_>) -> Option<Delim>
     }
 }
 
-/// The group that an opener of this delimiter begins.
+/// Parses a group that begins with an opener of this delimiter.
 fn read_opened(alloc: Global, at: &mut Ahead<'_>, delim: Delim) -> Result<Group, ReadNone>
     requires { front_opener at.old ≡ Some delim }
     ensures { IsGot (reader.group at.old) result at.new }
@@ -90,7 +90,7 @@ fn read_opened(alloc: Global, at: &mut Ahead<'_>, delim: Delim) -> Result<Group,
     Ok(Group { delim, tokens })
 }
 
-/// The list of balanced tokens.
+/// The token list of balanced tokens.
 fn list_of(alloc: Global, tokens: &[Token]) -> Result<Tokens, ReadNone>
     requires { Balanced tokens.now }
     ensures { AreListed tokens.now result }
@@ -100,7 +100,7 @@ fn list_of(alloc: Global, tokens: &[Token]) -> Result<Tokens, ReadNone>
     Ok(Tokens::new(list))
 }
 
-/// Adds the tokens, as they stand in a list.
+/// Appends the tokens to a token list.
 #[inline]
 fn add_tokens(alloc: Global, list: &mut List<Listed>, tokens: &[Token]) -> Result<(), ReadNone>
     ensures { AreAdded list.old tokens.now result list.new }
@@ -112,7 +112,8 @@ fn add_tokens(alloc: Global, list: &mut List<Listed>, tokens: &[Token]) -> Resul
     Ok(())
 }
 
-/// The token as it stands in a list. There is none of documentation that can't be laid out.
+/// The token as a token list holds it. The error is `NoReading` for documentation that can't be
+/// laid out.
 #[inline(always)]
 fn listed(alloc: Global, token: &Token) -> Result<Listed, ReadNone>
     ensures { IsLaid (as_listed token.now) result }
@@ -123,7 +124,7 @@ fn listed(alloc: Global, token: &Token) -> Result<Listed, ReadNone>
     }
 }
 
-/// Documentation as it stands in a list.
+/// Documentation as a token list holds it.
 fn listed_doc(alloc: Global, inner: bool, text: &Text) -> Result<Listed, ReadNone>
     ensures { IsLaid (listed.Doc inner text.now) result }
 {
@@ -134,7 +135,7 @@ fn listed_doc(alloc: Global, inner: bool, text: &Text) -> Result<Listed, ReadNon
     Ok(Listed::Doc { inner, text })
 }
 
-/// A token that is no documentation as it stands in a list. Only punctuation is joint.
+/// A token other than documentation as a token list holds it. Only punctuation is joint.
 #[inline(always)]
 fn listed_token(alloc: Global, kind: Kind, token: &Token) -> Result<Listed, ReadNone>
     ensures { IsLaid (listed.Token kind token.now.text (is_punct kind && token.now.joint)) result }
@@ -147,7 +148,7 @@ fn listed_token(alloc: Global, kind: Kind, token: &Token) -> Result<Listed, Read
     })
 }
 
-/// Whether documentation can be written with the text.
+/// Whether the text can be written as documentation.
 pub(crate) fn is_doc_text(text: &[u8], inner: bool) -> bool
     ensures { result ≡ is_doc_text inner text.now }
 {

@@ -1,4 +1,4 @@
-//! Generic arguments.
+//! Parsing of generic arguments.
 ghost use Rattle.std.specs.Prelude.{◌≡◌, ◌≤◌, codes, IfOk};
 ghost use Rattle.lay_token.specs.Operators.{is_op};
 ghost use Rattle.lay_node.specs.Ahead.{is_mark};
@@ -28,7 +28,7 @@ use lay_read_tokens::{Ahead, Found, ReadNone};
 use lay_token::{Delim, List};
 use std::alloc::Global;
 
-/// Generic arguments, as parts of a list.
+/// Generic arguments as the elements of a list.
 pub struct Arguments;
 
 impl Part<Arg, ()> for Arguments {
@@ -39,7 +39,7 @@ impl<
     F: Fn(Global, &mut Ahead<'_>, TypePlace, u32) -> Result<Found<Ty>, ReadNone>,
     G: Fn(Global, &mut Ahead<'_>, u32) -> Result<Found<Constraint>, ReadNone>,
 > Rules<F, G> {
-    /// A generic argument.
+    /// Parses a generic argument.
     #[tactic(auto, unfolding(lay_node::specs::reader::Types::one_arg))]
     fn arg(&self, at: &mut Ahead<'_>, _place: ()) -> Result<Found<Arg>, ReadNone>
         requires { AreDeeper self.now.depth (F.pre self.now.types) (F.post self.now.types)
@@ -65,7 +65,8 @@ impl<
         self.arg_rest(at, ty)
     }
 
-    /// What a type among generic arguments is: the argument, or a name of which something is asked after it.
+    /// Parses a generic argument that begins with a type: the type alone, or a name with a
+    /// constraint.
     #[inline(never)]
     fn arg_rest(&self, at: &mut Ahead<'_>, ty: Found<Ty>) -> Result<Found<Arg>, ReadNone>
         requires deeper { AreDeeper self.now.depth (F.pre self.now.types) (F.post self.now.types)
@@ -97,7 +98,7 @@ impl<
         })
     }
 
-    /// Generic arguments after a `<`, and the `>` after them.
+    /// Parses generic arguments after the `<`, and the `>`.
     #[tactic(auto, using(crate::proofs::Left::arg_leaves))]
     fn angle_args(&self, at: &mut Ahead<'_>) -> Result<Found<List<Arg>>, ReadNone>
         requires { AreDeeper self.now.depth (F.pre self.now.types) (F.post self.now.types)
@@ -117,7 +118,7 @@ impl<
         )
     }
 
-    /// Generic arguments in `<` and `>`.
+    /// Parses generic arguments in `<` and `>`.
     #[tactic(auto, unfolding(lay_node::specs::reader::Types::angle))]
     fn angle(&self, at: &mut Ahead<'_>) -> Result<Found<Args>, ReadNone>
         requires { AreDeeper self.now.depth (F.pre self.now.types) (F.post self.now.types)
@@ -135,7 +136,7 @@ impl<
         })
     }
 
-    /// A return type, if one stands there.
+    /// Parses a return type, if one comes next.
     pub fn output(&self, at: &mut Ahead<'_>) -> Result<Found<Option<Boxed<Ty>>>, ReadNone>
         requires { AreDeeper self.now.depth (F.pre self.now.types) (F.post self.now.types)
             (G.pre self.now.constraints) (G.post self.now.constraints) }
@@ -157,7 +158,7 @@ impl<
         })
     }
 
-    /// Types in parentheses and a return type.
+    /// Parses types in parentheses and a return type, as in `Fn(A) -> B`.
     #[tactic(auto, unfolding(lay_node::specs::reader::Types::round))]
     fn round(&self, at: &mut Ahead<'_>) -> Result<Found<Args>, ReadNone>
         requires { AreDeeper self.now.depth (F.pre self.now.types) (F.post self.now.types)
@@ -179,7 +180,7 @@ impl<
         })
     }
 
-    /// The generic arguments of a segment, if there are any.
+    /// Parses the generic arguments of a segment, if it has any.
     #[tactic(auto, unfolding(lay_node::specs::reader::Types::args_by))]
     pub fn args(&self, at: &mut Ahead<'_>, style: PathStyle) -> Result<Found<Args>, ReadNone>
         requires { AreDeeper self.now.depth (F.pre self.now.types) (F.post self.now.types)
@@ -204,7 +205,7 @@ impl<
     }
 }
 
-/// Whether generic arguments stand in parentheses.
+/// Whether the generic arguments are in parentheses.
 #[tactic(auto, using(crate::proofs::Steps::round_none, crate::proofs::Steps::round_angle, crate::proofs::Steps::round_round))]
 fn is_round(args: &Args) -> bool
     ensures { result ≡ (about_args args.now).round }
@@ -216,7 +217,7 @@ fn is_round(args: &Args) -> bool
     }
 }
 
-/// The name and the generic arguments that a type is, if it is no more.
+/// The name and the generic arguments of a type that is nothing more.
 fn into_named(ty: Ty) -> Option<(Name, Args)>
     ensures { result ≡ reader.named_type ty }
 {
@@ -226,7 +227,7 @@ fn into_named(ty: Ty) -> Option<(Name, Args)>
     }
 }
 
-/// The name and the generic arguments that a path is, if it is no more.
+/// The name and the generic arguments of a path that is nothing more.
 fn into_named_path(path: Path) -> Option<(Name, Args)>
     ensures { result ≡ reader.named_path path }
 {
@@ -237,7 +238,7 @@ fn into_named_path(path: Path) -> Option<(Name, Args)>
     }
 }
 
-/// The name and the generic arguments that segments are, if they are one.
+/// The name and the generic arguments of a single segment.
 fn into_segment(segments: List<(Word, Args)>) -> Option<(Name, Args)>
     ensures { result ≡ reader.named_segments segments }
 {
@@ -251,7 +252,7 @@ fn into_segment(segments: List<(Word, Args)>) -> Option<(Name, Args)>
     }
 }
 
-/// A name and generic arguments, where the word is a name and they stand in no parentheses.
+/// A name and its generic arguments, if the word is a name and the arguments aren't in parentheses.
 fn into_name(word: Word, args: Args) -> Option<(Name, Args)>
     ensures { result ≡ named_segment word args }
 {

@@ -1,4 +1,4 @@
-//! Bounds, and what is asked of a name among generic arguments.
+//! Parsing of bounds, and of constraints among generic arguments.
 ghost use Rattle.std.specs.Prelude.{◌<◌, ◌≤◌, ◌+◌, ◌^◌, IfOk};
 ghost use Rattle.lay_node.specs.reader.Types as reader;
 ghost use Rattle.lay_node.specs.reader.Types.{within};
@@ -16,14 +16,14 @@ use lay_read_tokens::{Ahead, Found, ReadNone};
 use lay_token::{Delim, List};
 use std::alloc::Global;
 
-/// Bounds, as parts of a chain.
+/// Bounds as the parts of a chain.
 pub struct Bounds;
 
 impl Part<Bound, ()> for Bounds {
     ghost reads = { λ depth place ts. reader.one_bound (within depth) ts };
 }
 
-/// What is captured, after `use`.
+/// Parses the arguments of `use<..>`, after the `use`.
 #[inline(never)]
 fn captures(alloc: Global, at: &mut Ahead<'_>) -> Result<Found<Bound>, ReadNone>
     ensures read { IsFound (reader.captures at.old) result at.new }
@@ -40,7 +40,7 @@ impl<
     F: Fn(Global, &mut Ahead<'_>, TypePlace, u32) -> Result<Found<Ty>, ReadNone>,
     G: Fn(Global, &mut Ahead<'_>, u32) -> Result<Found<Constraint>, ReadNone>,
 > Rules<F, G> {
-    /// A bound that is a path, in parentheses or not.
+    /// Parses a bound that is a path; `parens` says that it is in parentheses.
     #[tactic(auto, unfolding(lay_node::specs::reader::Types::meets))]
     fn meets(&self, at: &mut Ahead<'_>, parens: bool) -> Result<Found<Bound>, ReadNone>
         requires { AreDeeper self.now.depth (F.pre self.now.types) (F.post self.now.types)
@@ -62,7 +62,7 @@ impl<
         })
     }
 
-    /// A bound.
+    /// Parses a bound.
     #[tactic(auto, unfolding(lay_node::specs::reader::Types::one_bound))]
     fn bound(&self, at: &mut Ahead<'_>, _place: ()) -> Result<Found<Bound>, ReadNone>
         requires { AreDeeper self.now.depth (F.pre self.now.types) (F.post self.now.types)
@@ -91,7 +91,7 @@ impl<
         }
     }
 
-    /// Bounds, one at least.
+    /// Parses one or more bounds.
     #[tactic(auto, using(crate::proofs::Left::bound_leaves))]
     pub fn all_bounds(&self, at: &mut Ahead<'_>) -> Result<Found<List<Bound>>, ReadNone>
         requires { AreDeeper self.now.depth (F.pre self.now.types) (F.post self.now.types)
@@ -110,7 +110,7 @@ impl<
         )
     }
 
-    /// As many bounds as there are, or one alone, by where they stand.
+    /// Parses one or more bounds, or only one where the place allows no more.
     #[tactic(auto, unfolding(lay_node::specs::reader::Types::bounds_by))]
     pub fn bounds(
         &self,
@@ -136,7 +136,7 @@ impl<
         }
     }
 
-    /// What a name is equal to, after its `=`.
+    /// Parses what a name is equal to, after the `=`.
     fn equal(&self, at: &mut Ahead<'_>) -> Result<Found<Constraint>, ReadNone>
         requires deeper { AreDeeper self.now.depth (F.pre self.now.types) (F.post self.now.types)
             (G.pre self.now.constraints) (G.post self.now.constraints) }
@@ -158,7 +158,7 @@ impl<
         })
     }
 
-    /// What is asked of a name among generic arguments.
+    /// Parses the constraint of a name among generic arguments.
     #[tactic(auto, unfolding(lay_node::specs::reader::Types::constraint_by))]
     pub fn constraint(&self, at: &mut Ahead<'_>) -> Result<Found<Constraint>, ReadNone>
         requires deeper { AreDeeper self.now.depth (F.pre self.now.types) (F.post self.now.types)

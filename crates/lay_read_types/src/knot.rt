@@ -1,4 +1,4 @@
-//! What is read within a depth.
+//! The recursion: types, and what contains them, within a depth limit.
 ghost use Rattle.std.specs.Prelude.{◌≤◌, IfOk};
 ghost use Rattle.lay_node.specs.reader.Types.{all_bounds, args_by, path, type_at, within};
 ghost use Rattle.lay_read_tokens.specs.Answers.{IsFound};
@@ -9,7 +9,7 @@ use lay_read_tokens::{Ahead, Found, ReadNone};
 use lay_token::List;
 use std::alloc::Global;
 
-/// A type at its place, within a depth.
+/// Parses a type at a place. What it contains fits in `depth` levels.
 #[cycle(types)]
 pub fn type_ahead(
     alloc: Global,
@@ -32,7 +32,7 @@ pub fn type_ahead(
     rules.type_by(at, place)
 }
 
-/// What is asked of a name among generic arguments, within a depth.
+/// Parses the constraint of a name among generic arguments, within `depth` levels.
 #[cycle(types)]
 pub fn constraint_ahead(
     alloc: Global,
@@ -54,7 +54,7 @@ pub fn constraint_ahead(
     rules.constraint(at)
 }
 
-/// A path, with what is within it within the depth.
+/// Parses a path. What it contains fits in `depth` levels.
 pub fn path_ahead(
     alloc: Global,
     at: &mut Ahead<'_>,
@@ -73,7 +73,7 @@ pub fn path_ahead(
     rules.path(at, style)
 }
 
-/// Generic arguments, with what is within them within the depth.
+/// Parses generic arguments. What they contain fits in `depth` levels.
 pub fn args_ahead(
     alloc: Global,
     at: &mut Ahead<'_>,
@@ -92,7 +92,7 @@ pub fn args_ahead(
     rules.args(at, style)
 }
 
-/// Bounds, one at least, with what is within them within the depth.
+/// Parses one or more bounds. Everything nested in them fits in `depth` levels.
 pub fn bounds_ahead(
     alloc: Global,
     at: &mut Ahead<'_>,

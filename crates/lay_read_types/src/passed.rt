@@ -1,4 +1,4 @@
-//! Simple paths that are passed, where nothing of them is kept.
+//! Simple paths that are skipped, so that nothing is allocated for them.
 ghost use Rattle.std.specs.Prelude.{◌≡◌, is_some};
 ghost use Rattle.lay_node.specs.reader.Loops.{repeat};
 ghost use Rattle.lay_node.specs.reader.SimplePath.{begins_colons, further_word, simple_path};
@@ -10,7 +10,8 @@ use lay_read_tokens::front::{is_at_colons, pass, pass_two, takes_colons};
 use lay_token::word::{Class, word_class};
 use lay_token::{Kind, Token};
 
-/// Passes a simple path, if one comes next. Where there is none the place may be anywhere.
+/// Moves past a simple path, if one comes next, and says whether it did. If it didn't, the cursor
+/// may be anywhere.
 #[tactic(auto, unfolding(lay_node::specs::reader::SimplePath::simple_path))]
 pub fn takes_simple_path(at: &mut Ahead<'_>) -> bool
     ensures { IsPassed (simple_path at.old) result at.new }
@@ -19,7 +20,7 @@ pub fn takes_simple_path(at: &mut Ahead<'_>) -> bool
     takes_word(at) && takes_further_words(at)
 }
 
-/// Passes the words of a simple path after its first, each with the `::` before it.
+/// Moves past the words of a simple path after its first, each with the `::` before it.
 fn takes_further_words(at: &mut Ahead<'_>) -> bool
     ensures { IsPassed (repeat begins_colons further_word at.old) result at.new }
 {
@@ -31,7 +32,7 @@ fn takes_further_words(at: &mut Ahead<'_>) -> bool
     true
 }
 
-/// Passes a word after its `::`.
+/// Moves past a `::` and a word.
 fn takes_further_word(at: &mut Ahead<'_>) -> bool
     ensures { IsPassed (further_word at.old) result at.new }
 {
@@ -39,7 +40,7 @@ fn takes_further_word(at: &mut Ahead<'_>) -> bool
     takes_word(at)
 }
 
-/// Passes a word of a path.
+/// Moves past a word of a path.
 fn takes_word(at: &mut Ahead<'_>) -> bool
     ensures { IsPassed (word at.old) result at.new }
 {

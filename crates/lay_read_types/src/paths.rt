@@ -1,4 +1,4 @@
-//! Paths.
+//! Parsing of paths.
 ghost use Rattle.std.specs.Prelude.{◌≡◌, ◌≤◌, codes, IfOk};
 ghost use Rattle.lay_node.specs.Ahead.{first, is_keyword, tail};
 ghost use Rattle.lay_node.specs.nodes.Types.{about_args};
@@ -20,7 +20,7 @@ use lay_read_tokens::{Ahead, Found, ReadNone};
 use lay_token::List;
 use std::alloc::Global;
 
-/// Segments, as parts of a path.
+/// Segments as the parts of a path.
 pub struct Segments;
 
 impl Part<(Word, Args), PathStyle> for Segments {
@@ -31,7 +31,7 @@ impl<
     F: Fn(Global, &mut Ahead<'_>, TypePlace, u32) -> Result<Found<Ty>, ReadNone>,
     G: Fn(Global, &mut Ahead<'_>, u32) -> Result<Found<Constraint>, ReadNone>,
 > Rules<F, G> {
-    /// A segment.
+    /// Parses a segment.
     #[tactic(auto, unfolding(lay_node::specs::reader::Types::segment))]
     fn segment(&self, at: &mut Ahead<'_>, style: PathStyle) -> Result<Found<(Word, Args)>, ReadNone>
         requires { AreDeeper self.now.depth (F.pre self.now.types) (F.post self.now.types)
@@ -47,7 +47,7 @@ impl<
         })
     }
 
-    /// Segments, one at least.
+    /// Parses one or more segments.
     #[tactic(auto, using(crate::proofs::Left::segment_leaves))]
     fn segments(
         &self,
@@ -71,7 +71,7 @@ impl<
         )
     }
 
-    /// A trait, which is one level deeper, as a type is.
+    /// Parses a trait, which counts one level of depth more, as a type does.
     fn trait_path(&self, at: &mut Ahead<'_>) -> Result<Found<Path>, ReadNone>
         requires { AreDeeper self.now.depth (F.pre self.now.types) (F.post self.now.types)
             (G.pre self.now.constraints) (G.post self.now.constraints) }
@@ -85,7 +85,7 @@ impl<
         }
     }
 
-    /// The trait that a type is taken as, if there is one.
+    /// Parses the `as` and the trait of `<A as B>::`, if they come next.
     fn trait_if(&self, at: &mut Ahead<'_>) -> Result<Found<Option<Boxed<Path>>>, ReadNone>
         requires { AreDeeper self.now.depth (F.pre self.now.types) (F.post self.now.types)
             (G.pre self.now.constraints) (G.post self.now.constraints) }
@@ -107,7 +107,7 @@ impl<
         })
     }
 
-    /// A type in `<` and `>::`, and the trait that it is taken as.
+    /// Parses `<A as B>::` or `<A>::`.
     #[tactic(auto, unfolding(lay_node::specs::reader::Types::qualified))]
     fn qualified(&self, at: &mut Ahead<'_>) -> Result<Found<PathStart>, ReadNone>
         requires { AreDeeper self.now.depth (F.pre self.now.types) (F.post self.now.types)
@@ -131,7 +131,7 @@ impl<
         })
     }
 
-    /// What a path begins with.
+    /// Parses the beginning of a path.
     fn path_start(&self, at: &mut Ahead<'_>) -> Result<Found<PathStart>, ReadNone>
         requires { AreDeeper self.now.depth (F.pre self.now.types) (F.post self.now.types)
             (G.pre self.now.constraints) (G.post self.now.constraints) }
@@ -153,7 +153,7 @@ impl<
         }
     }
 
-    /// A path.
+    /// Parses a path.
     #[tactic(auto, unfolding(lay_node::specs::reader::Types::path))]
     pub fn path(&self, at: &mut Ahead<'_>, style: PathStyle) -> Result<Found<Path>, ReadNone>
         requires { AreDeeper self.now.depth (F.pre self.now.types) (F.post self.now.types)
@@ -176,7 +176,7 @@ impl<
     }
 }
 
-/// The path that a type is, if it is one.
+/// The path of a type that is a path.
 pub fn into_path(ty: Ty) -> Option<Path>
     ensures { result ≡ reader.as_path ty }
 {
@@ -198,7 +198,7 @@ fn has_output(args: &Args) -> bool
     }
 }
 
-/// Whether a return type stands on the last segment alone.
+/// Whether only the last segment has a return type.
 fn returns_last(segments: &[(Word, Args)]) -> bool
     ensures { result ≡ reader.returns_last segments.now }
 {

@@ -1,4 +1,4 @@
-//! What stands at the beginning of the tokens of a text.
+//! The public readers of types, paths, generic arguments and bounds.
 ghost use Rattle.lay_node.specs.nodes.Facts.{Front};
 ghost use Rattle.lay_node.specs.nodes.Types.{BoundsFront, TypeFront, about_args, about_path, about_type, alone, in_style};
 ghost use Rattle.lay_node.specs.declared.types.Args.{Args as ArgsValue};
@@ -14,7 +14,7 @@ use lay_read_tokens::{Ahead, ReadNone};
 use lay_token::List;
 use std::alloc::Global;
 
-/// The type at the beginning, at its place and within the depth. Where there is none the cursor stays.
+/// Parses the next type, at `place` and within `depth` levels. On an error the cursor doesn't move.
 pub fn read_type(
     alloc: Global,
     at: &mut Cursor<'_>,
@@ -31,8 +31,8 @@ pub fn read_type(
     Ok(found.node)
 }
 
-/// The path at the beginning, in the style and within the depth. What is within stands one level deeper. Where there is
-/// none the cursor stays.
+/// Parses the next path, with generic arguments in this style, within `depth` levels, of which the
+/// path takes one. On an error the cursor doesn't move.
 pub fn read_path(
     alloc: Global,
     at: &mut Cursor<'_>,
@@ -52,8 +52,8 @@ pub fn read_path(
     Ok(found.node)
 }
 
-/// The generic arguments at the beginning, in code with their `::`, within the depth. What is within stands one level
-/// deeper. Where there is none the cursor stays.
+/// Parses the next generic arguments, within `depth` levels, of which they take one; in an
+/// expression they begin with `::`. On an error the cursor doesn't move.
 pub fn read_args(
     alloc: Global,
     at: &mut Cursor<'_>,
@@ -73,8 +73,8 @@ pub fn read_args(
     Ok(found.node)
 }
 
-/// The bounds at the beginning, as many as there are, within the depth. What is within stands one level deeper. Where
-/// there is none the cursor stays.
+/// Parses the next bounds, as many as there are, within `depth` levels, of which they take one. On
+/// an error the cursor doesn't move.
 pub fn read_bounds(alloc: Global, at: &mut Cursor<'_>, depth: u32) -> Result<List<Bound>, ReadNone>
     requires { AreLexed at.old }
     ensures { IsReadAt depth BoundsFront at.old result at.new }

@@ -1,4 +1,4 @@
-//! What the rules share: how what is one level deeper is read.
+//! What the rules share: the readers of the next deeper level.
 ghost use Rattle.std.specs.Prelude.{◌≤◌, IfOk};
 ghost use Rattle.lay_node.specs.reader.Types.{within};
 ghost use Rattle.lay_read_tokens.specs.Answers.{IsFound};
@@ -8,12 +8,12 @@ use lay_node::{Constraint, Ty, TypePlace};
 use lay_read_tokens::{Ahead, Found, ReadNone};
 use std::alloc::Global;
 
-/// The rules of a level, over the readers of what is one level deeper: of types, at a place, and of what is asked of a
-/// name among generic arguments.
+/// The rules of one level, over the readers of the next deeper level: of types at a place, and of
+/// constraints.
 #[derive(Drop)]
 pub struct Rules<F, G> {
     pub alloc: Global,
-    /// At this depth what is one level deeper is read.
+    /// The depth limit of the next deeper level.
     pub depth: u32,
     pub types: F,
     pub constraints: G,
@@ -23,7 +23,7 @@ impl<
     F: Fn(Global, &mut Ahead<'_>, TypePlace, u32) -> Result<Found<Ty>, ReadNone>,
     G: Fn(Global, &mut Ahead<'_>, u32) -> Result<Found<Constraint>, ReadNone>,
 > Rules<F, G> {
-    /// A type one level deeper.
+    /// Parses a type of the next deeper level.
     pub fn inner(&self, at: &mut Ahead<'_>, place: TypePlace) -> Result<Found<Ty>, ReadNone>
         requires { AreDeeper self.now.depth (F.pre self.now.types) (F.post self.now.types)
             (G.pre self.now.constraints) (G.post self.now.constraints) }
@@ -33,7 +33,7 @@ impl<
         (self.types)(self.alloc, at, place, self.depth)
     }
 
-    /// What is asked of a name, one level deeper.
+    /// Parses a constraint of the next deeper level.
     pub fn asked(&self, at: &mut Ahead<'_>) -> Result<Found<Constraint>, ReadNone>
         requires { AreDeeper self.now.depth (F.pre self.now.types) (F.post self.now.types)
             (G.pre self.now.constraints) (G.post self.now.constraints) }

@@ -1,4 +1,4 @@
-//! Types.
+//! Parsing of types.
 ghost use Rattle.std.specs.Prelude.{◌≡◌, ◌&&◌, ◌<◌, ◌≤◌, ◌+◌, ◌^◌, if◌then◌else◌, codes, drop, IfOk};
 ghost use Rattle.lay_token.specs.Operators.{is_op};
 ghost use Rattle.lay_piece.specs.declared.kind.Delim.TheVariants.{Paren};
@@ -32,14 +32,14 @@ use lay_read_tokens::{Ahead, Found, ReadNone};
 use lay_token::{Delim, List};
 use std::alloc::Global;
 
-/// Types one level deeper, as parts of a list.
+/// Types of the next deeper level as the elements of a list.
 pub struct Types;
 
 impl Part<Ty, TypePlace> for Types {
     ghost reads = { λ depth place ts. (within depth).types place ts };
 }
 
-/// Parameters of a function type, as parts of a list.
+/// Parameters of a function type as the elements of a list.
 pub struct FuncParams;
 
 impl Part<FuncParam, ()> for FuncParams {
@@ -50,7 +50,7 @@ impl<
     F: Fn(Global, &mut Ahead<'_>, TypePlace, u32) -> Result<Found<Ty>, ReadNone>,
     G: Fn(Global, &mut Ahead<'_>, u32) -> Result<Found<Constraint>, ReadNone>,
 > Rules<F, G> {
-    /// A type at its place, told from what begins it.
+    /// Parses a type at a place, by the token that it begins with.
     pub fn type_by(&self, at: &mut Ahead<'_>, place: TypePlace) -> Result<Found<Ty>, ReadNone>
         requires deeper { AreDeeper self.now.depth (F.pre self.now.types) (F.post self.now.types)
             (G.pre self.now.constraints) (G.post self.now.constraints) }
@@ -70,7 +70,7 @@ impl<
         }
     }
 
-    /// A type after the token that begins it.
+    /// Parses a type after the token that it begins with.
     fn marked_type(
         &self,
         at: &mut Ahead<'_>,
@@ -103,7 +103,7 @@ impl<
         }
     }
 
-    /// Types with commas, and the closing parenthesis after them.
+    /// Parses types with commas between them, and the closing parenthesis.
     #[tactic(auto, using(crate::proofs::Left::types_leave))]
     pub fn paren_types(&self, at: &mut Ahead<'_>) -> Result<Found<List<Ty>>, ReadNone>
         requires { AreDeeper self.now.depth (F.pre self.now.types) (F.post self.now.types)
@@ -123,7 +123,7 @@ impl<
         )
     }
 
-    /// What follows a `(`.
+    /// Parses a type after its `(`.
     #[tactic(auto, unfolding(lay_node::specs::reader::Types::paren_type))]
     #[inline(never)]
     fn paren_type(&self, at: &mut Ahead<'_>) -> Result<Found<Ty>, ReadNone>
@@ -145,7 +145,7 @@ impl<
         self.paren_rest(at, first)
     }
 
-    /// What follows a `(` and a type.
+    /// Parses a type after its `(` and the first type in it.
     fn paren_rest(&self, at: &mut Ahead<'_>, first: Found<Ty>) -> Result<Found<Ty>, ReadNone>
         requires deeper { AreDeeper self.now.depth (F.pre self.now.types) (F.post self.now.types)
             (G.pre self.now.constraints) (G.post self.now.constraints) }
@@ -173,7 +173,7 @@ impl<
         })
     }
 
-    /// What follows a `[`.
+    /// Parses a type after its `[`.
     #[tactic(auto, unfolding(lay_node::specs::reader::Types::bracket_type))]
     #[inline(never)]
     fn bracket_type(&self, at: &mut Ahead<'_>) -> Result<Found<Ty>, ReadNone>
@@ -198,7 +198,7 @@ impl<
         }
     }
 
-    /// What follows a `&`.
+    /// Parses a type after its `&`.
     #[tactic(auto, unfolding(lay_node::specs::reader::Types::reference_type))]
     #[inline(never)]
     fn reference_type(&self, at: &mut Ahead<'_>) -> Result<Found<Ty>, ReadNone>
@@ -224,7 +224,7 @@ impl<
         })
     }
 
-    /// What follows a `*`.
+    /// Parses a type after its `*`.
     #[tactic(auto, unfolding(lay_node::specs::reader::Types::pointer_type))]
     fn pointer_type(&self, at: &mut Ahead<'_>) -> Result<Found<Ty>, ReadNone>
         requires deeper { AreDeeper self.now.depth (F.pre self.now.types) (F.post self.now.types)
@@ -409,7 +409,7 @@ impl<
     }
 }
 
-/// Whether what a pointer leads to may change: `mut` or `const`.
+/// Parses `mut` or `const` of a raw pointer, and says whether it is `mut`.
 fn is_mutable(at: &mut Ahead<'_>) -> Result<bool, ReadNone>
     ensures { IsGot (reader.is_mutable at.old) result at.new }
 {
@@ -422,7 +422,7 @@ fn is_mutable(at: &mut Ahead<'_>) -> Result<bool, ReadNone>
     }
 }
 
-/// An array, after its `;`.
+/// Parses an array after its `;`.
 fn array(alloc: Global, at: &mut Ahead<'_>, element: Found<Ty>) -> Result<Found<Ty>, ReadNone>
     requires { element.need + 1 < 2 ^ 32 }
     ensures read { IsFound (reader.array_by (element.node, element.need) at.old) result at.new }
@@ -440,7 +440,7 @@ fn array(alloc: Global, at: &mut Ahead<'_>, element: Found<Ty>) -> Result<Found<
     })
 }
 
-/// Whether a macro call comes next: a path of words before a `!`. Nothing of it is kept, so no memory is taken.
+/// Whether a macro call comes next: a simple path and a `!`. Nothing is allocated.
 pub fn begins_call(alloc: Global, at: &Ahead<'_>) -> Result<bool, ReadNone>
     ensures { IsMade (reader.begins_call at.now) result }
 {
@@ -448,7 +448,7 @@ pub fn begins_call(alloc: Global, at: &Ahead<'_>) -> Result<bool, ReadNone>
     Ok(takes_simple_path(&mut behind) && behind.op_is(b"!"))
 }
 
-/// The name of a parameter and the `:` after it, if they stand there.
+/// Parses the name of a parameter and the `:` after it, if they come next.
 fn read_param_name_if(alloc: Global, at: &mut Ahead<'_>) -> Result<Option<GivenName>, ReadNone>
     ensures { IsGot (reader.if_there (reader.begins_given at.old) reader.param_name at.old) result
         at.new }
@@ -467,7 +467,7 @@ fn read_param_name_if(alloc: Global, at: &mut Ahead<'_>) -> Result<Option<GivenN
     }
 }
 
-/// Passes `...`, if it may come next and does.
+/// Moves past `...`, if it may stand here and comes next, and says whether it did.
 fn takes_dots(at: &mut Ahead<'_>, may_vary: bool) -> bool
     ensures found { result ≡ (may_vary && is_op (codes "...") at.old) }
     ensures passed { at.new ≡ (if result then drop 3 at.old else at.old) }

@@ -1,4 +1,4 @@
-//! What holds of every block, statement and arm that stands by itself.
+//! The theorems about blocks, statements and arms that stand alone. (No code runs.)
 ghost use Rattle.std.specs.Prelude.{◌≡◌, ℕ, List};
 ghost use Rattle.lay_token.specs.declared.token.Token.{Token};
 ghost use Rattle.lay_node.specs.reader.Exact.{Exact};
@@ -9,14 +9,15 @@ ghost use Rattle.lay_code.specs.declared.blocks.Stmt.{Stmt};
 ghost use Rattle.lay_read_shared.specs.alone.ArmFronts.{ArmFront, alone_arm};
 ghost use Rattle.lay_read_shared.specs.alone.Fronts.{BlockFront, StmtFront, alone, stmt_alone};
 
-/// The functions that read blocks, statements and arms read exactly what stands at the beginning of the tokens.
+/// The readers of blocks, statements and arms read exactly the node that the next tokens spell, and
+/// none if they spell none.
 pub fn alone_law()
     ensures blocks { Exact (alone block_by) BlockFront }
     ensures stmts { Exact (alone stmt_alone) StmtFront }
     ensures arms { Exact alone_arm ArmFront }
 {}
 
-/// At most one block, statement or arm and one count of tokens fit.
+/// At most one block, statement or arm, of one length in tokens, is spelled at a place.
 pub fn front_law()
     ensures one_block { (node other : Block) (ts : List Token) (n m depth : ℕ)
         → BlockFront node ts n depth → BlockFront other ts m depth → (node ≡ other) × (n ≡ m) }
