@@ -94,8 +94,8 @@ fn place_value(
     }
 }
 
-/// Puts them in a value that stands before an `else`. Its parts are placed as anywhere in a
-/// statement. Then the value gets a pair if it can't precede the `else`, which depends on the
+/// Puts them in a value that stands before an `else`. Its parts are placed as if the value stood in
+/// parentheses. Then the value gets a pair if it can't precede the `else`, which depends on the
 /// parentheses that its parts got.
 #[cycle(code)]
 #[tactic(auto, using(crate::proofs::Becoming::before_else, crate::proofs::Becoming::not_before_else))]
