@@ -1,4 +1,5 @@
-//! Where scanning and printing meet: the entry at the front of the row is printed once it is decided.
+//! Where scanning and printing meet: the first entry of the row is printed once it is decided
+//! whether it fits.
 ghost use Rattle.std.specs.Prelude.{◌≡◌, ◌+◌, ◌%◌, ◌^◌, ◌<◌, ◌≤◌, List, [], ◌∷◌, ◌++◌, length, nat_lt, OnOk, OnErr, IfOk, IfErr, IsOk, IsTrue, Some, None, false};
 ghost use Rattle.lay_layout.specs.declared.layout.Tok.TheVariants as tok;
 ghost use Rattle.lay_layout.specs.Machine.{opened, IsNested};
@@ -25,16 +26,18 @@ use lay_text::NoMemory;
 pub enum PrintError {
     /// A write of the sink failed.
     WriteFailed,
-    /// There was no memory.
+    /// Memory could not be allocated.
     NoMemory,
 }
 
-/// The tokens that wait, and where the layout stands before them. There is room for a frame for each.
+/// The waiting tokens, and the state of the layout before them. There is room for a frame for each
+/// token.
 #[derive(Drop)]
 pub struct Engine {
     pub queue: Queue,
     pub page: Page,
-    /// How many bytes of text may wait before the oldest entry is forced, once it is found undecided.
+    /// How many bytes of text may wait before the oldest entry is forced; computed when it is found
+    /// undecided.
     pub limit: u64,
     ghost room: { length queue.ring.entries ≤ page.frames.spare },
     ghost level: { queue.groups ≡ opened (toks_of queue.ring.entries) (length page.frames.frames) },
@@ -46,8 +49,9 @@ impl Engine {
     ghost use Rattle.lay_printer.specs.Printers.{Blames};
     ghost use Rattle.lay_printer.specs.declared.engine.PrintError.TheVariants.{WriteFailed};
 
-    /// A token is fed: it waits, and then what is decided is printed. `roomy` says that there is room for it, so that
-    /// it need not be looked for. The oldest entry wasn't decided before, so few tokens decide it.
+    /// Takes a token, and prints what is then decided. `roomy` says that there is room for it, so
+    /// that room need not be looked for. The oldest entry wasn't decided before, so few tokens can
+    /// decide it.
     #[inline(always)]
     pub fn feed<K: Sink>(
         &mut self,
@@ -95,8 +99,8 @@ impl Engine {
         self.queue.len() > 0
     }
 
-    /// Whether the oldest entry, which wasn't decided, isn't by this token, which came: a text decides it where more
-    /// waits than may, and a break where it ends its measure.
+    /// Whether the oldest entry is still undecided after this token: a text decides it if more text
+    /// waits than may, and a break if it ends its measured width.
     #[inline(always)]
     fn stays(&self, tok: LentTok<'_>) -> bool
         ensures { IsTrue result → MayStay (tok_of tok.entry) self.now.queue.ring.entries self.now.queue.waiting self.now.limit }
@@ -127,7 +131,7 @@ impl Engine {
         self.queue.len() == 0
     }
 
-    /// A text is fed where nothing waits: it is printed at once.
+    /// Prints a text at once. Nothing may wait.
     #[inline(always)]
     pub fn print_text<K: Sink>(&mut self, sink: &mut K, text: &[u8]) -> Result<(), Failed>
         requires idle { self.old.queue.ring.entries ≡ [] }
@@ -140,8 +144,8 @@ impl Engine {
         self.page.print_text(sink, text)
     }
 
-    /// A text is fed that is longer than the space of any line: it decides all that waits, so that is printed, and then
-    /// the text.
+    /// Takes a text that is longer than any line. It decides everything that waits: so that is
+    /// printed, and then the text.
     #[inline(never)]
     pub fn print_long<K: Sink>(&mut self, sink: &mut K, text: &[u8]) -> Result<(), Failed>
         requires ended { self.old.queue.ended ≡ false }
@@ -160,7 +164,7 @@ impl Engine {
         self.page.print_text(sink, text)
     }
 
-    /// Whether a break is printed at once, since nothing waits and what follows it doesn't count.
+    /// Whether a break can be printed at once: nothing waits, and what follows it doesn't matter.
     #[inline(always)]
     pub fn is_clear(&self, brk: Break) -> bool
         ensures idle { IsTrue result → self.now.queue.ring.entries ≡ [] }
@@ -172,7 +176,7 @@ impl Engine {
         false
     }
 
-    /// A break is fed that is printed at once.
+    /// Prints a break at once.
     #[inline(always)]
     pub fn print_break<K: Sink>(&mut self, sink: &mut K, brk: Break) -> Result<(), Failed>
         requires idle { self.old.queue.ring.entries ≡ [] }
@@ -186,7 +190,7 @@ impl Engine {
         self.page.print_break(sink, brk)
     }
 
-    /// No more tokens come: the rest is printed. Then tokens may come again.
+    /// Prints the rest: no more tokens come. Then tokens may come again.
     pub fn finish<K: Sink>(&mut self, sink: &mut K) -> Result<(), Failed>
         requires ended { self.old.queue.ended ≡ false }
         requires groups { self.old.queue.groups ≡ 0 }
@@ -208,7 +212,7 @@ impl Engine {
         }
     }
 
-    /// A token comes, for which room is made if there may be none.
+    /// Takes a token, and makes room for it unless `roomy`.
     #[inline(always)]
     fn take(&mut self, tok: LentTok<'_>, roomy: bool) -> Result<(), NoMemory>
         requires roomy { IsTrue roomy → 0 < room_of self.old }
@@ -235,7 +239,7 @@ impl Engine {
         Ok(())
     }
 
-    /// A token comes for which there is room. It waits, with room for a frame.
+    /// Takes a token, for which there must be room. It waits, with room for a frame.
     #[inline(always)]
     fn put(&mut self, tok: LentTok<'_>)
         requires room { 0 < room_of self.old }
@@ -256,7 +260,7 @@ impl Engine {
         self.queue.scan(tok);
     }
 
-    /// Prints entries while they are decided, where so many bytes of text stand after those that wait.
+    /// Prints entries as long as they are decided; `behind` bytes of text follow those that wait.
     #[inline(never)]
     fn print_decided<K: Sink>(&mut self, sink: &mut K, behind: u64) -> Result<(), Failed>
         ensures prints { (tail : List Entry) → sum_waiting tail ≡ behind → Advances self.old.queue.ended (self.old.queue.ring.entries ++ tail) self.old.page.line self.old.page.frames.frames (K.written sink.old) result (self.new.queue.ring.entries ++ tail) self.new.page.line self.new.page.frames.frames (K.written sink.new) (λ s. s) }
@@ -273,8 +277,8 @@ impl Engine {
         Ok(())
     }
 
-    /// Whether the oldest entry doesn't fit, once that is decided, where so many bytes of text stand after those that
-    /// wait.
+    /// Whether the oldest entry doesn't fit, or `None` if that isn't decided; `behind` bytes of
+    /// text follow those that wait.
     #[inline(always)]
     fn decide(&self, behind: u64) -> Option<bool>
         ensures { Decided self.now.queue.ring.entries (self.now.queue.waiting + behind) self.now.page.line result }
@@ -295,7 +299,7 @@ impl Engine {
         }
     }
 
-    /// How many bytes of text may wait before the oldest entry, which isn't decided, is forced.
+    /// How many bytes of text may wait before the oldest entry, which is undecided, is forced.
     #[inline(always)]
     fn slack(&self) -> u64
         requires { IsUndecided self.now.queue.ring.entries self.now.page.line }
@@ -307,7 +311,8 @@ impl Engine {
         }
     }
 
-    /// Prints the oldest entry where it stands, and takes it away, and with a text the texts that follow it.
+    /// Prints and drops the oldest entry; if it is a text, the texts that follow it too. `big` says
+    /// that it doesn't fit.
     #[inline(always)]
     fn print_front<K: Sink>(&mut self, sink: &mut K, big: bool) -> Result<(), Failed>
         requires { 0 < length self.old.queue.ring.entries }
@@ -333,7 +338,7 @@ impl Engine {
         printed
     }
 
-    /// How many tokens may come before memory is taken.
+    /// How many more tokens fit without allocating.
     #[inline(always)]
     pub fn room(&self) -> usize
         ensures { result ≡ room_of self.now }
@@ -342,8 +347,8 @@ impl Engine {
         self.queue.room().min(rooms)
     }
 
-    /// How many tokens may come before memory is taken, after one token: where so many might before, one less,
-    /// which needs no look at the room.
+    /// How many more tokens fit without allocating, after one token: one fewer than `before`,
+    /// without a look at the room.
     #[inline(always)]
     pub fn room_after(&self, before: usize) -> usize
         requires { before ≤ room_of self.now + 1 }
@@ -356,7 +361,7 @@ impl Engine {
         }
     }
 
-    /// Makes room for so many more tokens.
+    /// Makes room for `n` more tokens.
     pub fn reserve(&mut self, n: usize) -> Result<(), NoMemory>
         ensures stays { Stays self.old self.new }
         ensures entries { self.new.queue.ring.entries ≡ self.old.queue.ring.entries }

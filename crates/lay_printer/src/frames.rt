@@ -1,4 +1,4 @@
-//! The frames of the groups that are open, and room for more.
+//! The stack of frames of the open groups, with spare room.
 ghost use Rattle.std.specs.Prelude.{◌≡◌, ◌+◌, ◌^◌, ◌<◌, ◌≤◌, [], ◌∷◌, length, OnOk};
 ghost use Rattle.lay_layout.specs.Machine.{top, below};
 ghost use Rattle.lay_layout.specs.Indents.{IsKept};
@@ -8,7 +8,7 @@ use lay_text::NoMemory;
 use std::alloc::Global;
 use std::marker::Model;
 
-/// The frames of the groups that are open, the innermost first.
+/// The stack of frames of the open groups. Contracts see it with the innermost first.
 #[derive(Drop)]
 pub struct Frames {
     items: Vec<Frame>,
@@ -28,7 +28,7 @@ impl Model for Frames {
 }
 
 impl Frames {
-    /// No group is open.
+    /// The empty stack.
     pub fn new(alloc: Global) -> Frames
         ensures { result.frames ≡ [] }
     {
@@ -37,7 +37,7 @@ impl Frames {
         }
     }
 
-    /// A group is begun. There must be room for it.
+    /// Pushes the frame of a group that begins. There must be room for it.
     pub fn push(&mut self, frame: Frame)
         requires small { IsKept frame }
         requires room { 0 < self.old.spare }
@@ -50,7 +50,7 @@ impl Frames {
         }
     }
 
-    /// The group that was begun last is ended.
+    /// Pops the frame of the innermost group, which ends.
     pub fn pop(&mut self)
         ensures frames { self.new.frames ≡ below self.old.frames }
         ensures spare { self.old.spare ≤ self.new.spare }
@@ -58,7 +58,8 @@ impl Frames {
         let _ = self.items.pop();
     }
 
-    /// The frame that counts: outside all groups it is broken, inconsistent, with indent 0.
+    /// The frame of the innermost group; outside all groups it is broken, inconsistent, with indent
+    /// 0.
     pub fn top(&self) -> Frame
         ensures value { result ≡ top self.now.frames }
         ensures small { IsKept result }
@@ -77,7 +78,7 @@ impl Frames {
         self.items.capacity() - self.items.len()
     }
 
-    /// Makes room for so many more groups.
+    /// Makes room for `n` more groups.
     pub fn reserve(&mut self, n: usize) -> Result<(), NoMemory>
         ensures frames { self.new.frames ≡ self.old.frames }
         ensures ok { OnOk result (n ≤ self.new.spare) }

@@ -1,4 +1,4 @@
-//! The printing side: tokens are printed where the layout stands.
+//! The printing half: tokens are put on the current line.
 ghost use Rattle.std.specs.Prelude.{◌≡◌, ◌+◌, ◌<◌, ◌≤◌, true, [], ◌∷◌, length, IsTrue};
 ghost use Rattle.lay_layout.specs.declared.layout.Tok.TheVariants as tok;
 ghost use Rattle.lay_layout.specs.Machine.{opened};
@@ -12,7 +12,7 @@ use lay_layout::{Break, asks_at_break, entered, width_of};
 use lay_ring::LentTok;
 use lay_stream::{Line, exceeds};
 
-/// Where the layout stands: the line that is being written, and the frames of the groups that are open there.
+/// The state of the layout: the line that is being written, and the frames of the open groups.
 #[derive(Drop)]
 pub struct Page {
     pub line: Line,
@@ -53,7 +53,8 @@ impl Page {
         true
     }
 
-    /// Prints a token, of which it is known whether its measure is greater than the space.
+    /// Prints a token; `big` says that its width up to the next break is greater than the space
+    /// that is left.
     pub fn print<K: Sink>(
         &mut self,
         sink: &mut K,

@@ -1,4 +1,4 @@
-//! Printers: one that is lent its sink, and one that owns it.
+//! Printers: one that borrows its sink, and one that owns it.
 ghost use Rattle.std.specs.Prelude.{◌≡◌, ◌+◌, ◌<◌, ◌≤◌, [], ◌∷◌, OnOk, OnErr, IfOk, IfErr, None, Some, MatchResult};
 ghost use Rattle.lay_layout.specs.declared.layout.Tok.TheVariants as tok;
 ghost use Rattle.lay_layout.specs.Machine.{text};
@@ -21,7 +21,7 @@ use lay_text::{NoMemory, Text};
 use std::alloc::Global;
 use std::marker::Model;
 
-/// A printer that is lent what it keeps and its sink, so that the sink can be one that was handed in by
+/// A printer that borrows its core and its sink, so the sink may be one that was passed by
 /// reference. Its memory is that of the [`Core`].
 #[derive(Drop)]
 pub struct Press<'p, K: Sink> {
@@ -30,7 +30,7 @@ pub struct Press<'p, K: Sink> {
 }
 
 impl<'p, K: Sink> Press<'p, K> {
-    /// A printer as the core stands, over the sink.
+    /// A printer in the state of the core, over the sink.
     pub fn new(core: &'p mut Core, sink: &'p mut K) -> Press<'p, K>
         ensures core { lent_core result ≡ core.entry.now }
         ensures sink { lent_sink result ≡ sink.entry.now }
@@ -39,7 +39,7 @@ impl<'p, K: Sink> Press<'p, K> {
         Press { core, sink }
     }
 
-    /// Prints the rest: no more tokens come. Every group must have ended, unless a call has failed.
+    /// Prints the rest: no more tokens come. No group may be open, unless a call has failed.
     pub fn finish(&mut self) -> Result<(), PrintError>
         requires { (lent_core self.old).failed ≡ None → (lent_core self.old).groups ≡ 0 }
         ensures finishes { Finishes (lent_core self.old) (K.written (lent_sink self.old)) (K.faults (lent_sink self.old)) result (lent_core self.new) (K.written (lent_sink self.new)) (K.faults (lent_sink self.new)) }
@@ -54,7 +54,7 @@ impl<'p, K: Sink> Press<'p, K> {
         self.core.finish(self.sink)
     }
 
-    /// Feeds a text that is owned: with room for a token it wants no memory.
+    /// Takes a text by value. If there is room for a token, it doesn't allocate.
     pub fn text_owned(&mut self, text: Text) -> Result<(), PrintError>
         ensures did { Did (press_meanings K.written K.faults K.loan) self.old (tok.Text text ∷ []) result self.new }
         ensures room { TakesRoom (lent_core self.old) result (lent_core self.new) }
@@ -64,14 +64,15 @@ impl<'p, K: Sink> Press<'p, K> {
         self.core.text_owned(self.sink, text)
     }
 
-    /// How many groups are open: `end` asks for one, and `finish` for none.
+    /// How many groups are open. `end` requires at least one, `finish` none.
     pub fn open_groups(&self) -> u64
         ensures { result ≡ (lent_core self.now).groups }
     {
         self.core.open_groups()
     }
 
-    /// How many bytes of text were fed and aren't in the sink: no more than the space.
+    /// How many bytes of text were taken and aren't in the sink yet: at most as many as fit in the
+    /// space that is left.
     pub fn waiting(&self) -> usize
         ensures value { result ≡ sum_waiting (lent_core self.now).entries }
         ensures lag { (lent_core self.now).failed ≡ None → FitSpace (lent_core self.now) result }
@@ -79,21 +80,22 @@ impl<'p, K: Sink> Press<'p, K> {
         self.core.waiting()
     }
 
-    /// The space of the line, or -2^62 where it is less.
+    /// The columns that are left on the line, at least -2^62.
     pub fn space(&self) -> i64
         ensures { IsSpace (lent_core self.now) result }
     {
         self.core.space()
     }
 
-    /// How many tokens may come before memory is taken.
+    /// How many more tokens fit without allocating.
     pub fn spare(&self) -> usize
         ensures { result ≡ (lent_core self.now).spare }
     {
         self.core.spare()
     }
 
-    /// Makes room for so many more tokens. All else stays as it was, and after `NoMemory` all does.
+    /// Makes room for `n` more tokens, and changes nothing else. After `NoMemory` nothing is
+    /// changed.
     pub fn reserve(&mut self, n: usize) -> Result<(), NoMemory>
         ensures ok { OnOk result (n ≤ (lent_core self.new).spare) }
         ensures never_less { (lent_core self.old).spare ≤ (lent_core self.new).spare }
@@ -156,7 +158,7 @@ pub struct Printer<K: Sink> {
     sink: K,
 }
 
-/// Why a stream wasn't printed whole, and the sink.
+/// The error of a printer, and its sink.
 #[derive(Drop)]
 pub struct PrintFault<K> {
     pub error: PrintError,
@@ -172,7 +174,7 @@ impl<K: Sink> Model for Printer<K> {
 }
 
 impl<K: Sink> Printer<K> {
-    /// A printer that was fed nothing. `Err` hands the sink back for want of memory.
+    /// A printer that has taken no token. `Err` gives the sink back if memory is out.
     pub fn new(alloc: Global, sink: K) -> Result<Printer<K>, K>
         ensures sink { MatchResult result (λ p. p.sink ≡ sink) (λ k. k ≡ sink) }
         ensures failed { IfOk result (λ p. p.core.failed ≡ None) }
@@ -185,8 +187,8 @@ impl<K: Sink> Printer<K> {
         }
     }
 
-    /// Prints the rest, since no more tokens come, and hands the sink back. Every group must have ended, unless
-    /// a call has failed.
+    /// Prints the rest, since no more tokens come, and gives the sink back. No group may be open,
+    /// unless a call has failed.
     pub fn finish(self) -> Result<K, PrintFault<K>>
         requires { self.core.failed ≡ None → self.core.groups ≡ 0 }
         ensures text { (content : _) (s : _) → FedBy self.core.failed self.core (K.written self.sink) content s → MatchResult result (λ k. Wrote (K.written k) content (text s)) (λ f. Cut (K.written f.sink) content (text s)) }
@@ -203,7 +205,7 @@ impl<K: Sink> Printer<K> {
         }
     }
 
-    /// Feeds a text that is owned: with room for a token it wants no memory.
+    /// Takes a text by value. If there is room for a token, it doesn't allocate.
     pub fn text_owned(&mut self, text: Text) -> Result<(), PrintError>
         ensures did { Did (owner_meanings K.written K.faults K.loan) self.old (tok.Text text ∷ []) result self.new }
         ensures room { TakesRoom self.old.core result self.new.core }
@@ -213,14 +215,15 @@ impl<K: Sink> Printer<K> {
         self.core.text_owned(&mut self.sink, text)
     }
 
-    /// How many groups are open: `end` asks for one, and `finish` for none.
+    /// How many groups are open. `end` requires at least one, `finish` none.
     pub fn open_groups(&self) -> u64
         ensures { result ≡ self.now.core.groups }
     {
         self.core.open_groups()
     }
 
-    /// How many bytes of text were fed and aren't in the sink: no more than the space.
+    /// How many bytes of text were taken and aren't in the sink yet: at most as many as fit in the
+    /// space that is left.
     pub fn waiting(&self) -> usize
         ensures value { result ≡ sum_waiting self.now.core.entries }
         ensures lag { self.now.core.failed ≡ None → FitSpace self.now.core result }
@@ -228,21 +231,22 @@ impl<K: Sink> Printer<K> {
         self.core.waiting()
     }
 
-    /// The space of the line, or -2^62 where it is less.
+    /// The columns that are left on the line, at least -2^62.
     pub fn space(&self) -> i64
         ensures { IsSpace self.now.core result }
     {
         self.core.space()
     }
 
-    /// How many tokens may come before memory is taken.
+    /// How many more tokens fit without allocating.
     pub fn spare(&self) -> usize
         ensures { result ≡ self.now.core.spare }
     {
         self.core.spare()
     }
 
-    /// Makes room for so many more tokens. All else stays as it was, and after `NoMemory` all does.
+    /// Makes room for `n` more tokens, and changes nothing else. After `NoMemory` nothing is
+    /// changed.
     pub fn reserve(&mut self, n: usize) -> Result<(), NoMemory>
         ensures ok { OnOk result (n ≤ self.new.core.spare) }
         ensures never_less { self.old.core.spare ≤ self.new.core.spare }

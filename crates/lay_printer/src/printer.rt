@@ -1,4 +1,4 @@
-//! What a printer keeps beside its sink.
+//! The state of a printer beside its sink.
 ghost use Rattle.std.specs.Prelude.{◌≡◌, ℕ, ◌+◌, ◌<◌, ◌≤◌, [], ◌∷◌, OnOk, OnErr, IfOk, IfErr, None, Some, length, pos, ◌-ℤ◌};
 ghost use Rattle.lay_layout.specs.declared.layout.Tok.TheVariants as tok;
 ghost use Rattle.lay_layout.specs.Machine.{IsNested};
@@ -25,9 +25,10 @@ use lay_text::{NoMemory, Text};
 use std::alloc::Global;
 use std::marker::Model;
 
-/// What a printer keeps beside its sink: it owns the memory. Contracts see the tokens that wait with their
-/// sizes and the number of the first, how many groups are open, how many tokens may come before memory is
-/// taken, why a call failed, if one did, and where the layout stands.
+/// The state of a printer beside its sink. It owns the memory. Contracts see the waiting tokens
+/// with their sizes and the number of the first one, how many groups are open, how many more tokens
+/// fit without allocating, the error of the failed call, if there was one, and the state of the
+/// layout.
 #[derive(Drop)]
 pub struct Core {
     engine: Engine,
@@ -46,7 +47,7 @@ impl Model for Core {
     ghost invariant = { λ c. Sound c.engine c.failed c.spare };
 }
 
-/// What is left of one number after another is taken from it, which may be below zero.
+/// `a - b`, which may be negative.
 fn difference(a: u64, b: u64) -> i64
     requires small { a ≤ margin }
     requires bound { b ≤ greatest_used }
@@ -56,7 +57,7 @@ fn difference(a: u64, b: u64) -> i64
 }
 
 impl Core {
-    /// A printer that was fed nothing.
+    /// A printer that has taken no token.
     pub fn new(alloc: Global) -> Result<Core, NoMemory>
         ensures failed { IfOk result (λ c. c.failed ≡ None) }
         ensures groups { IfOk result (λ c. c.groups ≡ 0) }
@@ -81,7 +82,7 @@ impl Core {
         })
     }
 
-    /// Feeds a text.
+    /// Takes a text.
     pub fn text<K: Sink>(&mut self, sink: &mut K, text: &[u8]) -> Result<(), PrintError>
         ensures calls { Calls self.old (K.written sink.old) (K.faults sink.old) result self.new (K.written sink.new) (K.faults sink.new) (tok.Text text.now) }
         ensures same { Repeats self.old result }
@@ -91,7 +92,7 @@ impl Core {
         self.put_text(sink, text)
     }
 
-    /// Feeds a text that is owned: with room for a token it wants no memory.
+    /// Takes a text by value. If there is room for a token, it doesn't allocate.
     pub fn text_owned<K: Sink>(&mut self, sink: &mut K, text: Text) -> Result<(), PrintError>
         ensures calls { Calls self.old (K.written sink.old) (K.faults sink.old) result self.new (K.written sink.new) (K.faults sink.new) (tok.Text text) }
         ensures room { TakesRoom self.old result self.new }
@@ -102,7 +103,7 @@ impl Core {
         self.put_text(sink, text.as_bytes())
     }
 
-    /// Feeds a break.
+    /// Takes a break.
     pub fn brk<K: Sink>(&mut self, sink: &mut K, brk: Break) -> Result<(), PrintError>
         ensures calls { Calls self.old (K.written sink.old) (K.faults sink.old) result self.new (K.written sink.new) (K.faults sink.new) (tok.Break brk) }
         ensures room { TakesRoom self.old result self.new }
@@ -132,7 +133,7 @@ impl Core {
         self.feed(sink, LentTok::Begin { consistent, offset })
     }
 
-    /// Ends the group that was begun last.
+    /// Ends the innermost open group.
     pub fn end<K: Sink>(&mut self, sink: &mut K) -> Result<(), PrintError>
         requires { 0 < self.old.groups }
         ensures calls { Calls self.old (K.written sink.old) (K.faults sink.old) result self.new (K.written sink.new) (K.faults sink.new) (tok.End) }
@@ -144,7 +145,7 @@ impl Core {
         self.feed(sink, LentTok::End)
     }
 
-    /// Feeds a text, which is copied where it waits.
+    /// Takes a text, which is copied if it waits.
     #[inline(always)]
     fn put_text<K: Sink>(&mut self, sink: &mut K, text: &[u8]) -> Result<(), PrintError>
         ensures calls { Calls self.old (K.written sink.old) (K.faults sink.old) result self.new (K.written sink.new) (K.faults sink.new) (tok.Text text.now) }
@@ -165,7 +166,7 @@ impl Core {
         self.feed(sink, LentTok::Text(text))
     }
 
-    /// Feeds a text that is longer than the space of any line.
+    /// Takes a text that is longer than any line.
     #[inline(never)]
     fn print_long<K: Sink>(&mut self, sink: &mut K, text: &[u8]) -> Result<(), PrintError>
         requires live { self.old.failed ≡ None }
@@ -183,7 +184,7 @@ impl Core {
         }
     }
 
-    /// Feeds a text where nothing waits.
+    /// Takes a text while nothing waits.
     #[inline(always)]
     fn print_text<K: Sink>(&mut self, sink: &mut K, text: &[u8]) -> Result<(), PrintError>
         requires live { self.old.failed ≡ None }
@@ -201,7 +202,7 @@ impl Core {
         }
     }
 
-    /// Feeds a break that is printed at once.
+    /// Takes a break that is printed at once.
     #[inline(always)]
     fn print_break<K: Sink>(&mut self, sink: &mut K, brk: Break) -> Result<(), PrintError>
         requires live { self.old.failed ≡ None }
@@ -220,7 +221,7 @@ impl Core {
         }
     }
 
-    /// Feeds a token, unless a call has failed.
+    /// Takes a token, unless a call has failed.
     #[inline(always)]
     fn feed<K: Sink>(&mut self, sink: &mut K, tok: LentTok<'_>) -> Result<(), PrintError>
         requires nested { IsNested self.old.groups (tok_of tok ∷ []) }
@@ -247,8 +248,8 @@ impl Core {
         }
     }
 
-    /// Prints the rest, since no more tokens come. Every group must have ended, unless a call failed. A printer
-    /// that failed leaves the sink as it is.
+    /// Prints the rest, since no more tokens come. No group may be open, unless a call has failed.
+    /// A printer that has failed leaves the sink as it is.
     pub fn finish<K: Sink>(&mut self, sink: &mut K) -> Result<(), PrintError>
         requires { self.old.failed ≡ None → self.old.groups ≡ 0 }
         ensures finishes { Finishes self.old (K.written sink.old) (K.faults sink.old) result self.new (K.written sink.new) (K.faults sink.new) }
@@ -276,14 +277,15 @@ impl Core {
         }
     }
 
-    /// How many groups are open: `end` asks for one, and `finish` for none.
+    /// How many groups are open. `end` requires at least one, `finish` none.
     pub fn open_groups(&self) -> u64
         ensures { result ≡ self.now.groups }
     {
         self.engine.queue.groups()
     }
 
-    /// How many bytes of text were fed and aren't in the sink: no more than the space.
+    /// How many bytes of text were taken and aren't in the sink yet: at most as many as fit in the
+    /// space that is left.
     pub fn waiting(&self) -> usize
         ensures value { result ≡ sum_waiting self.now.entries }
         ensures lag { self.now.failed ≡ None → FitSpace self.now result }
@@ -299,7 +301,7 @@ impl Core {
         self.engine.queue.len()
     }
 
-    /// The space, at the least -2^62.
+    /// The columns that are left on the line, at least -2^62.
     pub fn space(&self) -> i64
         ensures { IsSpace self.now result }
     {
@@ -309,14 +311,15 @@ impl Core {
         difference(room, used)
     }
 
-    /// How many tokens may come before memory is taken.
+    /// How many more tokens fit without allocating.
     pub fn spare(&self) -> usize
         ensures { result ≡ self.now.spare }
     {
         self.spare
     }
 
-    /// Makes room for so many more tokens. All else stays as it was, and after `NoMemory` all does.
+    /// Makes room for `n` more tokens, and changes nothing else. After `NoMemory` nothing is
+    /// changed.
     pub fn reserve(&mut self, n: usize) -> Result<(), NoMemory>
         ensures ok { OnOk result (n ≤ self.new.spare) }
         ensures never_less { self.old.spare ≤ self.new.spare }

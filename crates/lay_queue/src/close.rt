@@ -1,26 +1,26 @@
-//! Sizes that are written back at a break.
+//! Sizes that become known at a break.
 ghost use Rattle.std.specs.Prelude.{◌≡◌, ◌+◌, ◌-◌, ◌^◌, ◌<◌, ◌≤◌, [], ◌∷◌, ◌++◌, length, MatchOption};
 ghost use Rattle.lay_queue.specs.Closed.{Left, Closed, toks_of, NoteKept};
 
 use lay_layout::GREATEST_WIDTH;
 use lay_ring::{Marks, Row};
 
-/// The greatest size that is kept.
+/// The greatest size that is kept, in columns.
 pub const CAP: u64 = GREATEST_WIDTH;
 
-/// A note of an entry whose size isn't known.
+/// A note of an entry whose size is still unknown.
 #[derive(Clone, Copy)]
 pub struct Note {
-    /// The entry's number in the ring.
+    /// The entry's number in the row.
     pub number: u64,
-    /// How many groups are open before it.
+    /// How many groups are open before the entry.
     pub level: u64,
-    /// The width from the note before it up to it, or [`CAP`] where that is less. Widths between neighbours
-    /// are kept, since a running total would outgrow any number.
+    /// The width from the note before to this one, at most [`CAP`]. Widths between neighbours are
+    /// kept, since a running total could overflow.
     pub delta: u64,
 }
 
-/// The newest note, where it was made with no fewer groups open than now.
+/// Takes the newest note, if it was made with at least `cur` groups open.
 fn take_newest(notes: &mut Marks<Note>, cur: u64) -> Option<Note>
     ensures rest { MatchOption result (notes.new.items ≡ notes.old.items)
         (λ n. notes.old.items ≡ notes.new.items ++ n ∷ []) }
@@ -37,8 +37,8 @@ fn take_newest(notes: &mut Marks<Note>, cur: u64) -> Option<Note>
     notes.pop()
 }
 
-/// Writes back the sizes of the newest entries, whose measures end at a break where `cur` groups are open, and
-/// takes their notes. `width` is that from the newest note on, and so is what is answered.
+/// Sets the sizes of the newest entries, whose measured widths end at a break inside `cur` groups,
+/// and drops their notes. `width` is the width from the newest note on; so is the result.
 pub fn close(ring: &mut Row, notes: &mut Marks<Note>, width: u64, cur: u64) -> u64
     requires left { Left (toks_of ring.old.entries) ring.old.first width cur ring.old.entries notes.old.items }
     requires first { ring.old.first < 2 ^ 64 }

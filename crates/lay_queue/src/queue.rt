@@ -1,4 +1,4 @@
-//! The scanning side: tokens that wait, with the sizes that are known of them.
+//! The scanning half: waiting tokens, with the sizes that are known of them.
 ghost use Rattle.std.specs.Prelude.{◌≡◌, ◌+◌, ◌-◌, ◌%◌, ◌^◌, ◌<◌, ◌≤◌, [], ◌∷◌, length, drop, OnOk, IfOk, IsOk, map, true, false};
 ghost use Rattle.lay_layout.specs.declared.layout.Tok.TheVariants as tok;
 ghost use Rattle.lay_ring.specs.Rows.{AreTexts, IsFirst, IsRun, size_of, tok_of};
@@ -15,12 +15,12 @@ use lay_ring::{LentEntry, LentTok, Marks, Row, Texts, UNKNOWN};
 use lay_text::NoMemory;
 use std::alloc::Global;
 
-/// Tokens that wait, oldest first, and what is kept of those whose size isn't known.
+/// Waiting tokens, the oldest first, and notes of those whose size is unknown.
 #[derive(Drop)]
 pub struct Queue {
     ring: Row,
     notes: Marks<Note>,
-    /// The width from the newest note on, or the cap where that is less.
+    /// The width from the newest note on, at most [`CAP`].
     acc: u64,
     /// How many groups are open after all tokens.
     groups: u64,
@@ -36,7 +36,7 @@ pub struct Queue {
     ghost held: { length ring.entries ≤ 2 ^ 63 },
 }
 
-/// What a token's measure has at the least beside texts: the width of a break.
+/// The least width of a token without its text: the width of a break, else 0.
 #[inline(always)]
 pub fn least_width(tok: LentTok<'_>) -> u64
     ensures { result ≡ least_width (tok_of tok.entry) }
@@ -57,7 +57,8 @@ fn text_len(tok: LentTok<'_>) -> u64
     }
 }
 
-/// Takes the oldest note, where it is that of an entry with this size.
+/// Drops the oldest note, if the oldest entry, which has this size, has one: that is, if the size
+/// is unknown.
 fn drop_note(notes: &mut Marks<Note>, size: i64)
     ensures items { notes.new.items ≡ notes_after (size_of size) notes.old.items }
     ensures spare { notes.old.spare ≤ notes.new.spare }
@@ -70,7 +71,7 @@ fn drop_note(notes: &mut Marks<Note>, size: i64)
 impl Queue {
     ghost use Rattle.lay_queue.specs.Queues.{Comes, Ready, Roomier, room_in};
 
-    /// Nothing waits.
+    /// An empty queue.
     pub fn new(alloc: Global) -> Result<Queue, NoMemory>
         ensures entries { IfOk result (λ q. q.ring.entries ≡ []) }
         ensures first { IfOk result (λ q. q.ring.first ≡ 0) }
@@ -130,7 +131,7 @@ impl Queue {
         self.groups
     }
 
-    /// How many tokens may come before memory is taken.
+    /// How many more tokens fit without allocating.
     #[inline(always)]
     pub fn room(&self) -> usize
         ensures { result ≡ room_in self.now }
@@ -138,7 +139,7 @@ impl Queue {
         self.ring.spare().min(self.notes.spare())
     }
 
-    /// Makes room for so many more tokens, of which each may have a note.
+    /// Makes room for `n` more tokens, each of which may have a note.
     #[inline(always)]
     pub fn reserve(&mut self, n: usize) -> Result<(), NoMemory>
         ensures same { Roomier self.old self.new }
@@ -150,7 +151,7 @@ impl Queue {
         self.notes.reserve(n)
     }
 
-    /// A token comes for which there is room.
+    /// Takes a token, for which there must be room.
     #[inline(always)]
     pub fn scan(&mut self, tok: LentTok<'_>)
         requires ready { Ready self.old }
@@ -166,7 +167,7 @@ impl Queue {
         }
     }
 
-    /// A text has its size at once.
+    /// Takes a text. Its size is known at once.
     #[inline(always)]
     fn scan_text(&mut self, text: &[u8])
         requires ready { Ready self.old }
@@ -179,7 +180,8 @@ impl Queue {
         self.waiting += len;
     }
 
-    /// A break ends the measures of what was noted with no fewer groups open.
+    /// Takes a break. It ends the measured width of all that was noted with at least as many groups
+    /// open.
     #[inline(always)]
     fn scan_break(&mut self, brk: Break)
         requires { Ready self.old }
@@ -197,7 +199,7 @@ impl Queue {
         self.acc = width;
     }
 
-    /// A group begins.
+    /// Takes the begin of a group.
     #[inline(always)]
     fn scan_begin(&mut self, consistent: bool, offset: i8)
         requires { Ready self.old }
@@ -216,7 +218,7 @@ impl Queue {
         self.groups += 1;
     }
 
-    /// The group that was begun last ends. Measures go on past it.
+    /// Takes the end of the innermost group. Measured widths go on past it.
     #[inline(always)]
     fn scan_end(&mut self)
         requires ready { Ready self.old }
@@ -227,7 +229,7 @@ impl Queue {
         self.groups -= 1;
     }
 
-    /// No more tokens come: every measure ends.
+    /// Ends all measured widths: no more tokens come.
     pub fn end_all(&mut self)
         requires ended { self.old.ended ≡ false }
         requires groups { self.old.groups ≡ 0 }
@@ -242,7 +244,7 @@ impl Queue {
         self.ended = true;
     }
 
-    /// A token that is printed at once, where none waits, takes a number alone.
+    /// Skips a number, for a token that is printed at once. Nothing may wait.
     #[inline(always)]
     pub fn pass(&mut self)
         requires { self.old.ring.entries ≡ [] }
@@ -257,7 +259,7 @@ impl Queue {
         self.ring.pass();
     }
 
-    /// Takes the oldest entry away.
+    /// Drops the oldest entry.
     #[inline(always)]
     pub fn drop_front(&mut self)
         ensures entries { self.new.ring.entries ≡ drop 1 self.old.ring.entries }
@@ -276,7 +278,7 @@ impl Queue {
         }
     }
 
-    /// Takes so many texts away that stand at the front, of so many bytes in all.
+    /// Drops `count` texts at the front, which have `len` bytes together.
     #[inline(always)]
     pub fn drop_texts(&mut self, count: usize, len: usize)
         requires { AreTexts count len self.old.ring.entries }
@@ -292,7 +294,7 @@ impl Queue {
         self.waiting -= len as u64;
     }
 
-    /// Nothing waits: tokens may come again.
+    /// Begins anew after the end: tokens may come again. Nothing may wait.
     pub fn restart(&mut self)
         ensures ring { self.new.ring ≡ self.old.ring }
         ensures notes { self.new.notes.spare ≡ self.old.notes.spare }

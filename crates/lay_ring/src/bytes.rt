@@ -1,4 +1,4 @@
-//! Bytes that wait, in room of one of two lengths.
+//! A queue of bytes, in a buffer of one of two fixed lengths.
 ghost use Rattle.std.specs.Prelude.{◌≡◌, ◌+◌, ◌-◌, ◌≤◌, [], ◌++◌, length, take, drop, true, IfOk, OnOk, OnErr};
 ghost use Rattle.lay_ring.specs.Rows.{bytes_kept, room_in, texts_in};
 
@@ -7,22 +7,22 @@ use lay_text::NoMemory;
 use std::alloc::Global;
 use std::marker::Model;
 
-/// How many bytes there is room for at first.
+/// The length of the first buffer, in bytes.
 const FIRST: usize = 128;
 
-/// How many there is room for in the full room.
+/// The length of the full buffer, in bytes.
 const FULL: usize = 1024;
 
-/// How many bytes a text has at the most: as many as a line has columns.
+/// The greatest length of a text, in bytes: as many as a line has columns.
 const LONGEST: usize = MARGIN as usize;
 
-/// Bytes that are added at the end and taken from the front. Contracts see them as a list, and whether the room is the
-/// full one.
+/// A queue of bytes: they are added at the back and taken from the front. Contracts see them as a
+/// list, and whether the buffer is the full one.
 #[derive(Drop)]
 pub struct Bytes {
     room: Vec<u8>,
     is_full: bool,
-    /// They stand from here up to `end`.
+    /// The bytes are those with the indices from `first` up to `end`.
     first: usize,
     end: usize,
 }
@@ -39,7 +39,7 @@ impl Model for Bytes {
 }
 
 impl Bytes {
-    /// No bytes, and little room.
+    /// An empty queue with the first buffer.
     pub fn new(alloc: Global) -> Result<Bytes, NoMemory>
         ensures { IfOk result (λ bytes. bytes.items ≡ []) }
     {
@@ -54,7 +54,7 @@ impl Bytes {
         }
     }
 
-    /// Makes the full room.
+    /// Allocates the full buffer.
     #[inline(never)]
     pub fn grow(&mut self) -> Result<(), NoMemory>
         ensures items { self.new.items ≡ self.old.items }
@@ -70,7 +70,7 @@ impl Bytes {
         }
     }
 
-    /// How many of so many texts there is surely room for: all in the full room, and one at the most in the first.
+    /// How many of `count` texts surely fit: all in the full buffer, and at most one in the first.
     #[inline(always)]
     pub fn room_for(&self, count: usize) -> usize
         ensures { result ≡ texts_in self.now count }
@@ -84,7 +84,7 @@ impl Bytes {
         0
     }
 
-    /// Adds bytes at the end. There must be room for them.
+    /// Adds bytes at the back. There must be room for them.
     #[inline(always)]
     pub fn add(&mut self, more: &[u8])
         requires { length self.old.items + length more.now ≤ room_in self.old.full }
@@ -101,7 +101,7 @@ impl Bytes {
         self.end += more.len();
     }
 
-    /// How many there are.
+    /// How many bytes there are.
     #[inline(always)]
     pub fn len(&self) -> usize
         ensures value { result ≡ length self.now.items }
@@ -110,7 +110,7 @@ impl Bytes {
         self.end - self.first
     }
 
-    /// The first ones.
+    /// The first `count` bytes.
     #[inline(always)]
     pub fn front(&self, count: usize) -> &[u8]
         requires { count ≤ length self.now.items }
@@ -119,7 +119,7 @@ impl Bytes {
         &self.room.as_slice()[self.first..self.first + count]
     }
 
-    /// Takes the first ones.
+    /// Drops the first `count` bytes.
     #[inline(always)]
     pub fn drop_front(&mut self, count: usize)
         requires { count ≤ length self.old.items }
@@ -134,7 +134,7 @@ impl Bytes {
     }
 }
 
-/// Moves the bytes that wait to the front, where the room after them is too little.
+/// Moves the bytes to the beginning of the buffer, if the room after them is too small for `more`.
 #[inline(always)]
 fn make_room(room: &mut [u8], first: &mut usize, end: &mut usize, more: usize)
     requires order { first.old ≤ end.old }
@@ -153,7 +153,7 @@ fn make_room(room: &mut [u8], first: &mut usize, end: &mut usize, more: usize)
     *first = 0;
 }
 
-/// Puts bytes after those that stand before a place.
+/// Copies bytes into the buffer, from the index `place` on.
 #[inline(always)]
 fn put_at(room: &mut [u8], place: usize, more: &[u8])
     requires { place + length more.now ≤ length room.old }
@@ -163,7 +163,7 @@ fn put_at(room: &mut [u8], place: usize, more: &[u8])
     room[place..place + more.len()].copy_from_slice(more);
 }
 
-/// Moves what stands from a place on to the front.
+/// Moves the bytes from the index `place` on to the beginning of the buffer.
 #[inline(never)]
 fn turn(room: &mut [u8], place: usize)
     requires { place ≤ length room.old }

@@ -5,14 +5,14 @@ use lay_text::NoMemory;
 use std::alloc::Global;
 use std::marker::Model;
 
-/// Room is made for so many items at once, so that those which wait are seldom moved to its front.
+/// For how many items room is made at once, so that the waiting ones are seldom moved.
 const FEW: usize = 256;
 
-/// Items, of which the oldest is the first, and how many more there is room for. After `NoMemory` they are
-/// as they were.
+/// A list of items, the oldest first, and how many more there is room for. After `NoMemory` it is
+/// as it was.
 #[derive(Drop)]
 pub struct Marks<T> {
-    /// The items, from `first` on. Before it are some that were taken.
+    /// The items are those from the index `first` on; those before were taken.
     kept: Vec<T>,
     first: usize,
 }
@@ -29,7 +29,7 @@ impl<T> Model for Marks<T> {
 }
 
 impl<T: Copy> Marks<T> {
-    /// No items, and room for so many.
+    /// An empty list with room for `room` items.
     pub fn new(alloc: Global, room: usize) -> Result<Marks<T>, NoMemory>
         ensures empty { IfOk result (λ marks. marks.items ≡ []) }
         ensures spare { IfOk result (λ marks. room ≤ marks.spare) }
@@ -46,7 +46,7 @@ impl<T: Copy> Marks<T> {
         ensures ok { OnOk result (self.new.items ≡ self.old.items ++ item ∷ []) }
         ensures err { OnErr result (self.new ≡ self.old) }
 
-        // With room it is never refused, and takes room for one item.
+        // If there is room it succeeds, and uses up the room of one item.
         ensures sure { 0 < self.old.spare → IsOk result }
         ensures spare { 0 < self.old.spare → self.new.spare + 1 ≡ self.old.spare }
     {
@@ -55,7 +55,7 @@ impl<T: Copy> Marks<T> {
         Ok(())
     }
 
-    /// Adds an item as the newest, where there is room.
+    /// Adds an item as the newest. There must be room.
     #[inline(always)]
     pub fn add(&mut self, item: T)
         requires { 0 < self.old.spare }
@@ -90,7 +90,7 @@ impl<T: Copy> Marks<T> {
         Some(oldest)
     }
 
-    /// Takes so many of the oldest items.
+    /// Drops the `count` oldest items.
     #[inline(always)]
     pub fn drop_oldest(&mut self, count: usize)
         requires { count ≤ length self.old.items }
@@ -115,7 +115,7 @@ impl<T: Copy> Marks<T> {
         Some(self.kept[self.kept.len() - 1])
     }
 
-    /// The item at a place, counted from the oldest.
+    /// The item with this index, counted from the oldest.
     #[inline(always)]
     pub fn get(&self, place: usize) -> Option<T>
         ensures { result ≡ slice_get self.now.items place }
@@ -126,7 +126,7 @@ impl<T: Copy> Marks<T> {
         Some(self.kept[self.first + place])
     }
 
-    /// Puts an item at a place in place of the one that stands there.
+    /// Replaces the item with this index.
     #[inline(always)]
     pub fn set(&mut self, place: usize, item: T)
         requires { place < length self.old.items }
@@ -145,7 +145,7 @@ impl<T: Copy> Marks<T> {
         self.kept.len() - self.first
     }
 
-    /// Makes room for so many more items.
+    /// Makes room for `n` more items.
     #[inline(always)]
     pub fn reserve(&mut self, n: usize) -> Result<(), NoMemory>
         ensures items { self.new.items ≡ self.old.items }
@@ -153,7 +153,7 @@ impl<T: Copy> Marks<T> {
         ensures ok { OnOk result (n ≤ self.new.spare) }
         ensures err { OnErr result (self.new ≡ self.old) }
 
-        // Where there is room already, nothing changes and it is not refused.
+        // If there is room already, it succeeds and changes nothing.
         ensures sure { n ≤ self.old.spare → IsOk result }
         ensures as_it_was { n ≤ self.old.spare → self.new ≡ self.old }
     {
@@ -163,8 +163,8 @@ impl<T: Copy> Marks<T> {
         self.grow(n)
     }
 
-    /// Makes room for so many more items: that of those that were taken, where they are half of all and it is
-    /// enough, and otherwise new room, of [`FEW`] items at least.
+    /// Makes room for `n` more items: it reuses the room of the items that were taken, if they are
+    /// half of all and that is enough; otherwise it allocates for at least [`FEW`] items.
     #[inline(never)]
     fn grow(&mut self, n: usize) -> Result<(), NoMemory>
         requires { self.old.spare < n }

@@ -1,4 +1,4 @@
-//! A list of entries with numbers.
+//! A queue of numbered entries.
 ghost use Rattle.std.specs.Prelude.{◌≡◌, ◌≢◌, ℕ, ◌+◌, ◌^◌, ◌<◌, ◌≤◌, [], ◌∷◌, ◌++◌, length, slice_get, option_copied, drop, IfOk, IfErr, IsOk, OnOk, OnErr};
 ghost use Rattle.lay_ring.specs.Held.{number_of, place_of, number_after_pop, sized_at, IsUnknownAt};
 
@@ -9,8 +9,9 @@ use lay_text::NoMemory;
 use std::alloc::Global;
 use std::marker::Model;
 
-/// Entries, the number of the first one, and how many more there is room for. Each entry has a number, which
-/// is one more than that of the entry before it, modulo 2^64. After `NoMemory` the ring is as it was.
+/// A queue of entries, the number of the first one, and how many more there is room for. The number
+/// of each entry is one more than that of the entry before it, modulo 2^64. After `NoMemory` the
+/// ring is as it was.
 #[derive(Drop)]
 pub struct Ring {
     buffer: HeapCircularBuffer<Entry>,
@@ -27,7 +28,7 @@ impl Model for Ring {
 }
 
 impl Ring {
-    /// No entries, room for so many, and 0 as the number of the first one to come.
+    /// An empty ring with room for `room` entries. The first one will have the number 0.
     pub fn new(alloc: Global, room: usize) -> Result<Ring, NoMemory>
         ensures empty { IfOk result (λ ring. ring.entries ≡ []) }
         ensures first { IfOk result (λ ring. ring.first ≡ 0) }
@@ -39,7 +40,7 @@ impl Ring {
         }
     }
 
-    /// Adds an entry at the end and answers its number. `Err` hands the entry back for want of memory.
+    /// Adds an entry at the back and gives its number. `Err` gives the entry back if memory is out.
     pub fn push(&mut self, entry: Entry) -> Result<u64, Entry>
         ensures ok { OnOk result (self.new.entries ≡ self.old.entries ++ entry ∷ []) }
         ensures number { IfOk result (λ number. number
@@ -48,7 +49,7 @@ impl Ring {
         ensures err { OnErr result (self.new ≡ self.old) }
         ensures back { IfErr result (λ given. given ≡ entry) }
 
-        // With room it is never refused, and takes room for one entry.
+        // If there is room it succeeds, and uses up the room of one entry.
         ensures sure { 0 < self.old.spare → IsOk result }
         ensures spare { 0 < self.old.spare → self.new.spare + 1 ≡ self.old.spare }
     {
@@ -62,8 +63,8 @@ impl Ring {
         }
     }
 
-    /// Writes back the size of the entry with this number, which must be held with an unknown size, and which
-    /// has a size from now on.
+    /// Sets the size of the entry with this number, which must be in the ring with an unknown size.
+    /// The new size is known.
     pub fn size_at(&mut self, number: u64, size: Size)
         requires unknown { IsUnknownAt self.old.entries (place_of self.old.first number) }
         requires known { size ≢ Size.Unknown }
@@ -97,7 +98,7 @@ impl Ring {
         Some(entry)
     }
 
-    /// Gives a number to an entry that isn't kept, where none is held.
+    /// Skips a number, for an entry that isn't kept. The ring must be empty.
     #[inline(always)]
     pub fn pass(&mut self)
         requires { self.old.entries ≡ [] }
@@ -108,7 +109,7 @@ impl Ring {
         self.first = self.first.wrapping_add(1);
     }
 
-    /// The number of the first entry, or of the next one to be pushed where there is none.
+    /// The number of the first entry, or of the next one that is pushed if there is none.
     pub fn first(&self) -> u64
         ensures { result ≡ self.now.first }
     {
@@ -123,7 +124,7 @@ impl Ring {
         self.buffer.len()
     }
 
-    /// Makes room for so many more entries.
+    /// Makes room for `n` more entries.
     pub fn reserve(&mut self, n: usize) -> Result<(), NoMemory>
         ensures entries { self.new.entries ≡ self.old.entries }
         ensures first { self.new.first ≡ self.old.first }
@@ -131,7 +132,7 @@ impl Ring {
         ensures ok { OnOk result (n ≤ self.new.spare) }
         ensures err { OnErr result (self.new ≡ self.old) }
 
-        // Where there is room already, nothing changes and it is not refused.
+        // If there is room already, it succeeds and changes nothing.
         ensures sure { n ≤ self.old.spare → IsOk result }
         ensures as_it_was { n ≤ self.old.spare → self.new ≡ self.old }
     {
@@ -146,7 +147,8 @@ impl Ring {
     }
 }
 
-/// Where fewer than 2^64 entries are held, the number of an entry tells its place.
+/// If there are fewer than 2^64 entries, the number of an entry determines its index. (No code
+/// runs.)
 pub fn number_law()
     ensures { (first place : ℕ) → first < 2 ^ 64 → place < 2 ^ 64
         → place_of first (number_of first place) ≡ place }

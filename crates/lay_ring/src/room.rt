@@ -11,7 +11,7 @@ pub fn spare<T>(buffer: &HeapCircularBuffer<T>) -> usize
     buffer.capacity() - buffer.len()
 }
 
-/// Makes room for so many more items.
+/// Makes room for `more` items.
 #[inline(always)]
 pub fn reserve<T>(buffer: &mut HeapCircularBuffer<T>, more: usize) -> Result<(), NoMemory>
     ensures items { buffer.new.items ≡ buffer.old.items }
@@ -28,8 +28,8 @@ pub fn reserve<T>(buffer: &mut HeapCircularBuffer<T>, more: usize) -> Result<(),
     grow(buffer, more)
 }
 
-/// Makes more room, twice as much at the least, so that items which are pushed one by one are moved a bounded
-/// number of times each.
+/// Makes room, at least twice as much as there was, so that items which are pushed one by one are
+/// moved a bounded number of times each.
 fn grow<T>(buffer: &mut HeapCircularBuffer<T>, more: usize) -> Result<(), NoMemory>
     ensures items { buffer.new.items ≡ buffer.old.items }
     ensures never_less { buffer.old.capacity ≤ buffer.new.capacity }

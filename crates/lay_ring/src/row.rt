@@ -1,4 +1,4 @@
-//! A list of entries with numbers, in little memory.
+//! A queue of numbered entries, in little memory.
 ghost use Rattle.std.specs.Prelude.{◌≡◌, ◌+◌, ◌^◌, ◌<◌, ◌≤◌, [], ◌∷◌, ◌++◌, length, drop, pos, IfOk, IsOk, OnOk, OnErr};
 ghost use Rattle.lay_ring.specs.declared.entry.Size.TheVariants.{Known};
 ghost use Rattle.lay_ring.specs.Held.{number_of, place_of, number_after_pop, sized_at, IsUnknownAt};
@@ -11,66 +11,66 @@ use lay_text::NoMemory;
 use std::alloc::Global;
 use std::marker::Model;
 
-/// A token whose text is lent.
+/// A token that borrows its text.
 #[derive(Clone, Copy, Debug)]
 pub enum LentTok<'a> {
     /// A text, written as it is.
     Text(&'a [u8]),
-    /// A place where a line may end.
+    /// A place where a line may be broken.
     Break(Break),
     /// A group begins.
     Begin { consistent: bool, offset: i8 },
-    /// The group that was begun last ends.
+    /// The innermost open group ends.
     End,
 }
 
-/// What is lent of a token that waits: the token, and its size, which is below 0 while it isn't known.
+/// A waiting token and its size, borrowed. The size is negative while it is unknown.
 #[derive(Clone, Copy, Debug)]
 pub struct LentEntry<'a> {
     pub tok: LentTok<'a>,
     pub size: i64,
 }
 
-/// Texts that wait one after the other, as one.
+/// Consecutive waiting texts, as one, and their number.
 #[derive(Clone, Copy, Debug)]
 pub struct Texts<'a> {
     pub bytes: &'a [u8],
     pub count: usize,
 }
 
-/// What stands for a size that isn't known yet.
+/// The value of a size that isn't known yet.
 pub const UNKNOWN: i64 = -1;
 
-/// Once so many entries were taken, the full room is made for texts even where the first one serves: in that, room is asked
-/// for before each token.
+/// Once this many entries were taken, the full buffer is allocated for texts even if the first one
+/// would do: with the first one, room has to be looked for before each token.
 const MANY: u64 = 4096;
 
-/// What kind of token an entry is.
+/// An entry's token without its text.
 #[derive(Clone, Copy)]
 enum Kind {
-    /// A text of so many bytes.
+    /// A text of this many bytes.
     Text(u8),
     Break(Break),
     Begin { consistent: bool, offset: i8 },
     End,
 }
 
-/// A token without its text, and its size, which is below 0 while it isn't known.
+/// A token without its text, and its size, which is negative while it is unknown.
 #[derive(Clone, Copy)]
 struct SmallEntry {
     kind: Kind,
     size: i64,
 }
 
-/// Entries as in a [`Ring`](crate::Ring), in little memory: each is of 24 bytes, and their texts stand one
-/// after the other in room for 128 bytes, and once that is too little or many came in room for 1,024. So texts are
-/// copied, and only `new` and `reserve` take memory. A text has at most 89 bytes.
+/// A queue of entries as a [`Ring`](crate::Ring), in little memory: each takes 24 bytes, and their
+/// texts are in one buffer of 128 bytes, or of 1,024 once that is too small or many entries came.
+/// Texts are copied, and only `new` and `reserve` allocate. A text has at most 89 bytes.
 #[derive(Drop)]
 pub struct Row {
     entries: Marks<SmallEntry>,
     /// The number of the first entry.
     number: u64,
-    /// The texts of the entries.
+    /// The texts of the entries, one after the other.
     bytes: Bytes,
 }
 
@@ -87,7 +87,7 @@ impl Model for Row {
 }
 
 impl Row {
-    /// No entries, and 0 as the number of the first one to come.
+    /// An empty row. The first entry will have the number 0.
     pub fn new(alloc: Global) -> Result<Row, NoMemory>
         ensures empty { IfOk result (λ row. row.entries ≡ []) }
         ensures first { IfOk result (λ row. row.first ≡ 0) }
@@ -101,7 +101,8 @@ impl Row {
         })
     }
 
-    /// Adds an entry at the end and answers its number. There must be room for it, and its text is copied.
+    /// Adds an entry at the back and gives its number. There must be room for it. Its text is
+    /// copied.
     #[inline(always)]
     pub fn push(&mut self, tok: LentTok<'_>, size: i64) -> u64
         requires room { 0 < self.old.spare }
@@ -119,7 +120,7 @@ impl Row {
         number
     }
 
-    /// Writes back the size of the entry with this number, which must be held with an unknown size.
+    /// Sets the size of the entry with this number, which must be in the row with an unknown size.
     #[inline(always)]
     pub fn size_at(&mut self, number: u64, size: u64)
         requires unknown { IsUnknownAt self.old.entries (place_of self.old.first number) }
@@ -150,7 +151,7 @@ impl Row {
         })
     }
 
-    /// The texts at the front, as one, up to the first entry that is none.
+    /// The texts at the front, up to the first entry that is none, as one.
     #[inline(always)]
     pub fn texts(&self) -> Texts<'_>
         ensures { IsRun result.count self.now.entries result.bytes.now }
@@ -171,7 +172,7 @@ impl Row {
         }
     }
 
-    /// Takes so many texts away that stand at the front, of so many bytes in all.
+    /// Drops `count` texts at the front, which have `len` bytes together.
     #[inline(always)]
     pub fn pop_texts(&mut self, count: usize, len: usize)
         requires { AreTexts count len self.old.entries }
@@ -184,7 +185,7 @@ impl Row {
         self.number = self.number.wrapping_add(count as u64);
     }
 
-    /// Takes the first entry away. The number of the first one is then one more.
+    /// Drops the first entry. The number of the first one is then one more.
     #[inline(always)]
     pub fn pop_front(&mut self)
         ensures entries { self.new.entries ≡ drop 1 self.old.entries }
@@ -199,7 +200,7 @@ impl Row {
         }
     }
 
-    /// Gives a number to an entry that isn't kept, where none is held.
+    /// Skips a number, for an entry that isn't kept. The row must be empty.
     #[inline(always)]
     pub fn pass(&mut self)
         requires { self.old.entries ≡ [] }
@@ -219,7 +220,7 @@ impl Row {
         self.entries.len()
     }
 
-    /// Makes room for so many more entries.
+    /// Makes room for `n` more entries.
     #[inline(always)]
     pub fn reserve(&mut self, n: usize) -> Result<(), NoMemory>
         ensures entries { self.new.entries ≡ self.old.entries }
@@ -228,7 +229,7 @@ impl Row {
         ensures ok { OnOk result (n ≤ self.new.spare) }
         ensures err { OnErr result (self.new.spare < n) }
 
-        // Where there is room already, it is not refused.
+        // If there is room already, it succeeds.
         ensures sure { n ≤ self.old.spare → IsOk result }
     {
         self.entries.reserve(n)?;
@@ -236,7 +237,7 @@ impl Row {
             return self.bytes.grow();
         }
         if self.number >= MANY {
-            // Where more room is refused, what there is serves.
+            // If memory is out, the buffer that there is will do.
             let _ = self.bytes.grow();
         }
         Ok(())
@@ -262,7 +263,7 @@ fn text_of<'a>(tok: LentTok<'a>) -> &'a [u8]
     }
 }
 
-/// What kind of token it is.
+/// The token without its text.
 #[inline(always)]
 fn kind_of(tok: LentTok<'_>) -> Kind
     requires { text_bytes (tok_of tok) ≤ text_most }
@@ -277,7 +278,7 @@ fn kind_of(tok: LentTok<'_>) -> Kind
     }
 }
 
-/// The token of this kind, whose text is the first of the bytes.
+/// The token of this kind; its text is the first of the bytes.
 #[inline(always)]
 fn lend<'a>(kind: Kind, bytes: &'a Bytes) -> LentTok<'a>
     requires { taken kind ≤ length bytes.now.items }
@@ -291,7 +292,7 @@ fn lend<'a>(kind: Kind, bytes: &'a Bytes) -> LentTok<'a>
     }
 }
 
-/// How many bytes the text at a place has, if it is one.
+/// The length in bytes of the text with this index, if the entry is a text.
 #[inline(always)]
 fn text_at(entries: &Marks<SmallEntry>, place: usize) -> Option<usize>
     ensures { IsTextAt entries.now.items place result }

@@ -1,4 +1,4 @@
-//! What takes the tokens of a layout, one by one.
+//! The trait of what a layout is fed to: printers, and lists of tokens.
 ghost use Rattle.std.specs.Prelude.{ℕ, ◌<◌, [], ◌∷◌};
 ghost use Rattle.lay_layout.specs.declared.layout.Tok.{Tok};
 ghost use Rattle.lay_layout.specs.declared.layout.Tok.TheVariants as tok;
@@ -6,20 +6,20 @@ ghost use Rattle.lay_stream.specs.Fed.{Meanings, Did};
 
 use lay_layout::Break;
 
-/// Takes the tokens of a layout, one by one.
+/// Takes a layout, token by token.
 pub trait Emit {
-    /// Why a call fails.
+    /// The error of a call.
     type Fault;
 
-    /// What was fed, the groups that are open, the faults, whether a call failed, the causes of failures, and
-    /// the loans that are held.
+    /// The ghost state: the tokens that were fed, the open groups, the count of faults, whether a
+    /// call failed, why it did, and the loans that are held.
     ghost meanings: { Meanings Self Self.Fault };
 
-    /// Feeds a text.
+    /// Takes a text.
     fn text(&mut self, text: &[u8]) -> Result<(), Self::Fault>
         ensures { Did meanings self.old (tok.Text text.now ∷ []) result self.new };
 
-    /// Feeds a break.
+    /// Takes a break.
     fn brk(&mut self, token: Break) -> Result<(), Self::Fault>
         ensures { Did meanings self.old (tok.Break token ∷ []) result self.new };
 
@@ -27,7 +27,7 @@ pub trait Emit {
     fn begin(&mut self, consistent: bool, offset: i8) -> Result<(), Self::Fault>
         ensures { Did meanings self.old (tok.Begin consistent offset ∷ []) result self.new };
 
-    /// Ends the group that was begun last.
+    /// Ends the innermost open group.
     fn end(&mut self) -> Result<(), Self::Fault>
         requires { 0 < meanings.groups self.old }
         ensures { Did meanings self.old (tok.End ∷ []) result self.new };

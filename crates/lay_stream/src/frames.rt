@@ -1,4 +1,4 @@
-//! The frames of the groups that are open.
+//! The stack of frames of the open groups.
 ghost use Rattle.std.specs.Prelude.{◌≡◌, Bool, false, ℤ, [], ◌∷◌, OnOk, IsFalse};
 ghost use Rattle.lay_layout.specs.Document.{enter};
 ghost use Rattle.lay_layout.specs.Machine.{top, below};
@@ -9,7 +9,7 @@ use lay_text::NoMemory;
 use std::alloc::Global;
 use std::marker::Model;
 
-/// The frames of the groups that are open, seen with the innermost first.
+/// The stack of frames of the open groups. Contracts see it with the innermost first.
 #[derive(Drop)]
 pub struct Frames {
     items: Vec<Frame>,
@@ -28,7 +28,7 @@ impl Model for Frames {
 }
 
 impl Frames {
-    /// No group is open.
+    /// The empty stack.
     pub fn new(alloc: Global) -> Frames
         ensures { result ≡ [] }
     {
@@ -37,7 +37,7 @@ impl Frames {
         }
     }
 
-    /// A group is begun.
+    /// Pushes the frame of a group that begins.
     pub fn push(&mut self, frame: Frame) -> Result<(), NoMemory>
         requires { IsKept frame }
         ensures { OnOk result (self.new ≡ frame ∷ self.old) }
@@ -48,14 +48,15 @@ impl Frames {
         }
     }
 
-    /// The group that was begun last is ended.
+    /// Pops the frame of the innermost group, which ends.
     pub fn pop(&mut self)
         ensures { self.new ≡ below self.old }
     {
         let _ = self.items.pop();
     }
 
-    /// The frame that counts: outside all groups it is broken, inconsistent, with indent 0.
+    /// The frame of the innermost group; outside all groups it is broken, inconsistent, with indent
+    /// 0.
     pub fn top(&self) -> Frame
         ensures value { result ≡ top self.now }
         ensures kept { IsKept result }
@@ -67,7 +68,8 @@ impl Frames {
     }
 }
 
-/// Whether it counts for a group in a frame that its measure is greater than the space.
+/// Whether the frame of a group in this frame depends on its width being greater than the space
+/// that is left.
 pub fn asks_at_begin(frame: Frame) -> bool
     ensures { IsFalse result → (consistent : Bool) (offset : ℤ) (big : Bool)
         → enter frame consistent offset false ≡ enter frame consistent offset big }

@@ -1,4 +1,4 @@
-//! The line that is being written, and what is put on it.
+//! The line that is being written.
 ghost use Rattle.std.specs.Prelude.{◌≡◌, ℕ, ◌≤◌, min, max, ◌+◌, ◌∷◌, ◌++◌, [], replicate, OnOk, OnErr, IsTrue, length, nat_lt};
 ghost use Rattle.lay_layout.specs.Document.{State, write as written_on, put_mark as marked, line as on_line, newline as on_newline, skip as skipped, break_in};
 ghost use Rattle.lay_io.specs.Calls.{Writes};
@@ -11,7 +11,7 @@ use lay_layout::{
     Break, Frame, GREATEST_BLANKS, GREATEST_WIDTH, LEAST_SPACE, MARGIN, Mark, shifted,
 };
 
-/// The blanks that are to be written before what comes next, the room of the line and what was used of it.
+/// The blanks that are pending, the columns of the line, and how many of them are used.
 #[derive(Clone, Copy, Debug)]
 pub struct Line {
     pub pending: u64,
@@ -20,10 +20,10 @@ pub struct Line {
     ghost small: { room ≤ margin },
 }
 
-/// The greatest count of what was used of a line: the space is exact down to -2^62.
+/// The greatest count of used columns: the space that is left is exact down to -2^62.
 const USED: u64 = GREATEST_WIDTH + MARGIN;
 
-/// Whether the sum of a width and a length is greater than the space.
+/// Whether `width + length` is greater than the space that is left.
 #[inline(always)]
 pub fn exceeds(line: &Line, width: u64, length: u64) -> bool
     ensures { result ≡ nat_lt line.now.room (line.now.used + (width + length)) }
@@ -41,7 +41,7 @@ pub fn exceeds(line: &Line, width: u64, length: u64) -> bool
 impl Line {
     ghost use Rattle.lay_stream.specs.Pages.{Moves, greatest_used};
 
-    /// Writes the blanks that wait, if there are any.
+    /// Writes the pending blanks, if there are any.
     #[inline(always)]
     fn write_blanks<K: Sink>(&mut self, sink: &mut K) -> Result<(), Failed>
         ensures bytes { Writes (K.written sink.old) (K.written sink.new) result
@@ -58,7 +58,7 @@ impl Line {
         self.write_pending(sink)
     }
 
-    /// Writes the blanks that wait, up to 64 at once.
+    /// Writes the pending blanks, up to 64 in a write.
     #[inline(never)]
     fn write_pending<K: Sink>(&mut self, sink: &mut K) -> Result<(), Failed>
         ensures bytes { Writes (K.written sink.old) (K.written sink.new) result
@@ -78,7 +78,7 @@ impl Line {
         Ok(())
     }
 
-    /// Writes the blanks that wait, and then the bytes.
+    /// Writes the pending blanks and then the bytes.
     pub fn write<K: Sink>(&mut self, sink: &mut K, bytes: &[u8]) -> Result<(), Failed>
         ensures moves { Moves self.old (K.written sink.old) result self.new (K.written sink.new)
             (written_on bytes.now) }
@@ -107,7 +107,7 @@ impl Line {
         }
     }
 
-    /// Begins a line with so many blanks, which wait.
+    /// Writes a newline. The blanks that begin the new line are pending.
     fn start_line<K: Sink>(&mut self, sink: &mut K, blanks: u64) -> Result<(), Failed>
         ensures moves { Moves self.old (K.written sink.old) result self.new (K.written sink.new)
             (on_line blanks) }
@@ -121,7 +121,7 @@ impl Line {
         Ok(())
     }
 
-    /// A break that is a newline, in a frame of this indent.
+    /// Writes a break that is a newline, in a frame with this indent.
     #[inline(never)]
     fn newline<K: Sink>(&mut self, sink: &mut K, brk: Break, indent: u64) -> Result<(), Failed>
         requires { indent ≤ greatest_indent }
@@ -135,7 +135,7 @@ impl Line {
         self.put_mark(sink, brk.after)
     }
 
-    /// Blanks that wait, up to the greatest count.
+    /// Adds pending blanks, up to [`GREATEST_BLANKS`].
     #[inline(always)]
     fn add_blanks(&mut self, blank: u16)
         ensures pending { self.new.pending ≡ min (self.old.pending + blank) greatest_blanks }
@@ -149,7 +149,7 @@ impl Line {
         self.used = self.used.saturating_add(blank as u64).min(USED);
     }
 
-    /// A break that is no newline.
+    /// Writes a break that is no newline.
     #[inline(always)]
     fn skip<K: Sink>(&mut self, sink: &mut K, brk: Break) -> Result<(), Failed>
         ensures moves { Moves self.old (K.written sink.old) result self.new (K.written sink.new)
@@ -161,7 +161,7 @@ impl Line {
         self.put_mark(sink, brk.instead)
     }
 
-    /// A break in a frame.
+    /// Writes a break in this frame.
     #[inline(always)]
     pub fn put_break<K: Sink>(
         &mut self,

@@ -1,4 +1,4 @@
-//! The slow printer: each group and each break is measured anew.
+//! The slow printer, which measures each group and each break anew.
 ghost use Rattle.std.specs.Prelude.{◌≡◌, ◌≤◌, ◌+◌, nat_lt, OnOk, IfOk};
 ghost use Rattle.lay_layout.specs.Machine.{opened, reach, Layout, step, text};
 ghost use Rattle.lay_layout.specs.Document.{Document, break_in, stream as stream_of, text_of, write as written_on};
@@ -14,8 +14,8 @@ use lay_layout::{Break, Frame, MARGIN, Tok, asks_at_break, entered, width_of};
 use lay_text::{NoMemory, Text};
 use std::alloc::Global;
 
-/// The text of a stream in which no group is open: that of the document which the stream is the flattening
-/// of.
+/// The text of a stream in which no group is open: that of the document of which the stream is the
+/// flattening.
 pub fn plain(alloc: Global, stream: &Stream) -> Result<Text, NoMemory>
     requires { opened stream.now 0 ≡ 0 }
     ensures value { IfOk result (λ t. t ≡ text stream.now) }
@@ -45,7 +45,7 @@ fn lay(alloc: Global, toks: &[Tok]) -> Result<Text, NoMemory>
     Ok(text)
 }
 
-/// One token, which others follow.
+/// Puts a token on the line; `more` are the tokens that follow.
 fn lay_one(
     line: &mut Line,
     sink: &mut TextSink,
@@ -86,7 +86,8 @@ fn put_text(line: &mut Line, sink: &mut TextSink, text: &[u8]) -> Result<(), NoM
     }
 }
 
-/// Puts a break on the line; `big` says that its measure is greater than the space.
+/// Puts a break on the line; `big` says that its width up to the next break is greater than the
+/// space that is left.
 fn put_break(
     line: &mut Line,
     sink: &mut TextSink,
@@ -104,7 +105,8 @@ fn put_break(
     }
 }
 
-/// Whether a measure is greater than the space. It is a width and what tokens reach up to a break at depth 0.
+/// Whether a measured width is greater than the space that is left: `width`, plus what the tokens
+/// `more` need up to a break at depth 0.
 fn is_over(line: &Line, width: u64, more: &[Tok], depth: usize) -> bool
     requires { depth ≤ 1 }
     ensures { result ≡ nat_lt line.now.room (line.now.used + (width + reach depth more.now)) }
@@ -119,7 +121,8 @@ fn is_over(line: &Line, width: u64, more: &[Tok], depth: usize) -> bool
     reaches_past(more, depth, limit - width)
 }
 
-/// Whether what tokens reach, up to a break at depth 0, is greater than a limit. It looks no further than the limit.
+/// Whether the tokens need more than `limit` columns up to a break at depth 0. It looks no further
+/// than the limit.
 fn reaches_past(toks: &[Tok], depth: usize, limit: u64) -> bool
     requires { depth ≤ 1 }
     ensures { result ≡ nat_lt limit (reach depth toks.now) }

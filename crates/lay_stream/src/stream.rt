@@ -11,7 +11,7 @@ use lay_text::{NoMemory, Text};
 use std::alloc::Global;
 use std::marker::Model;
 
-/// A list of tokens, in which each `End` closes a group. `NoMemory` leaves it as it was.
+/// A list of layout tokens, in which each `End` closes a group. After `NoMemory` it is as it was.
 #[derive(Debug, Drop)]
 pub struct Stream {
     alloc: Global,
@@ -31,7 +31,7 @@ impl Model for Stream {
 }
 
 impl Stream {
-    /// The empty list. It takes no memory.
+    /// The empty list. It doesn't allocate.
     pub fn new(alloc: Global) -> Stream
         ensures { result ≡ [] }
     {

@@ -1,11 +1,12 @@
-//! A text as a sink.
+//! A sink that keeps a text.
 ghost use Rattle.std.specs.Prelude.{◌≡◌, [], Some};
 
 use lay_io::{Failed, Sink};
 use lay_text::{NoMemory, Text};
 use std::alloc::Global;
 
-/// A sink that keeps what is written as a text. A write for which there is no memory fails, and appends nothing.
+/// A sink that keeps what is written as a text. If memory is out, a write fails and appends
+/// nothing.
 #[derive(Drop)]
 pub struct TextSink {
     pub text: Text,
@@ -13,7 +14,7 @@ pub struct TextSink {
 }
 
 impl TextSink {
-    /// Nothing was written.
+    /// An empty sink.
     pub fn new(alloc: Global) -> TextSink
         ensures { result.text ≡ [] }
     {
