@@ -1,4 +1,4 @@
-//! Blocks and statements.
+//! The layout of blocks and statements.
 ghost use Rattle.std.specs.Prelude.{[], ◌∷◌, map, option_map};
 ghost use Rattle.lay_layout.specs.declared.layout.Tok.TheVariants as tok;
 ghost use Rattle.lay_stream.specs.Fed.{Did};
@@ -27,7 +27,7 @@ use lay_out_types::calls::{add_either, add_if, add_text};
 use lay_paren_defs::{AsIs, Enclose};
 use lay_stream::Emit;
 
-/// Feeds the layout of a block, whose braces have a leading blank or not.
+/// Emits the layout of a block, whose braces have a leading blank or not.
 pub fn put_block<E: Emit>(out: &mut E, block: &Block, lead: bool) -> Result<(), E::Fault>
     ensures { Did E.meanings out.old (stream_of ((about_block block.now).form lead)) result
         out.new }
@@ -35,7 +35,7 @@ pub fn put_block<E: Emit>(out: &mut E, block: &Block, lead: bool) -> Result<(), 
     add_block::<E, AsIs>(out, Ok(()), lead, block)
 }
 
-/// A block, with each statement on a line of its own. The braces have a leading blank or not.
+/// Emits a block, with each statement on a line of its own. The braces have a leading blank or not.
 #[cycle(code)]
 pub fn add_block<E: Emit, X: Enclose>(
     out: &mut E,
@@ -57,7 +57,7 @@ pub fn add_block<E: Emit, X: Enclose>(
     close_body(out, stmts)
 }
 
-/// A block that may stand on one line where it is one expression.
+/// Emits a block that may stand on one line if it is a single expression.
 #[cycle(code)]
 pub fn add_soft<E: Emit, X: Enclose>(
     out: &mut E,
@@ -75,7 +75,7 @@ pub fn add_soft<E: Emit, X: Enclose>(
     add_block::<E, X>(out, before, true, block)
 }
 
-/// Statements, each after a break.
+/// Emits statements, each after a break.
 #[cycle(code)]
 fn add_stmts<E: Emit, X: Enclose>(
     out: &mut E,
@@ -94,14 +94,14 @@ fn add_stmts<E: Emit, X: Enclose>(
     done
 }
 
-/// Feeds the layout of a statement.
+/// Emits the layout of a statement.
 pub fn put_stmt<E: Emit>(out: &mut E, stmt: &Stmt) -> Result<(), E::Fault>
     ensures { Did E.meanings out.old (stream_of (about_stmt stmt.now).form) result out.new }
 {
     add_stmt::<E, AsIs>(out, Ok(()), stmt)
 }
 
-/// A statement.
+/// Emits a statement.
 #[cycle(code)]
 fn add_stmt<E: Emit, X: Enclose>(
     out: &mut E,
@@ -136,7 +136,7 @@ fn add_stmt<E: Emit, X: Enclose>(
     }
 }
 
-/// The block that a binding leads to where its pattern isn't matched, if there is one, after its `else`.
+/// Emits the `else` of a `let` and its block, if it has one.
 #[cycle(code)]
 fn add_otherwise<E: Emit, X: Enclose>(
     out: &mut E,
@@ -155,7 +155,7 @@ fn add_otherwise<E: Emit, X: Enclose>(
     }
 }
 
-/// A value, if there is one, after its `=`.
+/// Emits a `=` and a value, if there is one.
 #[cycle(code)]
 pub fn add_value<E: Emit, X: Enclose>(
     out: &mut E,

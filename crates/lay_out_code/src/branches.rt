@@ -1,4 +1,4 @@
-//! Branches and arms.
+//! The layout of branches and arms.
 ghost use Rattle.std.specs.Prelude.{Bool, [], ◌∷◌, ◌++◌, map, option_map, codes};
 ghost use Rattle.lay_stream.specs.Fed.{Did};
 ghost use Rattle.lay_form.specs.Form.{Blank};
@@ -32,7 +32,7 @@ use lay_out_types::lists::add_end;
 use lay_paren_defs::{AsIs, Enclose};
 use lay_stream::Emit;
 
-/// What is matched, after its word, in a group of its own.
+/// Emits `match` and the expression that is matched, in a group of their own.
 #[cycle(code)]
 pub fn add_scrutinee<E: Emit, X: Enclose>(
     out: &mut E,
@@ -48,7 +48,7 @@ pub fn add_scrutinee<E: Emit, X: Enclose>(
     add_end(out, scrutinee)
 }
 
-/// Branches, with `else` between them.
+/// Emits branches, with `else` between them.
 #[cycle(code)]
 pub fn add_branches<E: Emit, X: Enclose>(
     out: &mut E,
@@ -67,7 +67,7 @@ pub fn add_branches<E: Emit, X: Enclose>(
     done
 }
 
-/// The block after the last branch, if there is one, after its `else`.
+/// Emits the last `else` and its block, if there is one.
 #[cycle(code)]
 pub fn add_else<E: Emit, X: Enclose>(
     out: &mut E,
@@ -86,7 +86,7 @@ pub fn add_else<E: Emit, X: Enclose>(
     }
 }
 
-/// Inner attributes and arms in braces, each on a line of its own.
+/// Emits inner attributes and arms in braces, each on a line of its own.
 #[cycle(code)]
 pub fn add_arms<E: Emit, X: Enclose>(
     out: &mut E,
@@ -107,7 +107,7 @@ pub fn add_arms<E: Emit, X: Enclose>(
     close_body(out, arms)
 }
 
-/// Arms, each after a newline.
+/// Emits arms, each after a newline.
 #[cycle(code)]
 fn add_arm_lines<E: Emit, X: Enclose>(
     out: &mut E,
@@ -125,7 +125,7 @@ fn add_arm_lines<E: Emit, X: Enclose>(
     done
 }
 
-/// Feeds the layout of an arm, which is the same whether or not it is the last.
+/// Emits the layout of an arm, which is the same whether or not it is the last.
 pub fn put_arm<E: Emit>(out: &mut E, arm: &Arm) -> Result<(), E::Fault>
     ensures { (last : Bool) → Did E.meanings out.old (stream_of ((about_arm arm.now).form last))
         result out.new }
@@ -133,7 +133,7 @@ pub fn put_arm<E: Emit>(out: &mut E, arm: &Arm) -> Result<(), E::Fault>
     add_arm::<E, AsIs>(out, Ok(()), arm)
 }
 
-/// An arm.
+/// Emits an arm.
 #[cycle(code)]
 fn add_arm<E: Emit, X: Enclose>(
     out: &mut E,
@@ -156,7 +156,7 @@ fn add_arm<E: Emit, X: Enclose>(
     close_arm(out, inner, braces)
 }
 
-/// The guard of an arm, if it has one, after its `if`.
+/// Emits the guard of an arm, if it has one, after its `if`.
 #[cycle(code)]
 fn add_guard<E: Emit, X: Enclose>(
     out: &mut E,

@@ -1,4 +1,4 @@
-//! Attributes, groups, use trees and the items that are heads alone, after what was fed before.
+//! The `add` functions of attributes, groups, use trees and the items that consist of a head alone.
 ghost use Rattle.lay_form.specs.Form.{Done};
 ghost use Rattle.lay_form.specs.Stream.{stream_of};
 ghost use Rattle.lay_node.specs.nodes.Attr.{attr_form};
@@ -13,7 +13,7 @@ use lay_out_heads::{put_alias, put_enum, put_extern_crate, put_struct, put_union
 use lay_out_tokens::{put_bare_attr, put_group};
 use lay_stream::Emit;
 
-/// An attribute.
+/// Emits an attribute.
 pub fn add_bare_attr<E: Emit>(
     out: &mut E,
     before: Result<(), E::Fault>,
@@ -25,7 +25,7 @@ pub fn add_bare_attr<E: Emit>(
     put_bare_attr(out, attr)
 }
 
-/// A group in its delimiters.
+/// Emits a group in its delimiters.
 pub fn add_group<E: Emit>(
     out: &mut E,
     before: Result<(), E::Fault>,
@@ -38,7 +38,7 @@ pub fn add_group<E: Emit>(
     put_group(out, group)
 }
 
-/// A use tree.
+/// Emits a use tree.
 pub fn add_use<E: Emit>(
     out: &mut E,
     before: Result<(), E::Fault>,
@@ -50,7 +50,7 @@ pub fn add_use<E: Emit>(
     put_use(out, tree)
 }
 
-/// An `extern crate`.
+/// Emits an `extern crate`.
 pub fn add_extern_crate<E: Emit>(
     out: &mut E,
     before: Result<(), E::Fault>,
@@ -64,7 +64,7 @@ pub fn add_extern_crate<E: Emit>(
     put_extern_crate(out, vis, node)
 }
 
-/// A type alias, which is the same wherever it stands.
+/// Emits a type alias, which is the same wherever it stands.
 pub fn add_alias<E: Emit>(
     out: &mut E,
     before: Result<(), E::Fault>,
@@ -78,7 +78,7 @@ pub fn add_alias<E: Emit>(
     put_alias(out, vis, node)
 }
 
-/// A struct.
+/// Emits a struct.
 pub fn add_struct<E: Emit>(
     out: &mut E,
     before: Result<(), E::Fault>,
@@ -92,7 +92,7 @@ pub fn add_struct<E: Emit>(
     put_struct(out, vis, node)
 }
 
-/// A union.
+/// Emits a union.
 pub fn add_union<E: Emit>(
     out: &mut E,
     before: Result<(), E::Fault>,
@@ -106,7 +106,7 @@ pub fn add_union<E: Emit>(
     put_union(out, vis, node)
 }
 
-/// An enumeration.
+/// Emits an enumeration.
 pub fn add_enum<E: Emit>(
     out: &mut E,
     before: Result<(), E::Fault>,

@@ -1,4 +1,4 @@
-//! Conditions and their links.
+//! The layout of conditions and their links.
 ghost use Rattle.std.specs.Prelude.{[], ◌++◌, map};
 ghost use Rattle.lay_form.specs.Stream.{stream_of};
 ghost use Rattle.lay_code.specs.nodes.Code.{about_condition, about_link};
@@ -16,7 +16,7 @@ use lay_out_types::lists::{add_begin, add_end};
 use lay_paren_defs::Enclose;
 use lay_stream::Emit;
 
-/// A condition after its word, in a group of its own.
+/// Emits a condition after its word, in a group of its own.
 #[cycle(code)]
 pub fn add_condition<E: Emit, X: Enclose>(
     out: &mut E,
@@ -32,7 +32,7 @@ pub fn add_condition<E: Emit, X: Enclose>(
     add_end(out, links)
 }
 
-/// The links of a condition. Two or more are in a group of their own.
+/// Emits the links of a condition. Two or more are in a group of their own.
 #[cycle(code)]
 fn add_links<E: Emit, X: Enclose>(
     out: &mut E,
@@ -53,7 +53,7 @@ fn add_links<E: Emit, X: Enclose>(
     }
 }
 
-/// Links, with `&&` between them.
+/// Emits links, with `&&` between them.
 #[cycle(code)]
 fn add_link_row<E: Emit, X: Enclose>(
     out: &mut E,
@@ -71,7 +71,7 @@ fn add_link_row<E: Emit, X: Enclose>(
     done
 }
 
-/// A link.
+/// Emits a link.
 #[cycle(code)]
 fn add_link<E: Emit, X: Enclose>(
     out: &mut E,

@@ -1,4 +1,4 @@
-//! An expression with its parts in parentheses, as the value of a constant.
+//! The layout of an expression with each part in parentheses, as the value of a constant.
 ghost use Rattle.std.specs.Prelude.{true};
 ghost use Rattle.lay_layout.specs.Document.{stream};
 ghost use Rattle.lay_stream.specs.Fed.{Did};
@@ -17,8 +17,9 @@ use lay_out_types::lists::add_end;
 use lay_paren_defs::Enclosed;
 use lay_stream::Emit;
 
-/// Feeds the layout of the file of one constant, `const _: () = (..);`, whose value is an expression in which each part
-/// stands in parentheses. It takes no memory: the tree with the parentheses is never made.
+/// Emits the layout of the file of one constant, `const _: () = (..);`, whose value is an
+/// expression with each part in parentheses. It allocates nothing: the tree with the parentheses is
+/// never built.
 pub fn put_enclosed_constant<E: Emit>(out: &mut E, expr: &Expr) -> Result<(), E::Fault>
     ensures { Did E.meanings out.old (stream (layout_of_file (constant (part true expr.now))))
         result out.new }

@@ -1,4 +1,4 @@
-//! Expressions.
+//! The layout of expressions.
 ghost use Rattle.std.specs.Prelude.{◌==◌, [], ◌++◌, true, map, length, option_map};
 ghost use Rattle.lay_stream.specs.Fed.{Did};
 ghost use Rattle.lay_form.specs.Form.{Done};
@@ -29,15 +29,15 @@ use lay_out_types::{add_path, add_type};
 use lay_paren_defs::{AsIs, Enclose, is_body_enclosed};
 use lay_stream::Emit;
 
-/// Feeds the layout of an expression.
+/// Emits the layout of an expression.
 pub fn put_expr<E: Emit>(out: &mut E, node: &Expr) -> Result<(), E::Fault>
     ensures { Did E.meanings out.old (stream_of (about_expr node.now).form) result out.new }
 {
     add_expr::<E, AsIs>(out, Ok(()), false, node)
 }
 
-/// An expression that is a part of another node: in parentheses, where parts get them. The flag says that a point stands
-/// before it.
+/// Emits an expression that is a part of another node: in parentheses, if parts get them. The flag
+/// says that the text before it ends in a `.`.
 #[cycle(code)]
 pub fn add_expr<E: Emit, X: Enclose>(
     out: &mut E,
@@ -56,7 +56,7 @@ pub fn add_expr<E: Emit, X: Enclose>(
     add_whole::<E, X>(out, before, point, node)
 }
 
-/// The body of an arm or of a closure, which is a part, unless it gets no parentheses.
+/// Emits the body of an arm or of a closure, in parentheses, if it gets them.
 #[cycle(code)]
 pub fn add_body_part<E: Emit, X: Enclose>(
     out: &mut E,
@@ -72,7 +72,8 @@ pub fn add_body_part<E: Emit, X: Enclose>(
     add_whole::<E, X>(out, before, false, body)
 }
 
-/// An expression by itself, in which parts get their parentheses or don't. The flag says that a point stands before it.
+/// Emits an expression, whose parts are put in parentheses or not. The flag says that the text
+/// before it ends in a `.`.
 #[cycle(code)]
 pub fn add_whole<E: Emit, X: Enclose>(
     out: &mut E,
@@ -264,7 +265,7 @@ pub fn add_whole<E: Emit, X: Enclose>(
     }
 }
 
-/// A tuple, which has a comma after a single element.
+/// Emits a tuple, which has a comma after a single element.
 #[cycle(code)]
 fn add_tuple<E: Emit, X: Enclose>(
     out: &mut E,
@@ -285,7 +286,8 @@ fn add_tuple<E: Emit, X: Enclose>(
     }
 }
 
-/// Expressions in brackets, with a `,` between them. Without an expression the brackets are one text.
+/// Emits expressions in brackets, with a `,` between them. Without an expression the brackets are
+/// one text.
 #[cycle(code)]
 pub fn add_exprs<E: Emit, X: Enclose>(
     out: &mut E,
@@ -308,7 +310,7 @@ pub fn add_exprs<E: Emit, X: Enclose>(
     add_close(out, done, true, exprs.is_empty(), both, closer)
 }
 
-/// An expression, if there is one.
+/// Emits an expression, if there is one.
 #[cycle(code)]
 pub fn add_optional<E: Emit, X: Enclose>(
     out: &mut E,
@@ -325,7 +327,7 @@ pub fn add_optional<E: Emit, X: Enclose>(
     }
 }
 
-/// The body of a closure, in braces where it is broken and may stand in them.
+/// Emits the body of a closure. If it is broken, it gets braces, if it may stand in them.
 #[cycle(code)]
 fn add_closure_body<E: Emit, X: Enclose>(
     out: &mut E,
@@ -342,7 +344,7 @@ fn add_closure_body<E: Emit, X: Enclose>(
     close_closure(out, inner, braces)
 }
 
-/// The operand of a `return` or a `break` after its blank, if there is one.
+/// Emits a blank and the operand of a `return` or a `break`, if there is one.
 #[cycle(code)]
 fn add_operand<E: Emit, X: Enclose>(
     out: &mut E,

@@ -1,4 +1,4 @@
-//! Files.
+//! The layout of files.
 ghost use Rattle.std.specs.Prelude.{map, Some};
 ghost use Rattle.lay_layout.specs.Document.{Empty, stream};
 ghost use Rattle.lay_stream.specs.Fed.{Did};
@@ -14,8 +14,8 @@ use lay_out_tokens::HARD_BREAK;
 use lay_stream::Emit;
 use lay_text::Text;
 
-/// Feeds the layout of a file: its first line, if it is a shebang, its attributes and its items, each with a newline
-/// after it.
+/// Emits the layout of a file: its first line, if it is a shebang, its attributes and its items,
+/// each with a newline after it.
 pub fn put_file<E: Emit>(out: &mut E, file: &File) -> Result<(), E::Fault>
     ensures { Did E.meanings out.old (stream (layout_of_file file.now)) result out.new }
 {
@@ -24,7 +24,8 @@ pub fn put_file<E: Emit>(out: &mut E, file: &File) -> Result<(), E::Fault>
     put_items(out, file.items.as_slice())
 }
 
-/// Feeds the layout of the first line of a file, if it is a shebang: the line, with a newline after it.
+/// Emits the layout of the first line of a file, if it is a shebang: the line, with a newline after
+/// it.
 pub fn put_shebang<E: Emit>(out: &mut E, shebang: &Option<Text>) -> Result<(), E::Fault>
     ensures { Did E.meanings out.old (stream (behind_shebang shebang.now Empty)) result out.new }
 {
@@ -34,7 +35,7 @@ pub fn put_shebang<E: Emit>(out: &mut E, shebang: &Option<Text>) -> Result<(), E
     }
 }
 
-/// A text, with a newline after it.
+/// Emits a text, with a newline after it.
 fn put_line<E: Emit>(out: &mut E, line: &[u8]) -> Result<(), E::Fault>
     ensures { Did E.meanings out.old (stream (behind_shebang (Some line.now) Empty)) result
         out.new }
@@ -43,7 +44,7 @@ fn put_line<E: Emit>(out: &mut E, line: &[u8]) -> Result<(), E::Fault>
     out.brk(HARD_BREAK)
 }
 
-/// Items, each with a newline after it.
+/// Emits items, each with a newline after it.
 fn put_items<E: Emit>(out: &mut E, items: &[Item]) -> Result<(), E::Fault>
     ensures { Did E.meanings out.old (stream_of (lines (map form_of_item items.now))) result
         out.new }

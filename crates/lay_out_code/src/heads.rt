@@ -1,4 +1,4 @@
-//! The heads of items, each with its visibility in a group of its own.
+//! The layout of the heads of items, each with its visibility in a group of its own.
 ghost use Rattle.std.specs.Prelude.{◌++◌};
 ghost use Rattle.lay_form.specs.Form.{Form, Part, semicolon};
 ghost use Rattle.lay_form.specs.Notation.{piece};
@@ -19,17 +19,17 @@ use lay_out_types::calls::{add_if, add_literal, add_text, add_word};
 use lay_out_types::lists::add_end;
 use lay_stream::Emit;
 
-/// What an item begins with after its visibility.
+/// The head of an item, after its visibility.
 pub trait Head {
-    /// The form of which it has the layout.
+    /// The form of the head.
     ghost form: { Self → Form };
 
-    /// Its layout.
+    /// Emits the layout of the head.
     fn add<E: Emit>(&self, out: &mut E, before: Result<(), E::Fault>) -> Result<(), E::Fault>
         ensures { Adds E.meanings before out.old (stream_of (form self.now)) result out.new };
 }
 
-/// A head, after its visibility.
+/// Emits a head, after its visibility.
 pub fn add_head<E: Emit, H: Head>(
     out: &mut E,
     before: Result<(), E::Fault>,
@@ -43,7 +43,7 @@ pub fn add_head<E: Emit, H: Head>(
     add_end(out, head)
 }
 
-/// A head, and a `;`.
+/// Emits a head, and a `;`.
 pub fn add_ended<E: Emit, H: Head>(
     out: &mut E,
     before: Result<(), E::Fault>,
@@ -57,7 +57,7 @@ pub fn add_ended<E: Emit, H: Head>(
     add_text(out, head, b";")
 }
 
-/// A head, a where clause, and a `;`.
+/// Emits a head, a where clause, and a `;`.
 pub fn add_ended_clause<E: Emit, H: Head>(
     out: &mut E,
     before: Result<(), E::Fault>,
@@ -73,7 +73,7 @@ pub fn add_ended_clause<E: Emit, H: Head>(
     add_semicolon(out, head, wheres)
 }
 
-/// A head, and a where clause before a body.
+/// Emits a head, and a where clause before a body.
 pub fn add_clause<E: Emit, H: Head>(
     out: &mut E,
     before: Result<(), E::Fault>,
@@ -143,7 +143,7 @@ impl Head for ImplHead {
     }
 }
 
-/// The head of a foreign block.
+/// Emits the head of a foreign block.
 pub fn add_foreign_head<E: Emit>(
     out: &mut E,
     before: Result<(), E::Fault>,
@@ -161,7 +161,7 @@ pub fn add_foreign_head<E: Emit>(
     add_end(out, head)
 }
 
-/// The string that names an ABI, if one does, after a blank.
+/// Emits a blank and the string of an ABI, if it has one.
 fn add_foreign_abi<E: Emit>(
     out: &mut E,
     before: Result<(), E::Fault>,

@@ -1,4 +1,4 @@
-//! Items.
+//! The layout of items.
 ghost use Rattle.std.specs.Prelude.{[], ◌++◌, map, option_map};
 ghost use Rattle.lay_stream.specs.Fed.{Did};
 ghost use Rattle.lay_form.specs.Form.{Part, semicolon};
@@ -31,14 +31,14 @@ use lay_out_types::lists::add_end;
 use lay_paren_defs::{AsIs, Enclose};
 use lay_stream::Emit;
 
-/// Feeds the layout of an item, with its attributes, each on a line of its own.
+/// Emits the layout of an item, with its attributes, each on a line of its own.
 pub fn put_item<E: Emit>(out: &mut E, item: &Item) -> Result<(), E::Fault>
     ensures { Did E.meanings out.old (stream_of (form_of_item item.now)) result out.new }
 {
     add_item::<E, AsIs>(out, Ok(()), item)
 }
 
-/// An item.
+/// Emits an item.
 #[cycle(code)]
 pub fn add_item<E: Emit, X: Enclose>(
     out: &mut E,
@@ -52,7 +52,7 @@ pub fn add_item<E: Emit, X: Enclose>(
     add_kind::<E, X>(out, attrs, &item.vis, item.kind.get())
 }
 
-/// An item without its attributes.
+/// Emits an item without its attributes.
 #[cycle(code)]
 fn add_kind<E: Emit, X: Enclose>(
     out: &mut E,
@@ -123,7 +123,7 @@ fn add_kind<E: Emit, X: Enclose>(
     }
 }
 
-/// A function, with its body or without one.
+/// Emits a function, with its body or without one.
 #[cycle(code)]
 fn add_function<E: Emit, X: Enclose>(
     out: &mut E,
@@ -147,7 +147,7 @@ fn add_function<E: Emit, X: Enclose>(
     }
 }
 
-/// A constant or a static, and a `;`.
+/// Emits a constant or a static, and a `;`.
 #[cycle(code)]
 fn add_valued<E: Emit, X: Enclose>(
     out: &mut E,
@@ -168,7 +168,8 @@ fn add_valued<E: Emit, X: Enclose>(
     add_text(out, whole, b";")
 }
 
-/// Inner attributes and items in braces, each on a line of its own. The braces have a leading blank or not.
+/// Emits inner attributes and items in braces, each on a line of its own. The braces have a leading
+/// blank or not.
 #[cycle(code)]
 fn add_body<E: Emit, X: Enclose>(
     out: &mut E,
@@ -190,7 +191,7 @@ fn add_body<E: Emit, X: Enclose>(
     close_body(out, items)
 }
 
-/// Items, each after a newline.
+/// Emits items, each after a newline.
 #[cycle(code)]
 fn add_lines<E: Emit, X: Enclose>(
     out: &mut E,
@@ -209,7 +210,7 @@ fn add_lines<E: Emit, X: Enclose>(
     done
 }
 
-/// Attributes, each after a newline.
+/// Emits attributes, each after a newline.
 pub fn add_inner_attrs<E: Emit>(
     out: &mut E,
     before: Result<(), E::Fault>,

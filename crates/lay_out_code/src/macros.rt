@@ -1,4 +1,4 @@
-//! The macros among items, which have no head.
+//! The layout of macro calls and macro definitions as items.
 ghost use Rattle.lay_form.specs.Form.{Done};
 ghost use Rattle.lay_form.specs.Stream.{stream_of};
 ghost use Rattle.lay_node.specs.nodes.Call.{before_rules, end_form};
@@ -11,7 +11,7 @@ use lay_out_types::calls::{add_call, add_text, add_word};
 use lay_piece::Delim;
 use lay_stream::Emit;
 
-/// A macro by its rules.
+/// Emits a macro definition.
 pub fn add_macro_rules<E: Emit>(
     out: &mut E,
     before: Result<(), E::Fault>,
@@ -28,7 +28,7 @@ pub fn add_macro_rules<E: Emit>(
     add_item_end(out, group, rules.delim)
 }
 
-/// The blank before rules in braces.
+/// Emits the blank before rules in braces.
 fn add_before_rules<E: Emit>(
     out: &mut E,
     before: Result<(), E::Fault>,
@@ -42,7 +42,7 @@ fn add_before_rules<E: Emit>(
     }
 }
 
-/// A macro call as an item.
+/// Emits a macro call as an item.
 pub fn add_call_item<E: Emit>(
     out: &mut E,
     before: Result<(), E::Fault>,
@@ -54,7 +54,7 @@ pub fn add_call_item<E: Emit>(
     add_item_end(out, group, call.tokens.delim)
 }
 
-/// What ends an item after a group: nothing after braces, and else a `;`.
+/// Emits the end of an item after a group: nothing after braces, else a `;`.
 fn add_item_end<E: Emit>(
     out: &mut E,
     before: Result<(), E::Fault>,

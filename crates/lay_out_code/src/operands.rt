@@ -1,4 +1,4 @@
-//! Operands, targets and steps, and the fields of struct literals.
+//! The layout of operands, targets and steps, and of the fields of struct literals.
 ghost use Rattle.std.specs.Prelude.{[], ◌∷◌, ◌++◌, false, cond, map, codes, option_map};
 ghost use Rattle.lay_layout.specs.declared.layout.Tok.TheVariants as tok;
 ghost use Rattle.lay_form.specs.Form.{Done};
@@ -23,7 +23,7 @@ use lay_out_types::lists::{add_close, add_lead};
 use lay_paren_defs::Enclose;
 use lay_stream::Emit;
 
-/// The fields of a struct literal, after what opens their braces.
+/// Emits the fields of a struct literal, after its `{`.
 #[cycle(code)]
 pub fn add_fields<E: Emit, X: Enclose>(
     out: &mut E,
@@ -41,7 +41,7 @@ pub fn add_fields<E: Emit, X: Enclose>(
     done
 }
 
-/// The `..` after the fields of a struct literal, and its base, if it has one.
+/// Emits the `..` after the fields of a struct literal, and its base, if it has one.
 #[cycle(code)]
 pub fn add_base<E: Emit, X: Enclose>(
     out: &mut E,
@@ -58,7 +58,7 @@ pub fn add_base<E: Emit, X: Enclose>(
     add_optional::<E, X>(out, dots, true, base)
 }
 
-/// A field of a struct literal, after its attributes.
+/// Emits a field of a struct literal, after its attributes.
 #[cycle(code)]
 fn add_field<E: Emit, X: Enclose>(
     out: &mut E,
@@ -92,7 +92,7 @@ fn add_field<E: Emit, X: Enclose>(
     }
 }
 
-/// The operands after the first one, each after its operator.
+/// Emits the operands after the first one, each after its operator.
 #[cycle(code)]
 pub fn add_operands<E: Emit, X: Enclose>(
     out: &mut E,
@@ -110,7 +110,7 @@ pub fn add_operands<E: Emit, X: Enclose>(
     done
 }
 
-/// The targets of an assignment, each before its operator.
+/// Emits the targets of an assignment, each before its operator.
 #[cycle(code)]
 pub fn add_targets<E: Emit, X: Enclose>(
     out: &mut E,
@@ -131,8 +131,8 @@ pub fn add_targets<E: Emit, X: Enclose>(
     done
 }
 
-/// Steps. The flags say that a point stands before them, and that several of them are methods: then a break stands
-/// before each method but the first.
+/// Emits postfix steps. The flags say that the text before them ends in a `.`, and that several of
+/// them are method calls: then a break stands before each method call but the first.
 #[cycle(code)]
 pub fn add_steps<E: Emit, X: Enclose>(
     out: &mut E,
@@ -158,7 +158,7 @@ pub fn add_steps<E: Emit, X: Enclose>(
     done
 }
 
-/// A step.
+/// Emits a step.
 #[cycle(code)]
 fn add_step<E: Emit, X: Enclose>(
     out: &mut E,

@@ -1,4 +1,4 @@
-//! What stands round blocks, and before them.
+//! What is laid out around blocks, and before them.
 ghost use Rattle.std.specs.Prelude.{◌≡◌, ◌<◌, [], cond, map, OnOk};
 ghost use Rattle.lay_form.specs.Form.{Done};
 ghost use Rattle.lay_form.specs.Stream.{stream_of};
@@ -17,7 +17,7 @@ use lay_out_types::calls::add_text;
 use lay_out_types::lists::add_end;
 use lay_stream::Emit;
 
-/// A label before a loop or a block, if there is one.
+/// Emits a label before a loop or a block, if there is one.
 pub fn add_labelled<E: Emit>(
     out: &mut E,
     before: Result<(), E::Fault>,
@@ -34,7 +34,7 @@ pub fn add_labelled<E: Emit>(
     }
 }
 
-/// What stands before a condition: what opens its group, and the word.
+/// Emits what stands before a condition: what opens its group, and the word.
 pub fn add_condition_lead<E: Emit>(
     out: &mut E,
     before: Result<(), E::Fault>,
@@ -46,7 +46,7 @@ pub fn add_condition_lead<E: Emit>(
     add_text(out, group, word)
 }
 
-/// What stands before a value that is matched with a pattern: the word `let`, the pattern and an `=`.
+/// Emits what stands before the value of a `let` link: the word `let`, the pattern and an `=`.
 pub fn add_let_lead<E: Emit>(
     out: &mut E,
     before: Result<(), E::Fault>,
@@ -59,7 +59,8 @@ pub fn add_let_lead<E: Emit>(
     add_text(out, pat, b" = ")
 }
 
-/// What stands before a link of a condition: a break, and the operator with its blank, unless it is the first one.
+/// Emits what stands before a link of a condition: a break, and the operator with its blank, unless
+/// it is the first one.
 pub fn add_link_lead<E: Emit>(
     out: &mut E,
     before: Result<(), E::Fault>,
@@ -74,7 +75,7 @@ pub fn add_link_lead<E: Emit>(
     add_text(out, line, b"&& ")
 }
 
-/// What stands before a branch: the word `else`, unless it is the first one.
+/// Emits what stands before a branch: the word `else`, unless it is the first one.
 pub fn add_else_word<E: Emit>(
     out: &mut E,
     before: Result<(), E::Fault>,

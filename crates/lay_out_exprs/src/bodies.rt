@@ -1,4 +1,4 @@
-//! What stands round the bodies of arms and of closures.
+//! What is laid out around the bodies of arms and closures.
 ghost use Rattle.std.specs.Prelude.{◌≡◌, OnOk};
 ghost use Rattle.lay_layout.specs.Machine.{IsNested};
 ghost use Rattle.lay_code.specs.nodes.Bodies.{braces_of};
@@ -18,14 +18,14 @@ use lay_out_types::lists::add_end;
 use lay_paren_defs::{Enclose, is_body_enclosed};
 use lay_stream::Emit;
 
-/// How the body of an arm or of a closure is laid out.
+/// The layout of the body of an arm or of a closure.
 #[derive(Clone, Copy)]
 pub enum BodyBraces {
-    /// As it stands, and with a comma after it that of an arm.
+    /// As it is; in an arm with a comma after it.
     Bare,
-    /// As it stands.
+    /// As it is.
     Unseen,
-    /// In braces where it is broken, and else with a comma after it that of an arm.
+    /// In braces if it is broken; otherwise as it is, in an arm with a comma after it.
     Marked,
 }
 
@@ -41,13 +41,13 @@ const CLOSING_BRACE_BREAK: Break = Break {
     ..CLOSING_SOFT_BREAK
 };
 
-/// The same after the body of an arm, with a `,` where it is no newline.
+/// The break after the body of an arm, with a `}` after its newline, or a `,` if it is no newline.
 const CLOSING_ARM_BREAK: Break = Break {
     instead: Mark::Comma,
     ..CLOSING_BRACE_BREAK
 };
 
-/// How the body of an arm is laid out, where one in parentheses is laid out in braces.
+/// The layout of the body of an arm, if parts get parentheses: in braces if it gets them.
 pub fn arm_body_braces<X: Enclose>(body: &Expr) -> BodyBraces
     ensures { seen_as result ≡ braces_of (about_expr (body_part X.on body.now)).kind }
 {
@@ -57,7 +57,7 @@ pub fn arm_body_braces<X: Enclose>(body: &Expr) -> BodyBraces
     arm_braces(body)
 }
 
-/// How the body of a closure is laid out, where one in parentheses is laid out in braces.
+/// The layout of the body of a closure, if parts get parentheses: in braces if it gets them.
 pub fn closure_body_braces<X: Enclose>(body: &Expr) -> BodyBraces
     ensures { seen_as result ≡ body_braces (about_expr (body_part X.on body.now)) }
 {
@@ -67,7 +67,8 @@ pub fn closure_body_braces<X: Enclose>(body: &Expr) -> BodyBraces
     closure_braces(body)
 }
 
-/// How the body of an arm is laid out: a macro call as it stands, so too a block without a label, and all else in braces.
+/// The layout of the body of an arm: a macro call and an unlabelled block as they are, all else in
+/// braces if it is broken.
 fn arm_braces(body: &Expr) -> BodyBraces
     ensures { seen_as result ≡ braces_of (about_expr body.now).kind }
 {
@@ -81,7 +82,7 @@ fn arm_braces(body: &Expr) -> BodyBraces
     }
 }
 
-/// How the body of a closure is laid out: as that of an arm, or as it stands where no braces may stand round it.
+/// The layout of the body of a closure: as of an arm, but as it is if it can't have braces.
 fn closure_braces(body: &Expr) -> BodyBraces
     ensures { seen_as result ≡ body_braces (about_expr body.now) }
 {
@@ -92,7 +93,7 @@ fn closure_braces(body: &Expr) -> BodyBraces
     }
 }
 
-/// What opens the body of an arm.
+/// Emits what stands before the body of an arm.
 pub fn open_arm<E: Emit>(
     out: &mut E,
     before: Result<(), E::Fault>,
@@ -109,7 +110,7 @@ pub fn open_arm<E: Emit>(
     }
 }
 
-/// What closes the body of an arm.
+/// Emits what stands after the body of an arm.
 pub fn close_arm<E: Emit>(
     out: &mut E,
     before: Result<(), E::Fault>,
@@ -128,7 +129,7 @@ pub fn close_arm<E: Emit>(
     }
 }
 
-/// What opens the body of a closure.
+/// Emits what stands before the body of a closure.
 pub fn open_closure<E: Emit>(
     out: &mut E,
     before: Result<(), E::Fault>,
@@ -146,7 +147,7 @@ pub fn open_closure<E: Emit>(
     }
 }
 
-/// What closes the body of a closure.
+/// Emits what stands after the body of a closure.
 pub fn close_closure<E: Emit>(
     out: &mut E,
     before: Result<(), E::Fault>,

@@ -1,4 +1,4 @@
-//! What stands before the body of a closure.
+//! The layout of closures before their bodies.
 ghost use Rattle.std.specs.Prelude.{map, true};
 ghost use Rattle.lay_form.specs.Form.{Done};
 ghost use Rattle.lay_form.specs.Notation.{comma_list};
@@ -14,7 +14,7 @@ use lay_out_types::lists::{add_close, add_lead};
 use lay_out_types::parts::add_param_attrs;
 use lay_stream::Emit;
 
-/// The words `async` and `move`, each if it is said, and parameters.
+/// Emits the head of a closure: `async` and `move`, as the flags say, and the parameters.
 pub fn add_closure_head<E: Emit>(
     out: &mut E,
     before: Result<(), E::Fault>,
@@ -30,7 +30,7 @@ pub fn add_closure_head<E: Emit>(
     add_params(out, words, params)
 }
 
-/// Parameters between bars, with a `,` between them.
+/// Emits parameters between bars, with a `,` between them.
 fn add_params<E: Emit>(
     out: &mut E,
     before: Result<(), E::Fault>,
@@ -47,7 +47,7 @@ fn add_params<E: Emit>(
     add_close(out, done, true, params.is_empty(), b"||", b"|")
 }
 
-/// A parameter, after its attributes.
+/// Emits a parameter, after its attributes.
 fn add_param<E: Emit>(
     out: &mut E,
     before: Result<(), E::Fault>,

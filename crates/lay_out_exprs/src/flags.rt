@@ -1,14 +1,14 @@
-//! Two flags.
+//! `&&` and `||` as functions, without short circuit.
 ghost use Rattle.std.specs.Prelude.{◌≡◌, ◌&&◌, ◌||◌};
 
-/// Whether both hold.
+/// Whether both flags are set.
 pub fn both(first: bool, second: bool) -> bool
     ensures { result ≡ (first && second) }
 {
     first && second
 }
 
-/// Whether one of them holds.
+/// Whether one of the flags is set.
 pub fn either(first: bool, second: bool) -> bool
     ensures { result ≡ (first || second) }
 {

@@ -1,4 +1,4 @@
-//! The generic arguments of a method.
+//! The layout of the generic arguments of a method call.
 ghost use Rattle.lay_form.specs.Form.{Done};
 ghost use Rattle.lay_form.specs.Stream.{stream_of};
 ghost use Rattle.lay_code.specs.nodes.Exprs.{generics_form};
@@ -10,7 +10,7 @@ use lay_out_types::calls::add_text;
 use lay_stream::Emit;
 use lay_text::List;
 
-/// The generic arguments of a method after `::`, if it has some.
+/// Emits the generic arguments of a method after `::`, if it has some.
 pub fn add_generics<E: Emit>(
     out: &mut E,
     before: Result<(), E::Fault>,

@@ -1,4 +1,4 @@
-//! Operators, casts and labels.
+//! The layout of operators, casts and labels.
 ghost use Rattle.std.specs.Prelude.{◌≡◌, [], ◌∷◌, map, codes, false};
 ghost use Rattle.lay_layout.specs.declared.layout.Tok.TheVariants as tok;
 ghost use Rattle.lay_form.specs.Form.{Done, Never, Soft};
@@ -16,7 +16,7 @@ use lay_out_types::add_type;
 use lay_out_types::calls::add_text;
 use lay_stream::Emit;
 
-/// What stands between two operands: a break, the operator and a blank.
+/// Emits what stands between two operands: a break, the operator and a blank.
 pub fn add_operator<E: Emit>(
     out: &mut E,
     before: Result<(), E::Fault>,
@@ -32,8 +32,8 @@ pub fn add_operator<E: Emit>(
     out.text(b" ")
 }
 
-/// What stands between the target of an assignment and its value: the operator between blanks, and a place where a
-/// measure ends.
+/// Emits what stands between the target of an assignment and its value: the operator between
+/// blanks, and a break that is never a newline, at which the measured width ends.
 pub fn add_assignment<E: Emit>(
     out: &mut E,
     before: Result<(), E::Fault>,
@@ -51,7 +51,7 @@ pub fn add_assignment<E: Emit>(
     out.brk(NEVER_BREAK)
 }
 
-/// The operators before an operand.
+/// Emits prefix operators.
 pub fn add_prefixes<E: Emit>(
     out: &mut E,
     before: Result<(), E::Fault>,
@@ -66,7 +66,7 @@ pub fn add_prefixes<E: Emit>(
     done
 }
 
-/// The text of an operator before an operand, with the blank after its last word.
+/// The text of a prefix operator, with a blank after its last word.
 fn prefix_text(prefix: Prefix) -> &'static [u8]
     ensures { result.now ≡ text_of_bits (prefix_bits prefix) }
 {
@@ -81,7 +81,7 @@ fn prefix_text(prefix: Prefix) -> &'static [u8]
     }
 }
 
-/// The types that an operand is cast to, each after its `as`.
+/// Emits the types of a cast, each after its `as`.
 pub fn add_casts<E: Emit>(
     out: &mut E,
     before: Result<(), E::Fault>,
@@ -98,7 +98,7 @@ pub fn add_casts<E: Emit>(
     done
 }
 
-/// A label after `continue` or `break`, if there is one.
+/// Emits a label after `continue` or `break`, if there is one.
 pub fn add_label<E: Emit>(
     out: &mut E,
     before: Result<(), E::Fault>,

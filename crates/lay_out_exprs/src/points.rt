@@ -1,4 +1,4 @@
-//! Which expressions end in a point: the last one of a number, or a `..`.
+//! Which expressions end in a `.`: that of a number, or of a `..`.
 ghost use Rattle.std.specs.Prelude.{◌≡◌, true, option_map};
 ghost use Rattle.lay_form.specs.Form.{Done};
 ghost use Rattle.lay_form.specs.Layout.{ends_behind_point};
@@ -13,8 +13,8 @@ use lay_code::{Boxed, Expr, Path, PathStart};
 use lay_out_pats::is_pointed;
 use lay_paren_defs::Enclose;
 
-/// Whether an expression that is a part ends in a point, which it doesn't in parentheses. The flag says that one stands
-/// before it.
+/// Whether a part ends in a `.`, which it doesn't in parentheses. `point` says that the text before
+/// it does.
 pub fn part_ends_in_point<X: Enclose>(point: bool, node: &Expr) -> bool
     ensures { result ≡ ends_behind_point point (about_expr (part X.on node.now)).form }
 {
@@ -24,7 +24,7 @@ pub fn part_ends_in_point<X: Enclose>(point: bool, node: &Expr) -> bool
     ends_in_point(point, node)
 }
 
-/// Whether a part that may be left out ends in a point.
+/// Whether an optional part ends in a `.`.
 pub fn optional_ends_in_point<X: Enclose>(point: bool, node: &Option<Boxed<Expr>>) -> bool
     ensures { let told = option_map about_expr (option_map (part X.on) node.now) in
         result ≡ ends_behind_point point (end_form told Done) }
@@ -35,8 +35,8 @@ pub fn optional_ends_in_point<X: Enclose>(point: bool, node: &Option<Boxed<Expr>
     }
 }
 
-/// Whether an expression ends in a point. The flag says that one stands before it: what is empty, as nothing is that was
-/// read, leaves that point at the end.
+/// Whether an expression ends in a `.`. `point` says that the text before it does: an expression
+/// without any text, which no text reads to, leaves that as it is.
 #[cycle(ends_in_point)]
 fn ends_in_point(point: bool, node: &Expr) -> bool
     ensures { result ≡ ends_behind_point point (about_expr node.now).form }
@@ -75,7 +75,7 @@ fn ends_in_point(point: bool, node: &Expr) -> bool
     }
 }
 
-/// Whether an operand that may be left out ends in a point.
+/// Whether an optional operand ends in a `.`.
 #[cycle(ends_in_point)]
 fn operand_ends_in_point(point: bool, operand: &Option<Boxed<Expr>>) -> bool
     ensures { result ≡ ends_behind_point point (end_form (option_map about_expr operand.now) Done) }
@@ -86,7 +86,7 @@ fn operand_ends_in_point(point: bool, operand: &Option<Boxed<Expr>>) -> bool
     }
 }
 
-/// Whether a path is nothing at all, so that a point before it stands at its end.
+/// Whether a path has no text at all, so that a `.` before it stands at its end.
 fn is_nothing(path: &Path) -> bool
     ensures { result ≡ ends_behind_point true (about_path path.now Code).form }
 {

@@ -1,5 +1,5 @@
-//! What stands round the steps of a postfix expression: where it has several methods, each but the first can stand on
-//! its own line.
+//! What is laid out around postfix steps: with several method calls, each but the first can be on a
+//! line of its own.
 ghost use Rattle.std.specs.Prelude.{◌≡◌, ◌&&◌, [], ◌∷◌, cond, map, nat_le, pos, true, false, OnOk};
 ghost use Rattle.lay_layout.specs.Machine.{IsNested};
 ghost use Rattle.lay_layout.specs.declared.layout.Tok.TheVariants as tok;
@@ -16,7 +16,7 @@ use lay_out_tokens::notation::SOFT_BREAK;
 use lay_out_types::lists::add_end;
 use lay_stream::Emit;
 
-/// Whether several of the steps are methods.
+/// Whether several of the steps are method calls.
 pub fn are_several_methods(steps: &[Step]) -> bool
     ensures { result ≡ nat_le 2 (methods (map about_step steps.now)) }
 {
@@ -31,14 +31,14 @@ pub fn are_several_methods(steps: &[Step]) -> bool
     false
 }
 
-/// Whether a step is a method.
+/// Whether a step is a method call.
 pub fn is_method(step: &Step) -> bool
     ensures { result ≡ is_method (about_step step.now).kind }
 {
     matches!(step, Step::Method { .. })
 }
 
-/// What opens a postfix expression: a group, where it has several methods.
+/// Emits what opens a postfix expression: a group, if it has several method calls.
 pub fn add_steps_start<E: Emit>(
     out: &mut E,
     before: Result<(), E::Fault>,
@@ -54,7 +54,8 @@ pub fn add_steps_start<E: Emit>(
     Ok(())
 }
 
-/// What stands before a step: a break, where there are several methods, one stands after it and this is one.
+/// Emits what stands before a step: a break, if there are several method calls, this is one, and it
+/// isn't the first.
 pub fn add_step_break<E: Emit>(
     out: &mut E,
     before: Result<(), E::Fault>,
@@ -73,7 +74,7 @@ pub fn add_step_break<E: Emit>(
     Ok(())
 }
 
-/// What closes a postfix expression.
+/// Emits what closes a postfix expression.
 pub fn add_steps_end<E: Emit>(
     out: &mut E,
     before: Result<(), E::Fault>,

@@ -1,4 +1,4 @@
-//! Breaks, simple paths, generic parameters and where clauses, after what was fed before.
+//! The `add` functions of breaks, simple paths, generic parameters and where clauses.
 ghost use Rattle.std.specs.Prelude.{[], ◌∷◌, cond, pos, true};
 ghost use Rattle.lay_layout.specs.declared.layout.Tok.TheVariants as tok;
 ghost use Rattle.lay_form.specs.Stream.{stream_of};
@@ -13,7 +13,7 @@ use lay_out_tokens::put_simple_path;
 use lay_out_types::{put_generics, put_wheres};
 use lay_stream::Emit;
 
-/// A break.
+/// Emits a break.
 pub fn add_break<E: Emit>(
     out: &mut E,
     before: Result<(), E::Fault>,
@@ -25,7 +25,7 @@ pub fn add_break<E: Emit>(
     out.brk(token)
 }
 
-/// What begins the inside of braces, one step further in.
+/// Emits what begins the inside of braces, one step further in.
 pub fn add_inside<E: Emit>(out: &mut E, before: Result<(), E::Fault>) -> Result<(), E::Fault>
     ensures { Adds E.meanings before out.old (tok.Begin true (pos 4) ∷ []) result out.new }
 {
@@ -33,7 +33,7 @@ pub fn add_inside<E: Emit>(out: &mut E, before: Result<(), E::Fault>) -> Result<
     out.begin(true, 4)
 }
 
-/// A simple path.
+/// Emits a simple path.
 pub(crate) fn add_simple_path<E: Emit>(
     out: &mut E,
     before: Result<(), E::Fault>,
@@ -46,7 +46,7 @@ pub(crate) fn add_simple_path<E: Emit>(
     put_simple_path(out, path)
 }
 
-/// Generic parameters.
+/// Emits generic parameters.
 pub fn add_generics<E: Emit>(
     out: &mut E,
     before: Result<(), E::Fault>,
@@ -59,7 +59,7 @@ pub fn add_generics<E: Emit>(
     put_generics(out, generics)
 }
 
-/// A where clause: before a body, or else before a `;`.
+/// Emits a where clause: before a body, or else before a `;`.
 pub fn add_wheres<E: Emit>(
     out: &mut E,
     before: Result<(), E::Fault>,

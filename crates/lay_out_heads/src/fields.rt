@@ -1,4 +1,4 @@
-//! Fields, and the variants of enumerations.
+//! The layout of fields, and of the variants of enumerations.
 ghost use Rattle.lay_stream.specs.Fed.{Did};
 ghost use Rattle.lay_form.specs.Stream.{stream_of};
 ghost use Rattle.lay_node.specs.nodes.Fields.{discriminant_form, field_form, fields_form, tuple_field_form, variant_form};
@@ -12,15 +12,15 @@ use lay_out_types::add_type;
 use lay_out_types::calls::{add_text, add_tokens, add_word};
 use lay_stream::Emit;
 
-/// Feeds the layout of fields: in parentheses, or in braces with a leading blank or without it. It is nothing without
-/// fields.
+/// Emits the layout of fields: in parentheses, or in braces with a leading blank or without it.
+/// Nothing if there are no fields.
 pub fn put_fields<E: Emit>(out: &mut E, fields: &Fields, lead: bool) -> Result<(), E::Fault>
     ensures { Did E.meanings out.old (stream_of (fields_form lead fields.now)) result out.new }
 {
     add_fields(out, Ok(()), fields, lead)
 }
 
-/// Fields.
+/// Emits fields.
 fn add_fields<E: Emit>(
     out: &mut E,
     before: Result<(), E::Fault>,
@@ -59,7 +59,7 @@ impl Part for Field {
     }
 }
 
-/// Feeds the layout of a variant.
+/// Emits the layout of a variant.
 pub fn put_variant<E: Emit>(out: &mut E, variant: &Variant) -> Result<(), E::Fault>
     ensures { Did E.meanings out.old (stream_of (variant_form variant.now)) result out.new }
 {
@@ -78,7 +78,7 @@ impl Part for Variant {
     }
 }
 
-/// The number that a variant has, if it is given one.
+/// Emits the discriminant of a variant, if it has one.
 fn add_discriminant<E: Emit>(
     out: &mut E,
     before: Result<(), E::Fault>,

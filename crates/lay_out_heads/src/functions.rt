@@ -1,4 +1,4 @@
-//! The heads of functions.
+//! The layout of the heads of functions.
 ghost use Rattle.std.specs.Prelude.{◌≡◌};
 ghost use Rattle.lay_form.specs.Form.{Done};
 ghost use Rattle.lay_stream.specs.Fed.{Did};
@@ -16,7 +16,7 @@ use lay_out_types::calls::{add_if, add_text, add_word};
 use lay_out_types::parts::{add_abi, add_param_attrs, add_reference};
 use lay_stream::Emit;
 
-/// Feeds the layout of the head of a function.
+/// Emits the layout of the head of a function.
 pub fn put_fn_head<E: Emit>(out: &mut E, head: &FnHead) -> Result<(), E::Fault>
     ensures { Did E.meanings out.old (stream_of (fn_head_form head.now)) result out.new }
 {
@@ -28,7 +28,7 @@ pub fn put_fn_head<E: Emit>(out: &mut E, head: &FnHead) -> Result<(), E::Fault>
     add_signature(out, word, head)
 }
 
-/// What a function says of its safety, and a blank after it.
+/// Emits `unsafe` or `safe` and a blank, if the function has the word.
 fn add_safety<E: Emit>(
     out: &mut E,
     before: Result<(), E::Fault>,
@@ -43,7 +43,7 @@ fn add_safety<E: Emit>(
     }
 }
 
-/// What follows `fn`.
+/// Emits the head of a function after its `fn`.
 fn add_signature<E: Emit>(
     out: &mut E,
     before: Result<(), E::Fault>,
@@ -57,7 +57,7 @@ fn add_signature<E: Emit>(
     add_output(out, params, &head.output)
 }
 
-/// The parameters of a function in parentheses.
+/// Emits the parameters of a function in parentheses.
 fn add_params<E: Emit>(
     out: &mut E,
     before: Result<(), E::Fault>,
@@ -69,7 +69,7 @@ fn add_params<E: Emit>(
     add_parens(out, before, params, !ends_variadic(params))
 }
 
-/// Whether the last parameter takes further arguments.
+/// Whether the last parameter is a `...`.
 fn ends_variadic(params: &[Param]) -> bool
     ensures { result ≡ ends_variadic params.now }
 {
@@ -80,7 +80,7 @@ fn ends_variadic(params: &[Param]) -> bool
     ends
 }
 
-/// Whether a parameter takes further arguments.
+/// Whether a parameter is a `...`.
 fn is_variadic(kind: &ParamKind) -> bool
     ensures { result ≡ is_variadic kind.now }
 {
@@ -96,7 +96,7 @@ impl Part for Param {
     }
 }
 
-/// A parameter without its attributes.
+/// Emits a parameter without its attributes.
 fn add_param_kind<E: Emit>(
     out: &mut E,
     before: Result<(), E::Fault>,
@@ -128,7 +128,8 @@ fn add_param_kind<E: Emit>(
     }
 }
 
-/// A type after its `:`, if there is one: that of a receiver, of a binding, or of a parameter of a closure.
+/// Emits a type after its `:`, if there is one: that of a receiver, of a binding, or of a parameter
+/// of a closure.
 pub fn add_self_type<E: Emit>(
     out: &mut E,
     before: Result<(), E::Fault>,
@@ -145,7 +146,7 @@ pub fn add_self_type<E: Emit>(
     }
 }
 
-/// A return type, if there is one.
+/// Emits a return type, if there is one.
 fn add_output<E: Emit>(
     out: &mut E,
     before: Result<(), E::Fault>,

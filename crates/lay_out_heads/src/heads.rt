@@ -1,4 +1,4 @@
-//! The heads of traits, of implementations, and of constants and statics.
+//! The layout of the heads of traits, implementations, constants and statics.
 ghost use Rattle.lay_form.specs.Form.{Done};
 ghost use Rattle.lay_stream.specs.Fed.{Did};
 ghost use Rattle.lay_form.specs.Stream.{stream_of};
@@ -13,7 +13,7 @@ use lay_out_types::parts::add_given_name;
 use lay_out_types::{add_asked, add_path, add_type};
 use lay_stream::Emit;
 
-/// Feeds the layout of the head of a trait.
+/// Emits the layout of the head of a trait.
 pub fn put_trait_head<E: Emit>(out: &mut E, head: &TraitHead) -> Result<(), E::Fault>
     ensures { Did E.meanings out.old (stream_of (trait_head_form head.now)) result out.new }
 {
@@ -22,7 +22,7 @@ pub fn put_trait_head<E: Emit>(out: &mut E, head: &TraitHead) -> Result<(), E::F
     add_asked(out, name, head.bounds.as_slice())
 }
 
-/// A word with a blank after it, a name, and generic parameters.
+/// Emits a word with a blank after it, a name, and generic parameters.
 pub fn add_called<E: Emit>(
     out: &mut E,
     before: Result<(), E::Fault>,
@@ -38,7 +38,7 @@ pub fn add_called<E: Emit>(
     add_generics(out, name, generics)
 }
 
-/// Feeds the layout of the head of an implementation.
+/// Emits the layout of the head of an implementation.
 pub fn put_impl_head<E: Emit>(out: &mut E, head: &ImplHead) -> Result<(), E::Fault>
     ensures { Did E.meanings out.old (stream_of (impl_head_form head.now)) result out.new }
 {
@@ -50,7 +50,7 @@ pub fn put_impl_head<E: Emit>(out: &mut E, head: &ImplHead) -> Result<(), E::Fau
     add_type(out, of, &head.ty)
 }
 
-/// The trait that is implemented, and `for`; nothing without it.
+/// Emits the trait of an implementation and `for`; nothing if it has none.
 fn add_trait_ref<E: Emit>(
     out: &mut E,
     before: Result<(), E::Fault>,
@@ -69,7 +69,7 @@ fn add_trait_ref<E: Emit>(
     }
 }
 
-/// Feeds the layout of the head of a constant or of a static.
+/// Emits the layout of the head of a constant or of a static.
 pub fn put_value_head<E: Emit>(out: &mut E, head: &ValueHead) -> Result<(), E::Fault>
     ensures { Did E.meanings out.old (stream_of (value_head_form head.now)) result out.new }
 {

@@ -1,4 +1,4 @@
-//! The items that are heads alone, with their visibilities.
+//! The layout of items that consist of a head alone, with their visibilities.
 ghost use Rattle.std.specs.Prelude.{◌≡◌, ◌∷◌, false, map, pos};
 ghost use Rattle.lay_layout.specs.declared.layout.Tok.TheVariants as tok;
 ghost use Rattle.lay_stream.specs.Fed.{Did};
@@ -25,7 +25,7 @@ use lay_out_types::lists::add_end;
 use lay_out_types::{add_asked, add_default};
 use lay_stream::Emit;
 
-/// Feeds the layout of a struct.
+/// Emits the layout of a struct.
 pub fn put_struct<E: Emit>(out: &mut E, vis: &Vis, node: &Struct) -> Result<(), E::Fault>
     ensures { Did E.meanings out.old (stream_of (seen vis.now (about_struct node.now))) result
         out.new }
@@ -36,7 +36,7 @@ pub fn put_struct<E: Emit>(out: &mut E, vis: &Vis, node: &Struct) -> Result<(), 
     add_struct_tail(out, end, node)
 }
 
-/// Opens the group that a head has of its own, and feeds the visibility before the head.
+/// Opens the group of a head, and emits the visibility before the head.
 pub fn open_head<E: Emit>(
     out: &mut E,
     before: Result<(), E::Fault>,
@@ -49,7 +49,7 @@ pub fn open_head<E: Emit>(
     add_vis(out, group, vis)
 }
 
-/// The head of a struct.
+/// Emits the head of a struct.
 fn add_struct_head<E: Emit>(
     out: &mut E,
     before: Result<(), E::Fault>,
@@ -62,7 +62,7 @@ fn add_struct_head<E: Emit>(
     add_head_fields(out, name, &node.fields)
 }
 
-/// Fields without names.
+/// Emits fields without names.
 fn add_head_fields<E: Emit>(
     out: &mut E,
     before: Result<(), E::Fault>,
@@ -76,7 +76,7 @@ fn add_head_fields<E: Emit>(
     }
 }
 
-/// The rest of a struct.
+/// Emits the rest of a struct.
 fn add_struct_tail<E: Emit>(
     out: &mut E,
     before: Result<(), E::Fault>,
@@ -91,7 +91,8 @@ fn add_struct_tail<E: Emit>(
     }
 }
 
-/// A where clause, and parts in braces. After one that is there the braces have no leading blank.
+/// Emits a where clause, and parts in braces. After a where clause the braces have no leading
+/// blank.
 fn add_body<E: Emit, P: Part>(
     out: &mut E,
     before: Result<(), E::Fault>,
@@ -113,7 +114,7 @@ pub fn leads(wheres: &Wheres) -> bool
     wheres.predicates.as_slice().is_empty()
 }
 
-/// A where clause, and a `;`.
+/// Emits a where clause, and a `;`.
 pub fn add_semicolon<E: Emit>(
     out: &mut E,
     before: Result<(), E::Fault>,
@@ -126,7 +127,7 @@ pub fn add_semicolon<E: Emit>(
     add_text(out, clause, b";")
 }
 
-/// Feeds the layout of a union.
+/// Emits the layout of a union.
 pub fn put_union<E: Emit>(out: &mut E, vis: &Vis, node: &Union) -> Result<(), E::Fault>
     ensures { Did E.meanings out.old (stream_of (seen vis.now (about_union node.now))) result
         out.new }
@@ -137,7 +138,7 @@ pub fn put_union<E: Emit>(out: &mut E, vis: &Vis, node: &Union) -> Result<(), E:
     add_body(out, end, &node.wheres, node.fields.as_slice())
 }
 
-/// Feeds the layout of an enumeration.
+/// Emits the layout of an enumeration.
 pub fn put_enum<E: Emit>(out: &mut E, vis: &Vis, node: &Enum) -> Result<(), E::Fault>
     ensures { Did E.meanings out.old (stream_of (seen vis.now (about_enum node.now))) result
         out.new }
@@ -148,7 +149,7 @@ pub fn put_enum<E: Emit>(out: &mut E, vis: &Vis, node: &Enum) -> Result<(), E::F
     add_body(out, end, &node.wheres, node.variants.as_slice())
 }
 
-/// Feeds the layout of a type alias, which is the same wherever it stands.
+/// Emits the layout of a type alias, which is the same wherever it stands.
 pub fn put_alias<E: Emit>(out: &mut E, vis: &Vis, node: &Alias) -> Result<(), E::Fault>
     ensures { (site : Site) → Did E.meanings out.old
         (stream_of (seen vis.now (about_alias site node.now))) result out.new }
@@ -161,7 +162,7 @@ pub fn put_alias<E: Emit>(out: &mut E, vis: &Vis, node: &Alias) -> Result<(), E:
     add_semicolon(out, end, &node.wheres)
 }
 
-/// Feeds the layout of an `extern crate`.
+/// Emits the layout of an `extern crate`.
 pub fn put_extern_crate<E: Emit>(out: &mut E, vis: &Vis, node: &ExternCrate) -> Result<(), E::Fault>
     ensures { Did E.meanings out.old (stream_of (seen vis.now (about_extern_crate node.now))) result
         out.new }

@@ -1,4 +1,4 @@
-//! The loops over what is laid out one after another, and what stands round it and round bodies.
+//! The loops over consecutive parts, and what is laid out around parts and bodies.
 ghost use Rattle.std.specs.Prelude.{◌<◌, cond, map, OnOk};
 ghost use Rattle.lay_layout.specs.Machine.{IsNested};
 ghost use Rattle.lay_piece.specs.declared.kind.Delim.TheVariants.{Paren};
@@ -16,17 +16,18 @@ use lay_out_types::calls::{add_either, add_text};
 use lay_out_types::lists::{add_close, add_end, add_lead};
 use lay_stream::Emit;
 
-/// What is laid out by itself, wherever it stands.
+/// A part whose layout doesn't depend on where it stands.
 pub trait Part {
-    /// The form of which it has the layout.
+    /// The form of the part.
     ghost form: { Self → Form };
 
-    /// Its layout.
+    /// Emits the layout of the part.
     fn add<E: Emit>(&self, out: &mut E, before: Result<(), E::Fault>) -> Result<(), E::Fault>
         ensures { Adds E.meanings before out.old (stream_of (form self.now)) result out.new };
 }
 
-/// Parts in parentheses, with a `,` between them. After the last one a comma may stand or not.
+/// Emits parts in parentheses, with a `,` between them. The flag says whether a comma may follow
+/// the last one.
 pub(crate) fn add_parens<E: Emit, P: Part>(
     out: &mut E,
     before: Result<(), E::Fault>,
@@ -44,7 +45,8 @@ pub(crate) fn add_parens<E: Emit, P: Part>(
     add_close(out, done, may, parts.is_empty(), b"()", b")")
 }
 
-/// Parts in braces, each on a line of its own with a `,` after it. The braces have a leading blank or not.
+/// Emits parts in braces, each on a line of its own with a `,` after it. The braces have a leading
+/// blank or not.
 pub fn add_braces<E: Emit, P: Part>(
     out: &mut E,
     before: Result<(), E::Fault>,
@@ -62,7 +64,8 @@ pub fn add_braces<E: Emit, P: Part>(
     close_braces(out, done, parts.is_empty(), lead)
 }
 
-/// What stands before a part in braces: before the first one what opens them, and else a comma; and a newline.
+/// Emits what stands before a part in braces: the `{` before the first one, else a comma; and a
+/// newline.
 fn add_line<E: Emit>(
     out: &mut E,
     before: Result<(), E::Fault>,
@@ -80,7 +83,8 @@ fn add_line<E: Emit>(
     add_break(out, comma, HARD_BREAK)
 }
 
-/// What closes the braces, on a line of its own, after the last `,`. Without parts they are one text.
+/// Closes the braces, on a line of their own, after the last `,`. Without parts both braces are one
+/// text.
 fn close_braces<E: Emit>(
     out: &mut E,
     before: Result<(), E::Fault>,
@@ -97,7 +101,8 @@ fn close_braces<E: Emit>(
     close_body(out, last)
 }
 
-/// Opens a body. What stands before its brace is measured up to the brace, which has a leading blank or not.
+/// Opens a body. What stands before its brace is measured up to the brace, which has a leading
+/// blank or not, as the flag says.
 pub fn open_body<E: Emit>(
     out: &mut E,
     before: Result<(), E::Fault>,

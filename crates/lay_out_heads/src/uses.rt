@@ -1,4 +1,4 @@
-//! Use trees.
+//! The layout of use trees.
 ghost use Rattle.std.specs.Prelude.{map, true};
 ghost use Rattle.lay_stream.specs.Fed.{Did};
 ghost use Rattle.lay_piece.specs.declared.kind.Delim.TheVariants.{Brace};
@@ -14,14 +14,14 @@ use lay_out_types::calls::{add_if, add_text, add_word};
 use lay_out_types::lists::{add_close, add_lead};
 use lay_stream::Emit;
 
-/// Feeds the layout of a use tree.
+/// Emits the layout of a use tree.
 pub fn put_use<E: Emit>(out: &mut E, tree: &UseTree) -> Result<(), E::Fault>
     ensures { Did E.meanings out.old (stream_of (about_use tree.now).form) result out.new }
 {
     add_use(out, Ok(()), tree)
 }
 
-/// A use tree.
+/// Emits a use tree.
 #[cycle(add_use)]
 fn add_use<E: Emit>(
     out: &mut E,
@@ -35,7 +35,7 @@ fn add_use<E: Emit>(
     add_use_end(out, words, &tree.end)
 }
 
-/// What a use tree names after its path.
+/// Emits the end of a use tree, after its path.
 #[cycle(add_use)]
 fn add_use_end<E: Emit>(
     out: &mut E,
@@ -55,7 +55,7 @@ fn add_use_end<E: Emit>(
     }
 }
 
-/// Use trees in braces.
+/// Emits use trees in braces.
 #[cycle(add_use)]
 fn add_trees<E: Emit>(
     out: &mut E,
@@ -74,7 +74,7 @@ fn add_trees<E: Emit>(
     add_close(out, done, true, trees.is_empty(), b"{}", b"}")
 }
 
-/// Words, each with a `::` after it.
+/// Emits words, each with a `::` after it.
 fn add_words<E: Emit>(
     out: &mut E,
     before: Result<(), E::Fault>,
@@ -91,7 +91,7 @@ fn add_words<E: Emit>(
     done
 }
 
-/// Another name, after its `as`, or none; nothing where none is given.
+/// Emits `as` and another name, or `as _`; nothing if the name isn't changed.
 pub fn add_rename<E: Emit>(
     out: &mut E,
     before: Result<(), E::Fault>,

@@ -1,4 +1,4 @@
-//! Visibilities.
+//! The layout of visibilities.
 ghost use Rattle.lay_stream.specs.Fed.{Did};
 ghost use Rattle.lay_form.specs.Stream.{stream_of};
 ghost use Rattle.lay_node.specs.nodes.Vis.{vis_form};
@@ -9,14 +9,14 @@ use lay_node::Vis;
 use lay_out_types::calls::add_text;
 use lay_stream::Emit;
 
-/// Feeds the layout of a visibility, with a blank after it; nothing where none is said.
+/// Emits the layout of a visibility, with a blank after it; nothing if none is written.
 pub fn put_vis<E: Emit>(out: &mut E, vis: &Vis) -> Result<(), E::Fault>
     ensures { Did E.meanings out.old (stream_of (vis_form vis.now)) result out.new }
 {
     add_vis(out, Ok(()), vis)
 }
 
-/// A visibility.
+/// Emits a visibility.
 pub fn add_vis<E: Emit>(
     out: &mut E,
     before: Result<(), E::Fault>,

@@ -1,4 +1,4 @@
-//! Patterns.
+//! The layout of patterns.
 ghost use Rattle.std.specs.Prelude.{◌≡◌, ◌==◌, [], ◌∷◌, ◌++◌, true, false, cond, map, length, pos, OnOk};
 ghost use Rattle.lay_layout.specs.Machine.{IsNested};
 ghost use Rattle.lay_layout.specs.declared.layout.Tok.TheVariants as tok;
@@ -25,14 +25,14 @@ use lay_out_types::lists::{COMMA_CLOSING_SPACE_BREAK, add_close, add_end, add_le
 use lay_piece::Kind;
 use lay_stream::Emit;
 
-/// Feeds the layout of a pattern.
+/// Emits the layout of a pattern.
 pub fn put_pat<E: Emit>(out: &mut E, pat: &Pat) -> Result<(), E::Fault>
     ensures { Did E.meanings out.old (stream_of (about_pat pat.now).told.form) result out.new }
 {
     add_pat(out, Ok(()), pat)
 }
 
-/// A pattern.
+/// Emits a pattern.
 #[cycle(add_pat)]
 pub fn add_pat<E: Emit>(
     out: &mut E,
@@ -104,7 +104,7 @@ pub fn add_pat<E: Emit>(
     }
 }
 
-/// Alternatives, with a `|` between them.
+/// Emits alternatives, with a `|` between them.
 #[cycle(add_pat)]
 fn add_alternatives<E: Emit>(
     out: &mut E,
@@ -122,7 +122,8 @@ fn add_alternatives<E: Emit>(
     add_end(out, done)
 }
 
-/// Patterns in brackets, with a `,` between them. Without a pattern the brackets are one text.
+/// Emits patterns in brackets, with a `,` between them. Without a pattern the brackets are one
+/// text.
 #[cycle(add_pat)]
 fn add_pats<E: Emit>(
     out: &mut E,
@@ -144,7 +145,7 @@ fn add_pats<E: Emit>(
     add_close(out, done, true, pats.is_empty(), both, closer)
 }
 
-/// The one element of a tuple, with its comma; a `..` alone has none.
+/// Emits the one element of a tuple, with its comma; a `..` alone has none.
 #[cycle(add_pat)]
 fn add_single<E: Emit>(
     out: &mut E,
@@ -160,7 +161,7 @@ fn add_single<E: Emit>(
     add_either(out, element, rest, b")", b",)")
 }
 
-/// The fields of a struct in braces, and the `..` after them.
+/// Emits the fields of a struct in braces, and the `..` after them.
 #[cycle(add_pat)]
 fn add_fields<E: Emit>(
     out: &mut E,
@@ -184,7 +185,7 @@ fn add_fields<E: Emit>(
     add_closing_brace(out, done, true, fields.is_empty())
 }
 
-/// A field, after its attributes.
+/// Emits a field, after its attributes.
 #[cycle(add_pat)]
 fn add_field<E: Emit>(
     out: &mut E,
@@ -214,7 +215,7 @@ fn add_field<E: Emit>(
     }
 }
 
-/// Attributes, each with a newline after it.
+/// Emits attributes, each with a newline after it.
 pub fn add_attrs<E: Emit>(
     out: &mut E,
     before: Result<(), E::Fault>,
@@ -230,7 +231,7 @@ pub fn add_attrs<E: Emit>(
     done
 }
 
-/// An attribute, with a newline after it.
+/// Emits an attribute, with a newline after it.
 fn add_attr_line<E: Emit>(
     out: &mut E,
     before: Result<(), E::Fault>,
@@ -243,7 +244,7 @@ fn add_attr_line<E: Emit>(
     out.brk(HARD_BREAK)
 }
 
-/// A literal, or a number after its `-`.
+/// Emits a literal, or a number after its `-`.
 fn add_value<E: Emit>(
     out: &mut E,
     before: Result<(), E::Fault>,
@@ -255,7 +256,7 @@ fn add_value<E: Emit>(
     add_literal(out, minus, &value.literal)
 }
 
-/// An end of a span.
+/// Emits an end of a range pattern.
 fn add_span_end<E: Emit>(
     out: &mut E,
     before: Result<(), E::Fault>,
@@ -269,7 +270,7 @@ fn add_span_end<E: Emit>(
     }
 }
 
-/// The first end of a span, if it has one, and the `..` or `..=` after it.
+/// Emits the start of a range pattern, if it has one, and the `..` or `..=` after it.
 fn add_dots<E: Emit>(
     out: &mut E,
     before: Result<(), E::Fault>,
@@ -288,7 +289,7 @@ fn add_dots<E: Emit>(
     }
 }
 
-/// A `..` or `..=`, with a blank before it where it would stand directly after the point of a number.
+/// Emits a `..` or `..=`, with a blank before it if it would directly follow the point of a number.
 pub fn add_dots_behind<E: Emit>(
     out: &mut E,
     before: Result<(), E::Fault>,
@@ -304,7 +305,7 @@ pub fn add_dots_behind<E: Emit>(
     add_either(out, before, inclusive, b"..=", b"..")
 }
 
-/// The last end of a span, if it has one.
+/// Emits the end of a range pattern, if it has one.
 fn add_last_end<E: Emit>(
     out: &mut E,
     before: Result<(), E::Fault>,
@@ -318,7 +319,7 @@ fn add_last_end<E: Emit>(
     }
 }
 
-/// Whether an end of a span ends in the point of a number.
+/// Whether an end of a range pattern ends in the `.` of a number.
 fn ends_in_point(end: &SpanEnd) -> bool
     ensures { result ≡ ends_behind_point false (end_form end.now) }
 {
@@ -328,7 +329,7 @@ fn ends_in_point(end: &SpanEnd) -> bool
     }
 }
 
-/// Whether a literal is a number that ends in its point.
+/// Whether a literal is a number that ends in a `.`.
 pub fn is_pointed(literal: &Literal) -> bool
     ensures { result ≡ token_ends_in_point literal.now.kind literal.now.text }
 {
@@ -338,7 +339,7 @@ pub fn is_pointed(literal: &Literal) -> bool
     }
 }
 
-/// Whether a text is digits, with `_` among them, and a point after them.
+/// Whether a text is digits and `_`, and then a `.`.
 fn is_digits_and_point(text: &[u8]) -> bool
     ensures { result ≡ ends_in_point text.now }
 {
@@ -359,7 +360,7 @@ fn is_rest(pat: &Pat) -> bool
     matches!(pat, Pat::Rest)
 }
 
-/// What opens alternatives.
+/// Emits what opens alternatives.
 pub fn add_group<E: Emit>(out: &mut E, before: Result<(), E::Fault>) -> Result<(), E::Fault>
     ensures { Adds E.meanings before out.old (tok.Begin false (pos 0) ∷ []) result out.new }
 {
@@ -367,7 +368,7 @@ pub fn add_group<E: Emit>(out: &mut E, before: Result<(), E::Fault>) -> Result<(
     out.begin(false, 0)
 }
 
-/// What stands before an alternative: a `|`, unless it is the first one.
+/// Emits what stands before an alternative: a `|`, unless it is the first one.
 fn add_bar<E: Emit>(out: &mut E, before: Result<(), E::Fault>, first: bool) -> Result<(), E::Fault>
     ensures { Adds E.meanings before out.old (cond first [] bar_between) result out.new }
 {
@@ -379,7 +380,7 @@ fn add_bar<E: Emit>(out: &mut E, before: Result<(), E::Fault>, first: bool) -> R
     out.text(b"| ")
 }
 
-/// What stands before a field: before the first one what opens the braces, and else a comma.
+/// Emits what stands before a field: the `{` before the first one, else a comma.
 pub fn add_brace<E: Emit>(
     out: &mut E,
     before: Result<(), E::Fault>,
@@ -398,8 +399,8 @@ pub fn add_brace<E: Emit>(
     out.brk(SPACE_BREAK)
 }
 
-/// What closes the braces, with a `,` after the last field where each stands on its own line and one may stand there.
-/// Without fields they are one text.
+/// Emits the `}`. If each field is on its own line, a `,` follows the last one, if one is allowed.
+/// Without fields both braces are emitted as one text.
 pub fn add_closing_brace<E: Emit>(
     out: &mut E,
     before: Result<(), E::Fault>,

@@ -1,4 +1,4 @@
-//! Attributes.
+//! The layout of attributes and documentation.
 ghost use Rattle.std.specs.Prelude.{◌≡◌, ◌||◌, [], ◌∷◌, codes};
 ghost use Rattle.lay_layout.specs.declared.layout.Tok.TheVariants as tok;
 ghost use Rattle.lay_stream.specs.Fed.{Did};
@@ -16,8 +16,8 @@ use crate::words::{is_block, put_doc, put_either};
 use lay_node::{Attr, MetaInput, MetaPath, Tokens};
 use lay_stream::Emit;
 
-/// Feeds the layout of an attribute within other parts: an inner one alone; an outer one and a newline, where one is
-/// wanted or it is documentation on a line, or else a blank.
+/// Emits the layout of an attribute within other parts: an inner one alone; an outer one with a
+/// newline after it if `own_line` or if it is a line comment, else with a blank.
 pub fn put_attr<E: Emit>(out: &mut E, attr: &Attr, own_line: bool) -> Result<(), E::Fault>
     ensures { Did E.meanings out.old (stream_of (attr_part own_line attr.now Done)) result out.new }
 {
@@ -25,7 +25,7 @@ pub fn put_attr<E: Emit>(out: &mut E, attr: &Attr, own_line: bool) -> Result<(),
     put_behind_attr(out, attr, own_line)
 }
 
-/// An attribute, and nothing after it.
+/// Emits an attribute, and nothing after it.
 pub fn put_bare_attr<E: Emit>(out: &mut E, attr: &Attr) -> Result<(), E::Fault>
     ensures { Did E.meanings out.old (stream_of (attr_form attr.now)) result out.new }
 {
@@ -35,7 +35,7 @@ pub fn put_bare_attr<E: Emit>(out: &mut E, attr: &Attr) -> Result<(), E::Fault>
     }
 }
 
-/// What follows an attribute within other parts.
+/// Emits what follows an attribute within other parts.
 fn put_behind_attr<E: Emit>(out: &mut E, attr: &Attr, own_line: bool) -> Result<(), E::Fault>
     ensures { Did E.meanings out.old (stream_of (behind_attr own_line attr.now Done)) result
         out.new }
@@ -49,7 +49,7 @@ fn put_behind_attr<E: Emit>(out: &mut E, attr: &Attr, own_line: bool) -> Result<
     out.text(b" ")
 }
 
-/// Whether it says something of what it stands in.
+/// Whether the attribute is an inner one.
 fn is_inner(attr: &Attr) -> bool
     ensures { result ≡ is_inner attr.now }
 {
@@ -59,7 +59,7 @@ fn is_inner(attr: &Attr) -> bool
     }
 }
 
-/// Whether it is documentation that is laid out on a line.
+/// Whether the attribute is laid out as a line comment.
 fn is_line(attr: &Attr) -> bool
     ensures { result ≡ is_line attr.now }
 {
@@ -69,7 +69,7 @@ fn is_line(attr: &Attr) -> bool
     }
 }
 
-/// An attribute that isn't documentation.
+/// Emits an attribute that isn't documentation.
 fn put_meta<E: Emit>(
     out: &mut E,
     inner: bool,
@@ -85,7 +85,7 @@ fn put_meta<E: Emit>(
     out.text(b"]")
 }
 
-/// What an attribute is called.
+/// Emits the name of an attribute.
 fn put_meta_path<E: Emit>(out: &mut E, path: &MetaPath) -> Result<(), E::Fault>
     ensures { Did E.meanings out.old (stream_of (meta_path_form path.now)) result out.new }
 {
@@ -95,7 +95,7 @@ fn put_meta_path<E: Emit>(out: &mut E, path: &MetaPath) -> Result<(), E::Fault>
     }
 }
 
-/// What an attribute is given.
+/// Emits the input of an attribute.
 fn put_input<E: Emit>(out: &mut E, input: &MetaInput) -> Result<(), E::Fault>
     ensures { Did E.meanings out.old (stream_of (input_form input.now Done)) result out.new }
 {
@@ -106,7 +106,7 @@ fn put_input<E: Emit>(out: &mut E, input: &MetaInput) -> Result<(), E::Fault>
     }
 }
 
-/// Tokens, after their `=`.
+/// Emits a `=` and tokens.
 fn put_value<E: Emit>(out: &mut E, tokens: &Tokens) -> Result<(), E::Fault>
     ensures { Did E.meanings out.old (stream_of (input_form (input.Value tokens.now) Done)) result
         out.new }

@@ -1,4 +1,4 @@
-//! Macro calls.
+//! The layout of macro calls.
 ghost use Rattle.std.specs.Prelude.{[], ◌∷◌};
 ghost use Rattle.lay_layout.specs.declared.layout.Tok.TheVariants as tok;
 ghost use Rattle.lay_stream.specs.Fed.{Did};
@@ -12,7 +12,7 @@ use lay_node::MacroCall;
 use lay_stream::Emit;
 use lay_token::Delim;
 
-/// Feeds the layout of a macro call.
+/// Emits the layout of a macro call.
 pub fn put_call<E: Emit>(out: &mut E, call: &MacroCall) -> Result<(), E::Fault>
     ensures { Did E.meanings out.old (stream_of (call_form call.now)) result out.new }
 {
@@ -21,7 +21,7 @@ pub fn put_call<E: Emit>(out: &mut E, call: &MacroCall) -> Result<(), E::Fault>
     put_group(out, &call.tokens)
 }
 
-/// The `!` before a group in the delimiter.
+/// Emits the `!` before a group in the delimiter.
 fn put_bang<E: Emit>(out: &mut E, delim: Delim) -> Result<(), E::Fault>
     ensures { Did E.meanings out.old (tok.Text (text_of_bits (bang delim)) ∷ []) result out.new }
 {

@@ -1,4 +1,4 @@
-//! What stands beside a place of a token list.
+//! The neighbours of a place in a token list.
 ghost use Rattle.std.specs.Prelude.{◌≡◌, ◌&&◌};
 ghost use Rattle.lay_piece.specs.Number.{is_index};
 ghost use Rattle.lay_node.specs.tokens.Listing as listing;
@@ -16,7 +16,7 @@ pub enum Neighbour<'a> {
     Enclosed(Delim),
 }
 
-/// The kind of a token of a list.
+/// The kind of a token in a token list.
 pub fn kind_of(token: &Listed) -> Kind
     ensures { result ≡ listing.kind_of token.now }
 {
@@ -29,7 +29,7 @@ pub fn kind_of(token: &Listed) -> Kind
     }
 }
 
-/// Whether it is documentation that is laid out on a line.
+/// Whether the token is laid out as a line comment.
 pub fn is_line_doc(token: &Listed) -> bool
     ensures { result ≡ listing.is_line_doc token.now }
 {
@@ -39,7 +39,7 @@ pub fn is_line_doc(token: &Listed) -> bool
     }
 }
 
-/// Whether it is a word that is no keyword.
+/// Whether the token is an identifier that is no keyword.
 pub fn is_free_word(token: &Listed) -> bool
     ensures { result ≡ pairs.is_free_word (pairs.Single token.now) }
 {
@@ -53,7 +53,7 @@ pub fn is_free_word(token: &Listed) -> bool
     }
 }
 
-/// Whether it is a keyword.
+/// Whether the token is a keyword.
 pub fn is_keyword(token: &Listed) -> bool
     ensures { result ≡ pairs.is_keyword (pairs.Single token.now) }
 {
@@ -66,7 +66,7 @@ pub fn is_keyword(token: &Listed) -> bool
     }
 }
 
-/// Whether it is a word.
+/// Whether the token is an identifier or a keyword.
 pub fn is_any_word(token: &Listed) -> bool
     ensures { result ≡ pairs.is_any_word (pairs.Single token.now) }
 {
@@ -83,7 +83,8 @@ fn is_strict(text: &[u8]) -> bool
     matches!(word_class(text), Class::Strict)
 }
 
-/// Whether it is a number, where the place is one of an index or not: a Float, or an Int that is no index.
+/// Whether the token is a number: a Float, or an Int that is no tuple index. `place` says that it
+/// stands where it could be one.
 pub fn is_number(token: &Listed, place: bool) -> bool
     ensures { result ≡ pairs.is_number place (pairs.Single token.now) }
 {
@@ -97,7 +98,7 @@ pub fn is_number(token: &Listed, place: bool) -> bool
     }
 }
 
-/// Whether the text is an index, where the place is one of an index.
+/// Whether the text is a tuple index, if `place` says that it stands where it could be one.
 fn is_index_at(text: &[u8], place: bool) -> bool
     ensures { result ≡ (place && is_index text.now) }
 {

@@ -1,4 +1,4 @@
-//! What stands between two neighbours of a token list.
+//! What is laid out between two neighbours in a token list.
 ghost use Rattle.std.specs.Prelude.{◌≡◌, ◌&&◌, ◌||◌, ◌<◌, ◌≤◌, ◌+◌, not, drop, codes, true};
 ghost use Rattle.lay_node.specs.tokens.Pairs as pairs;
 ghost use Rattle.lay_node.specs.tokens.Pairs.{ends_turbofish, is_any_word, is_brace, is_bracket, is_free_word};
@@ -12,23 +12,23 @@ use crate::told::Told;
 use lay_node::Listed;
 use lay_token::{Delim, Kind};
 
-/// What stands before a place of a token list.
+/// What precedes a place in a token list, as far as it decides the layout.
 #[derive(Clone, Copy)]
 pub struct Seen<'a> {
-    /// The last two neighbours.
+    /// The last two neighbours before the place.
     pub before: Told<'a>,
     pub last: Told<'a>,
-    /// Whether the last one stands where a number may be an index.
+    /// Whether the last one stands where a number may be a tuple index.
     pub place: bool,
-    /// Whether it is a `<` of a turbofish.
+    /// Whether the last one is a `<` of a turbofish.
     pub opens: bool,
-    /// Whether it is the `>` that closes a turbofish.
+    /// Whether the last one is the `>` that closes a turbofish.
     pub closes: bool,
     /// How many `<` of a turbofish are open.
     pub count: usize,
 }
 
-/// What stands between two neighbours; a soft break is a blank or a newline.
+/// What is laid out between two neighbours. A soft break is a blank or a newline.
 #[derive(Clone, Copy)]
 pub enum Separation {
     NoBreak,
@@ -37,7 +37,7 @@ pub enum Separation {
 }
 
 impl<'a> Seen<'a> {
-    /// At the start of a list or of a group.
+    /// The state at the beginning of a list or of a group.
     #[inline(always)]
     pub fn at_start(count: usize) -> Seen<'a>
         ensures { seen_of result ≡ pairs.at_start count }
@@ -52,7 +52,7 @@ impl<'a> Seen<'a> {
         }
     }
 
-    /// After a group.
+    /// The state after a group.
     #[inline(always)]
     fn behind_group(delim: Delim, count: usize) -> Seen<'a>
         ensures { seen_of result ≡ pairs.behind_group delim count }
@@ -67,7 +67,7 @@ impl<'a> Seen<'a> {
         }
     }
 
-    /// What is seen after one more token.
+    /// The state after one more token.
     #[tactic(auto, unfolding(crate::specs::Fed::seen_behind))]
     #[inline(always)]
     pub fn behind(&self, token: &'a Listed, next: Told<'a>) -> Seen<'a>
@@ -83,7 +83,7 @@ impl<'a> Seen<'a> {
         }
     }
 
-    /// After a token that is no delimiter.
+    /// The state after a token that is no delimiter.
     #[inline(always)]
     fn behind_single(&self, next: Told<'a>) -> Seen<'a>
         requires { self.now.count < usize.MAX }
@@ -103,7 +103,7 @@ impl<'a> Seen<'a> {
         }
     }
 
-    /// After a `<` or a `>`.
+    /// The state after a `<` or a `>`.
     #[inline(always)]
     fn behind_angle(&self, next: Told<'a>) -> Seen<'a>
         requires { self.now.count < usize.MAX }
@@ -120,7 +120,7 @@ impl<'a> Seen<'a> {
         }
     }
 
-    /// Whether a number here may be an index: after a point, but not after `..`.
+    /// Whether a number here may be a tuple index: after a `.`, but not after `..`.
     #[inline(always)]
     fn is_index_place(&self) -> bool
         ensures { result ≡ pairs.is_index_place (seen_of self.now).before (seen_of self.now).last }
@@ -128,7 +128,7 @@ impl<'a> Seen<'a> {
         self.last.is_mark(b'.') && !self.before.is_joint_mark(b'.')
     }
 
-    /// The turbofish's count after this one.
+    /// The count of open `<` of a turbofish after this neighbour.
     #[inline(always)]
     fn count_behind(&self, next: &Told<'_>) -> usize
         requires { self.now.count < usize.MAX }
@@ -143,7 +143,7 @@ impl<'a> Seen<'a> {
         self.count
     }
 
-    /// The turbofish's count after a `<`.
+    /// The count of open `<` of a turbofish after a `<`.
     #[inline(always)]
     fn raised(&self) -> usize
         requires { self.now.count < usize.MAX }
@@ -164,7 +164,7 @@ impl<'a> Seen<'a> {
         self.count > 0 || self.last.is_joint_mark(b':')
     }
 
-    /// The turbofish's count after a `>`. That of an arrow closes none.
+    /// The count of open `<` of a turbofish after a `>`. The `>` of an arrow closes none.
     #[inline(always)]
     fn lowered(&self) -> usize
         ensures { result ≡ pairs.lowered (seen_of self.now) }
@@ -184,7 +184,7 @@ impl<'a> Seen<'a> {
         self.last.is_joint_mark(b'-') || self.last.is_joint_mark(b'=')
     }
 
-    /// Whether this one is a `<` of a turbofish.
+    /// Whether this neighbour is a `<` of a turbofish.
     #[inline(always)]
     fn opens_turbofish(&self, next: &Told<'_>) -> bool
         ensures { result ≡ pairs.opens_turbofish (seen_of self.now) (told_of next.now) }
@@ -192,7 +192,7 @@ impl<'a> Seen<'a> {
         next.is_mark(b'<') && self.may_open_turbofish()
     }
 
-    /// Whether this one is a `>` within a turbofish.
+    /// Whether this neighbour is a `>` inside a turbofish.
     #[inline(always)]
     fn ends_turbofish(&self, next: &Told<'_>) -> bool
         ensures { result ≡ pairs.ends_turbofish (seen_of self.now) (told_of next.now) }
@@ -200,7 +200,7 @@ impl<'a> Seen<'a> {
         next.is_mark(b'>') && self.count > 0
     }
 
-    /// Whether this one is the `>` that closes a turbofish.
+    /// Whether this neighbour is the `>` that closes a turbofish.
     #[inline(always)]
     fn closes_turbofish(&self, next: &Told<'_>) -> bool
         ensures { result ≡ pairs.closes_turbofish (seen_of self.now) (told_of next.now) }
@@ -209,7 +209,7 @@ impl<'a> Seen<'a> {
     }
 }
 
-/// What stands between what was seen and this one: the first row of the table that fits.
+/// What is laid out before this neighbour: by the first row of the table that fits.
 #[inline(always)]
 pub fn between(seen: &Seen<'_>, next: &Told<'_>) -> Separation
     ensures { separation_of result ≡ pairs.between (seen_of seen.now) (told_of next.now) }
@@ -229,7 +229,7 @@ pub fn between(seen: &Seen<'_>, next: &Told<'_>) -> Separation
     between_tokens(seen, next)
 }
 
-/// The rows of tokens, where neither is documentation and the first one isn't joint.
+/// The rows for neighbours that aren't documentation, if the first isn't joint.
 #[inline(always)]
 fn between_tokens(seen: &Seen<'_>, next: &Told<'_>) -> Separation
     ensures { separation_of result ≡ pairs.first_row
@@ -244,7 +244,7 @@ fn between_tokens(seen: &Seen<'_>, next: &Told<'_>) -> Separation
     around_group(seen, next)
 }
 
-/// The rows of a mark that follows.
+/// The rows for punctuation that follows.
 #[inline(always)]
 fn before_mark(seen: &Seen<'_>, next: &Told<'_>) -> Separation
     requires { pairs.is_punct_neighbour (told_of next.now) ≡ true }
@@ -269,7 +269,7 @@ fn before_mark(seen: &Seen<'_>, next: &Told<'_>) -> Separation
     around_group(seen, next)
 }
 
-/// The rows of a mark that stands before.
+/// The rows for punctuation that precedes.
 #[inline(always)]
 fn behind_mark(seen: &Seen<'_>, next: &Told<'_>) -> Separation
     ensures { separation_of result ≡ pairs.first_row
@@ -290,7 +290,7 @@ fn behind_mark(seen: &Seen<'_>, next: &Told<'_>) -> Separation
     around_group(seen, next)
 }
 
-/// The rows of a turbofish, and of a group that follows.
+/// The rows for a turbofish, and for a group that follows.
 #[inline(always)]
 fn around_group(seen: &Seen<'_>, next: &Told<'_>) -> Separation
     ensures { separation_of result ≡ pairs.first_row
@@ -312,7 +312,7 @@ fn is_beside_doc(seen: &Seen<'_>, next: &Told<'_>) -> bool
     seen.last.is_doc() || next.is_doc()
 }
 
-/// `<` or `>`
+/// Whether the neighbour is `<` or `>`.
 #[inline(always)]
 fn is_angle(next: &Told<'_>) -> bool
     ensures { let r = told_of next.now in
@@ -321,7 +321,7 @@ fn is_angle(next: &Told<'_>) -> bool
     next.is_mark(b'<') || next.is_mark(b'>')
 }
 
-/// `,` or `;`
+/// Whether the neighbour is `,` or `;`.
 #[inline(always)]
 fn is_end_mark(next: &Told<'_>) -> bool
     ensures { let r = told_of next.now in
@@ -338,7 +338,7 @@ fn is_point_behind_number(seen: &Seen<'_>, next: &Told<'_>) -> bool
     next.is_mark(b'.') && seen.last.is_number(seen.place)
 }
 
-/// `.`, `?` or `:`
+/// Whether the neighbour is `.`, `?` or `:`.
 #[inline(always)]
 fn is_mark_without_gap(next: &Told<'_>) -> bool
     ensures { let r = told_of next.now in
@@ -347,7 +347,7 @@ fn is_mark_without_gap(next: &Told<'_>) -> bool
     next.is_mark(b'.') || next.is_mark(b'?') || next.is_mark(b':')
 }
 
-/// The `!` of `name!(..)`
+/// Whether the neighbour is the `!` of `name!(..)`.
 #[inline(always)]
 fn is_bang_of_call(seen: &Seen<'_>, next: &Told<'_>) -> bool
     ensures { let l = told_of seen.now.last in let r = told_of next.now in
@@ -356,7 +356,7 @@ fn is_bang_of_call(seen: &Seen<'_>, next: &Told<'_>) -> bool
     next.is_mark(b'!') && !next.is_joint() && seen.last.is_free_word()
 }
 
-/// After `.`, or a word after `::`
+/// Whether the place follows a `.`, or precedes a word after `::`.
 #[inline(always)]
 fn is_behind_point_or_path(seen: &Seen<'_>, next: &Told<'_>) -> bool
     ensures { let b = told_of seen.now.before in let l = told_of seen.now.last in
@@ -384,7 +384,7 @@ fn is_behind_bang_or_dollar(seen: &Seen<'_>, next: &Told<'_>) -> bool
     (seen.last.is_mark(b'!') || seen.last.is_mark(b'$')) && !next.is_brace()
 }
 
-/// The brackets of `#[..]`
+/// Whether the neighbour is the brackets of `#[..]`.
 #[inline(always)]
 fn is_attribute(seen: &Seen<'_>, next: &Told<'_>) -> bool
     ensures { result ≡ (pairs.is_mark (codes "#") (seen_of seen.now).last
@@ -393,7 +393,7 @@ fn is_attribute(seen: &Seen<'_>, next: &Told<'_>) -> bool
     seen.last.is_mark(b'#') && next.is_bracket()
 }
 
-/// After `&`, `*` or `-` that has no left operand
+/// Whether the place follows a `&`, `*` or `-` that has no left operand.
 #[inline(always)]
 fn is_prefix(seen: &Seen<'_>) -> bool
     ensures { let b = told_of seen.now.before in let l = told_of seen.now.last in
@@ -405,7 +405,7 @@ fn is_prefix(seen: &Seen<'_>) -> bool
     is_prefix_mark(&seen.last) && !is_joint_punct(&seen.before) && has_no_operand(&seen.before)
 }
 
-/// `&`, `*` or `-`
+/// Whether the neighbour is `&`, `*` or `-`.
 #[inline(always)]
 fn is_prefix_mark(last: &Told<'_>) -> bool
     ensures { let l = told_of last.now in
@@ -422,7 +422,7 @@ fn is_joint_punct(before: &Told<'_>) -> bool
     before.is_punct() && before.is_joint()
 }
 
-/// Whether it is no operand of an operator after it
+/// Whether the neighbour is no left operand of an operator after it.
 #[inline(always)]
 fn has_no_operand(before: &Told<'_>) -> bool
     ensures { let b = told_of before.now in
@@ -444,7 +444,7 @@ fn is_within_turbofish(seen: &Seen<'_>, next: &Told<'_>) -> bool
         || (seen.closes && next.is_paren())
 }
 
-/// The group of `name(..)` and `name[..]`, or one after another
+/// Whether the neighbour is the group of `name(..)` or `name[..]`, or a group after another.
 #[inline(always)]
 fn is_call_or_index(seen: &Seen<'_>, next: &Told<'_>) -> bool
     ensures { let l = told_of seen.now.last in let r = told_of next.now in

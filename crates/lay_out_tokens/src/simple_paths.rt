@@ -1,4 +1,4 @@
-//! Simple paths.
+//! The layout of simple paths.
 ghost use Rattle.lay_stream.specs.Fed.{Did};
 ghost use Rattle.lay_form.specs.Form.{Done};
 ghost use Rattle.lay_form.specs.Notation.{when};
@@ -11,7 +11,7 @@ use crate::words::put_word;
 use lay_node::{SimplePath, Word};
 use lay_stream::Emit;
 
-/// A simple path.
+/// Emits a simple path.
 pub fn put_simple_path<E: Emit>(out: &mut E, path: &SimplePath) -> Result<(), E::Fault>
     ensures { Did E.meanings out.old (stream_of (simple_path_form path.now)) result out.new }
 {
@@ -19,7 +19,7 @@ pub fn put_simple_path<E: Emit>(out: &mut E, path: &SimplePath) -> Result<(), E:
     put_words(out, path.words.as_slice())
 }
 
-/// The `::` that a path may begin with.
+/// Emits the `::` that a path may begin with.
 pub fn put_global<E: Emit>(out: &mut E, global: bool) -> Result<(), E::Fault>
     ensures { Did E.meanings out.old (stream_of (when global colons Done)) result out.new }
 {
@@ -29,7 +29,7 @@ pub fn put_global<E: Emit>(out: &mut E, global: bool) -> Result<(), E::Fault>
     Ok(())
 }
 
-/// Words, with a `::` between them.
+/// Emits words, with a `::` between them.
 fn put_words<E: Emit>(out: &mut E, words: &[Word]) -> Result<(), E::Fault>
     ensures { Did E.meanings out.old (stream_of (simple_words_form words.now Done)) result out.new }
 {
@@ -39,7 +39,7 @@ fn put_words<E: Emit>(out: &mut E, words: &[Word]) -> Result<(), E::Fault>
     }
 }
 
-/// A word, and others after it.
+/// Emits a word, and others after it.
 fn put_joined<E: Emit>(out: &mut E, first: &Word, rest: &[Word]) -> Result<(), E::Fault>
     ensures { Did E.meanings out.old
         (stream_of (leaf_of first.now.raw first.now.text (further_words rest.now))) result out.new }
@@ -48,7 +48,7 @@ fn put_joined<E: Emit>(out: &mut E, first: &Word, rest: &[Word]) -> Result<(), E
     put_further_words(out, rest)
 }
 
-/// Words, each with a `::` before it.
+/// Emits words, each with a `::` before it.
 fn put_further_words<E: Emit>(out: &mut E, words: &[Word]) -> Result<(), E::Fault>
     ensures { Did E.meanings out.old (stream_of (further_words words.now)) result out.new }
 {

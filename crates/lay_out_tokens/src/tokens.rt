@@ -1,4 +1,4 @@
-//! Token lists and groups.
+//! The layout of token lists and groups.
 ghost use Rattle.std.specs.Prelude.{◌≡◌, ◌≤◌, ◌+◌, [], ◌∷◌, ◌++◌, IsTrue, IfOk};
 ghost use Rattle.lay_piece.specs.Forms.{closing, opening};
 ghost use Rattle.lay_token.specs.Delimiters.{is_closer};
@@ -28,7 +28,7 @@ use lay_node::{Group, Listed, Tokens};
 use lay_stream::Emit;
 use lay_token::{Break, Delim, Kind};
 
-/// Feeds the layout of a token list.
+/// Emits the layout of a token list.
 pub fn put_tokens<E: Emit>(out: &mut E, tokens: &Tokens) -> Result<(), E::Fault>
     ensures { Did E.meanings out.old (stream_of (token_list tokens.now)) result out.new }
 {
@@ -38,7 +38,7 @@ pub fn put_tokens<E: Emit>(out: &mut E, tokens: &Tokens) -> Result<(), E::Fault>
     put_list_end(out, line)
 }
 
-/// A newline after a list that ends in documentation on a line.
+/// Emits a newline after a list, if it ends in a line comment.
 fn put_list_end<E: Emit>(out: &mut E, line: bool) -> Result<(), E::Fault>
     ensures { Did E.meanings out.old (stream_of (ended_by line)) result out.new }
 {
@@ -48,14 +48,14 @@ fn put_list_end<E: Emit>(out: &mut E, line: bool) -> Result<(), E::Fault>
     Ok(())
 }
 
-/// Feeds the layout of a group.
+/// Emits the layout of a group.
 pub fn put_group<E: Emit>(out: &mut E, group: &Group) -> Result<(), E::Fault>
     ensures { Did E.meanings out.old (stream_of (group_form group.now Done)) result out.new }
 {
     put_enclosed(out, group.delim, &group.tokens)
 }
 
-/// Feeds the layout of a token list in delimiters, which is that of a group.
+/// Emits the layout of a token list in delimiters, which is that of a group.
 pub fn put_enclosed<E: Emit>(out: &mut E, delim: Delim, tokens: &Tokens) -> Result<(), E::Fault>
     ensures { Did E.meanings out.old (stream_of (enclosed delim tokens.now)) result out.new }
 {
@@ -66,7 +66,7 @@ pub fn put_enclosed<E: Emit>(out: &mut E, delim: Delim, tokens: &Tokens) -> Resu
     put_full_group(out, delim, tokens)
 }
 
-/// A group of these tokens.
+/// Emits a group of these tokens.
 fn put_full_group<E: Emit>(out: &mut E, delim: Delim, tokens: &[Listed]) -> Result<(), E::Fault>
     requires { IsTrue (is_balanced tokens.now) }
     ensures { let within = stream_of (form_of_grouping (at_start 0) (in_groups tokens.now)) in
@@ -78,7 +78,7 @@ fn put_full_group<E: Emit>(out: &mut E, delim: Delim, tokens: &[Listed]) -> Resu
     close_group(out, delim, line)
 }
 
-/// Tokens whose delimiters are balanced. Answers whether the last one is documentation on a line.
+/// Emits tokens whose delimiters are balanced, and says whether the last one is a line comment.
 fn put_list<E: Emit>(out: &mut E, tokens: &[Listed]) -> Result<bool, E::Fault>
     requires { IsTrue (is_balanced tokens.now) }
     ensures did { let form = form_of_grouping (at_start 0) (in_groups tokens.now) in
@@ -96,7 +96,7 @@ fn put_list<E: Emit>(out: &mut E, tokens: &[Listed]) -> Result<bool, E::Fault>
     Ok(seen.last.is_line_doc())
 }
 
-/// One token, which others follow.
+/// Emits one token, which others follow.
 #[tactic(auto, unfolding(crate::specs::Fed::fed_token))]
 #[inline(always)]
 fn put_next<E: Emit>(
@@ -119,7 +119,7 @@ fn put_next<E: Emit>(
     }
 }
 
-/// Whether a closer is the next token.
+/// Whether the next token is a closer.
 fn closes_at_once(more: &[Listed]) -> bool
     ensures { result ≡ closes_at_once more.now }
 {
@@ -135,7 +135,7 @@ fn is_closer(kind: Kind) -> bool
     matches!(kind, Kind::Closer(_))
 }
 
-/// What opens a group, or all of a group without tokens.
+/// Emits the opener of a group, or the whole of an empty group.
 #[inline(always)]
 fn put_opener<E: Emit>(
     out: &mut E,
@@ -153,7 +153,7 @@ fn put_opener<E: Emit>(
     open_group(out, delim)
 }
 
-/// What closes a group, unless it has no tokens.
+/// Emits the closer of a group, unless the group is empty.
 #[inline(always)]
 fn put_closer<E: Emit>(out: &mut E, seen: &Seen<'_>, delim: Delim) -> Result<(), E::Fault>
     requires { IsNested (E.meanings.groups out.old) (fed_closer (seen_of seen.now) delim) }
@@ -165,7 +165,7 @@ fn put_closer<E: Emit>(out: &mut E, seen: &Seen<'_>, delim: Delim) -> Result<(),
     close_group(out, delim, seen.last.is_line_doc())
 }
 
-/// A token that is no delimiter.
+/// Emits a token that is no delimiter.
 #[inline(always)]
 fn put_single<E: Emit>(
     out: &mut E,
@@ -190,7 +190,7 @@ fn put_listed<E: Emit>(out: &mut E, token: &Listed) -> Result<(), E::Fault>
     }
 }
 
-/// What stands between two neighbours.
+/// Emits what stands between two neighbours.
 fn put_gap<E: Emit>(out: &mut E, separation: Separation) -> Result<(), E::Fault>
     ensures { Did E.meanings out.old (fed_gap (separation_of separation)) result out.new }
 {
@@ -201,7 +201,7 @@ fn put_gap<E: Emit>(out: &mut E, separation: Separation) -> Result<(), E::Fault>
     }
 }
 
-/// A group without tokens is one text.
+/// Emits an empty group, which is one text.
 fn put_empty_group<E: Emit>(out: &mut E, delim: Delim) -> Result<(), E::Fault>
     ensures { Did E.meanings out.old (empty_group delim) result out.new }
 {
@@ -212,7 +212,7 @@ fn put_empty_group<E: Emit>(out: &mut E, delim: Delim) -> Result<(), E::Fault>
     }
 }
 
-/// What opens a group with tokens.
+/// Opens a group that isn't empty.
 fn open_group<E: Emit>(out: &mut E, delim: Delim) -> Result<(), E::Fault>
     ensures { Did E.meanings out.old (opened delim) result out.new }
 {
@@ -222,7 +222,7 @@ fn open_group<E: Emit>(out: &mut E, delim: Delim) -> Result<(), E::Fault>
     out.begin(false, 0)
 }
 
-/// What closes a group with tokens; the last one may be documentation on a line.
+/// Closes a group that isn't empty; `line` says that its last token is a line comment.
 fn close_group<E: Emit>(out: &mut E, delim: Delim, line: bool) -> Result<(), E::Fault>
     requires { IsNested (E.meanings.groups out.old) (closed line delim) }
     ensures { Did E.meanings out.old (closed line delim) result out.new }
@@ -253,7 +253,7 @@ fn closing(delim: Delim) -> &'static [u8]
     }
 }
 
-/// The break after an opener: braces have blanks within.
+/// The break after an opener; inside braces it is a blank if it is no newline.
 fn opening_break(delim: Delim) -> Break
     ensures { result ≡ break_of (opening_space delim) }
 {

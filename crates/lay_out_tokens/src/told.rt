@@ -1,7 +1,7 @@
-//! What is asked of a neighbour most, told once.
+//! Neighbours, with the facts that are asked most computed once.
 //!
-//! All of it, and the rows that ask it, carries `#[inline(always)]`: what is handed on by reference would be put together in
-//! memory for each token of a list.
+//! All of it, and the rows that use it, are `#[inline(always)]`: otherwise these values would be
+//! built in memory for each token of a list, to be passed by reference.
 ghost use Rattle.std.specs.Prelude.{◌≡◌, ◌<◌, [], ◌∷◌};
 ghost use Rattle.lay_node.specs.tokens.Pairs as pairs;
 ghost use Rattle.lay_out_tokens.specs.Neighbours.{mark_of, neighbour_of, one};
@@ -10,17 +10,17 @@ use crate::neighbours::{Neighbour, is_any_word, is_free_word, is_keyword, is_lin
 use lay_node::Listed;
 use lay_token::{Delim, Kind};
 
-/// A neighbour, with what is told of it at once.
+/// A neighbour, with some facts about it.
 #[derive(Clone, Copy)]
 pub struct Told<'a> {
     pub neighbour: Neighbour<'a>,
-    /// Its character, where it is punctuation of one, and else 0.
+    /// The character of punctuation, else 0.
     pub mark: u8,
     /// Whether it is punctuation.
     pub punct: bool,
     /// Whether it is documentation.
     pub doc: bool,
-    /// Whether it is joint to what follows it.
+    /// Whether it is joint with the token that follows.
     pub joint: bool,
     ghost marked: { mark ≡ mark_of (neighbour_of neighbour) },
     ghost puncts: { punct ≡ pairs.is_punct_neighbour (neighbour_of neighbour) },
@@ -29,7 +29,7 @@ pub struct Told<'a> {
 }
 
 impl<'a> Told<'a> {
-    /// Nothing.
+    /// No neighbour.
     #[inline(always)]
     pub fn nothing() -> Told<'a>
         ensures { neighbour_of result.neighbour ≡ pairs.Nothing }
@@ -43,7 +43,7 @@ impl<'a> Told<'a> {
         }
     }
 
-    /// A group.
+    /// A group as a neighbour.
     #[inline(always)]
     pub fn enclosed(delim: Delim) -> Told<'a>
         ensures { neighbour_of result.neighbour ≡ pairs.Enclosed delim }
@@ -57,7 +57,7 @@ impl<'a> Told<'a> {
         }
     }
 
-    /// A single token.
+    /// A single token as a neighbour.
     #[inline(always)]
     pub fn single(token: &'a Listed) -> Told<'a>
         ensures { neighbour_of result.neighbour ≡ pairs.Single token.now }
@@ -97,7 +97,7 @@ impl<'a> Told<'a> {
         matches!(self.neighbour, Neighbour::Nothing)
     }
 
-    /// Whether it is the punctuation of this character.
+    /// Whether it is punctuation with this character.
     #[inline(always)]
     pub fn is_mark(&self, character: u8) -> bool
         requires { 0 < character }
@@ -106,7 +106,7 @@ impl<'a> Told<'a> {
         self.mark == character
     }
 
-    /// Whether it is joint to what follows it.
+    /// Whether it is joint with the token that follows.
     #[inline(always)]
     pub fn is_joint(&self) -> bool
         ensures { result ≡ pairs.is_joint_neighbour (neighbour_of self.now.neighbour) }
@@ -114,7 +114,7 @@ impl<'a> Told<'a> {
         self.joint
     }
 
-    /// Whether it is the punctuation of this character, and joint to what follows it.
+    /// Whether it is punctuation with this character, and joint with the token that follows.
     #[inline(always)]
     pub fn is_joint_mark(&self, character: u8) -> bool
         requires { 0 < character }
@@ -139,7 +139,7 @@ impl<'a> Told<'a> {
         self.doc
     }
 
-    /// Whether it is documentation that is laid out on a line.
+    /// Whether it is laid out as a line comment.
     #[inline(always)]
     pub fn is_line_doc(&self) -> bool
         ensures { result ≡ pairs.is_line_doc (neighbour_of self.now.neighbour) }
@@ -147,7 +147,7 @@ impl<'a> Told<'a> {
         self.doc && self.is_line()
     }
 
-    /// The same, where it is documentation.
+    /// Whether documentation is laid out as a line comment.
     #[inline(always)]
     fn is_line(&self) -> bool
         ensures { result ≡ pairs.is_line_doc (neighbour_of self.now.neighbour) }
@@ -158,7 +158,7 @@ impl<'a> Told<'a> {
         }
     }
 
-    /// Whether it is a word that is no keyword.
+    /// Whether it is an identifier that is no keyword.
     #[inline(always)]
     pub fn is_free_word(&self) -> bool
         ensures { result ≡ pairs.is_free_word (neighbour_of self.now.neighbour) }
@@ -180,7 +180,7 @@ impl<'a> Told<'a> {
         }
     }
 
-    /// Whether it is a word.
+    /// Whether it is an identifier or a keyword.
     #[inline(always)]
     pub fn is_any_word(&self) -> bool
         ensures { result ≡ pairs.is_any_word (neighbour_of self.now.neighbour) }
@@ -191,7 +191,8 @@ impl<'a> Told<'a> {
         }
     }
 
-    /// Whether it is a number, where the place is one of an index or not: a Float, or an Int that is no index.
+    /// Whether it is a number: a Float, or an Int that is no tuple index. `place` says that it
+    /// stands where it could be one.
     #[inline(always)]
     pub fn is_number(&self, place: bool) -> bool
         ensures { result ≡ pairs.is_number place (neighbour_of self.now.neighbour) }
@@ -227,7 +228,7 @@ impl<'a> Told<'a> {
     }
 }
 
-/// The one byte of a text, or else 0.
+/// The only byte of a text that has one byte, else 0.
 #[inline(always)]
 fn one(text: &[u8]) -> u8
     ensures { result ≡ one text.now }

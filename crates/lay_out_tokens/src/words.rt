@@ -1,4 +1,4 @@
-//! Words, documentation, and other single tokens.
+//! The layout of words, documentation, and other single tokens.
 ghost use Rattle.std.specs.Prelude.{◌≡◌, [], ◌∷◌, cond, codes, true, false};
 ghost use Rattle.lay_piece.specs.Docs.{doc_form};
 ghost use Rattle.lay_layout.specs.declared.layout.Tok.TheVariants as tok;
@@ -11,7 +11,7 @@ ghost use Rattle.lay_node.specs.Words.{leaf_of};
 use lay_stream::Emit;
 use lay_token::{DocForm, Kind, Text, doc_form};
 
-/// A word or a name, after the `r#` of a raw one.
+/// Emits a word or a name, after the `r#` of a raw one.
 pub fn put_word<E: Emit>(out: &mut E, raw: bool, text: &Text) -> Result<(), E::Fault>
     ensures { Did E.meanings out.old (stream_of (leaf_of raw text.now Done)) result out.new }
 {
@@ -21,7 +21,7 @@ pub fn put_word<E: Emit>(out: &mut E, raw: bool, text: &Text) -> Result<(), E::F
     put_raw(out, text.as_bytes())
 }
 
-/// A token of a tree.
+/// Emits a token as it is spelled, given its kind and text.
 pub fn put_token<E: Emit>(out: &mut E, kind: Kind, text: &[u8]) -> Result<(), E::Fault>
     ensures { Did E.meanings out.old (stream_of (Leaf kind text.now Done)) result out.new }
 {
@@ -32,7 +32,7 @@ pub fn put_token<E: Emit>(out: &mut E, kind: Kind, text: &[u8]) -> Result<(), E:
     }
 }
 
-/// A raw identifier.
+/// Emits a raw identifier.
 fn put_raw<E: Emit>(out: &mut E, text: &[u8]) -> Result<(), E::Fault>
     ensures { Did E.meanings out.old (tok.Text (codes "r#") ∷ tok.Text text.now ∷ []) result
         out.new }
@@ -41,7 +41,7 @@ fn put_raw<E: Emit>(out: &mut E, text: &[u8]) -> Result<(), E::Fault>
     out.text(text)
 }
 
-/// Documentation: on a line, or where its text has several in a block.
+/// Emits documentation: as a line comment, or as a block comment if its text has several lines.
 pub fn put_doc<E: Emit>(out: &mut E, inner: bool, text: &[u8]) -> Result<(), E::Fault>
     ensures { Did E.meanings out.old (feed_doc inner
         (is_block (doc_form inner text.now)) text.now []) result out.new }
@@ -52,7 +52,7 @@ pub fn put_doc<E: Emit>(out: &mut E, inner: bool, text: &[u8]) -> Result<(), E::
     put_line(out, inner, text)
 }
 
-/// Whether documentation of this text stands in a block.
+/// Whether documentation of this text is laid out as a block comment.
 pub fn is_block(inner: bool, text: &[u8]) -> bool
     ensures { result ≡ is_block (doc_form inner text.now) }
 {
@@ -62,7 +62,7 @@ pub fn is_block(inner: bool, text: &[u8]) -> bool
     }
 }
 
-/// Documentation in a block.
+/// Emits a block comment.
 fn put_block<E: Emit>(out: &mut E, inner: bool, text: &[u8]) -> Result<(), E::Fault>
     ensures { Did E.meanings out.old (feed_doc inner true text.now []) result out.new }
 {
@@ -71,7 +71,7 @@ fn put_block<E: Emit>(out: &mut E, inner: bool, text: &[u8]) -> Result<(), E::Fa
     out.text(b"*/")
 }
 
-/// Documentation on a line.
+/// Emits a line comment.
 fn put_line<E: Emit>(out: &mut E, inner: bool, text: &[u8]) -> Result<(), E::Fault>
     ensures { Did E.meanings out.old (feed_doc inner false text.now []) result out.new }
 {
@@ -79,7 +79,7 @@ fn put_line<E: Emit>(out: &mut E, inner: bool, text: &[u8]) -> Result<(), E::Fau
     put_text(out, text)
 }
 
-/// What begins an inner attribute, or an outer one.
+/// Emits `if_inner` for an inner attribute, else `if_outer`.
 pub fn put_either<E: Emit>(
     out: &mut E,
     inner: bool,
@@ -95,7 +95,7 @@ pub fn put_either<E: Emit>(
     out.text(if_outer)
 }
 
-/// A text, if it isn't empty.
+/// Emits a text, if it isn't empty.
 fn put_text<E: Emit>(out: &mut E, text: &[u8]) -> Result<(), E::Fault>
     ensures { Did E.meanings out.old (feed_text text.now []) result out.new }
 {

@@ -1,4 +1,4 @@
-//! Texts, words and token lists, after what was fed before.
+//! The `add` functions of texts, words and token lists.
 ghost use Rattle.std.specs.Prelude.{[], ◌∷◌, cond, false};
 ghost use Rattle.lay_layout.specs.declared.layout.Tok.TheVariants as tok;
 ghost use Rattle.lay_piece.specs.declared.kind.Delim.TheVariants.{Brace};
@@ -18,7 +18,7 @@ use lay_piece::Delim;
 use lay_stream::Emit;
 use lay_text::Text;
 
-/// A text.
+/// Emits a text.
 pub fn add_text<E: Emit>(
     out: &mut E,
     before: Result<(), E::Fault>,
@@ -30,7 +30,7 @@ pub fn add_text<E: Emit>(
     out.text(text)
 }
 
-/// A text, where one is wanted.
+/// Emits a text, if `wanted`.
 pub fn add_if<E: Emit>(
     out: &mut E,
     before: Result<(), E::Fault>,
@@ -46,7 +46,7 @@ pub fn add_if<E: Emit>(
     before
 }
 
-/// One of two texts.
+/// Emits one of two texts.
 pub fn add_either<E: Emit>(
     out: &mut E,
     before: Result<(), E::Fault>,
@@ -63,7 +63,7 @@ pub fn add_either<E: Emit>(
     add_text(out, before, if_second)
 }
 
-/// A word or a name.
+/// Emits a word or a name.
 pub fn add_word<E: Emit>(
     out: &mut E,
     before: Result<(), E::Fault>,
@@ -77,7 +77,7 @@ pub fn add_word<E: Emit>(
     put_word(out, raw, text)
 }
 
-/// A literal.
+/// Emits a literal.
 pub fn add_literal<E: Emit>(
     out: &mut E,
     before: Result<(), E::Fault>,
@@ -90,7 +90,7 @@ pub fn add_literal<E: Emit>(
     put_token(out, literal.kind, literal.text.as_bytes())
 }
 
-/// A token list.
+/// Emits a token list.
 pub fn add_tokens<E: Emit>(
     out: &mut E,
     before: Result<(), E::Fault>,
@@ -102,7 +102,7 @@ pub fn add_tokens<E: Emit>(
     put_tokens(out, tokens)
 }
 
-/// A token list in braces.
+/// Emits a token list in braces.
 pub fn add_braces<E: Emit>(
     out: &mut E,
     before: Result<(), E::Fault>,
@@ -115,7 +115,7 @@ pub fn add_braces<E: Emit>(
     put_enclosed(out, Delim::Brace, tokens)
 }
 
-/// An attribute within other parts.
+/// Emits an attribute within other parts.
 pub(crate) fn add_attr<E: Emit>(
     out: &mut E,
     before: Result<(), E::Fault>,
@@ -128,7 +128,7 @@ pub(crate) fn add_attr<E: Emit>(
     put_attr(out, attr, false)
 }
 
-/// A macro call.
+/// Emits a macro call.
 pub fn add_call<E: Emit>(
     out: &mut E,
     before: Result<(), E::Fault>,

@@ -1,4 +1,4 @@
-//! Generic parameters.
+//! The layout of generic parameters.
 ghost use Rattle.std.specs.Prelude.{map, true};
 ghost use Rattle.lay_stream.specs.Fed.{Did};
 ghost use Rattle.lay_form.specs.Notation.{comma_list};
@@ -15,7 +15,7 @@ use crate::types::{add_bounds, add_type};
 use lay_node::{Bound, ConstDefault, GenericParam, Generics, Ty};
 use lay_stream::Emit;
 
-/// Feeds the layout of generic parameters: nothing where there are none.
+/// Emits the layout of generic parameters: nothing if there are none.
 pub fn put_generics<E: Emit>(out: &mut E, generics: &Generics) -> Result<(), E::Fault>
     ensures { Did E.meanings out.old (stream_of (generics_form generics.now)) result out.new }
 {
@@ -26,7 +26,7 @@ pub fn put_generics<E: Emit>(out: &mut E, generics: &Generics) -> Result<(), E::
     add_params(out, Ok(()), params)
 }
 
-/// Generic parameters in `<` and `>`.
+/// Emits generic parameters in `<` and `>`.
 fn add_params<E: Emit>(
     out: &mut E,
     before: Result<(), E::Fault>,
@@ -43,7 +43,7 @@ fn add_params<E: Emit>(
     add_close(out, done, true, params.is_empty(), b"<>", b">")
 }
 
-/// A generic parameter.
+/// Emits a generic parameter.
 fn add_param<E: Emit>(
     out: &mut E,
     before: Result<(), E::Fault>,
@@ -80,7 +80,7 @@ fn add_param<E: Emit>(
     }
 }
 
-/// What is asked of a type, after a `:`; nothing without bounds.
+/// Emits a `:` and the bounds of a type; nothing if there are none.
 pub fn add_asked<E: Emit>(
     out: &mut E,
     before: Result<(), E::Fault>,
@@ -95,7 +95,7 @@ pub fn add_asked<E: Emit>(
     add_bounds(out, colon, bounds)
 }
 
-/// What a parameter is by default, if it is anything.
+/// Emits the default of a type parameter, if it has one.
 pub fn add_default<E: Emit>(
     out: &mut E,
     before: Result<(), E::Fault>,
@@ -112,7 +112,7 @@ pub fn add_default<E: Emit>(
     }
 }
 
-/// What a parameter that is a constant is by default, if it is anything.
+/// Emits the default of a const parameter, if it has one.
 fn add_const_default<E: Emit>(
     out: &mut E,
     before: Result<(), E::Fault>,

@@ -1,4 +1,4 @@
-//! What stands round the elements of lists, bounds and where clauses.
+//! The delimiters and separators of lists, bounds and where clauses.
 ghost use Rattle.std.specs.Prelude.{◌≡◌, ◌<◌, [], ◌∷◌, cond, pos, true, false, OnOk};
 ghost use Rattle.lay_layout.specs.Machine.{IsNested};
 ghost use Rattle.lay_layout.specs.declared.layout.Tok.TheVariants as tok;
@@ -14,13 +14,14 @@ use lay_out_tokens::notation::{
 };
 use lay_stream::Emit;
 
-/// The break before what closes a group of parts with commas: one step back, of one blank, with a `,` before the newline.
+/// The break before the closer of parts with commas, one step out: a blank, or a `,` and a newline.
 pub const COMMA_CLOSING_SPACE_BREAK: Break = Break {
     blank: 1,
     ..COMMA_CLOSING_BREAK
 };
 
-/// What stands before an element of a list: before the first one what opens the list, and else a comma.
+/// Emits what stands before an element of a list: the opener of the list before the first one, else
+/// a comma.
 pub fn add_lead<E: Emit>(
     out: &mut E,
     before: Result<(), E::Fault>,
@@ -37,7 +38,7 @@ pub fn add_lead<E: Emit>(
     put_comma(out)
 }
 
-/// The comma between two elements.
+/// Emits the comma between two elements.
 fn put_comma<E: Emit>(out: &mut E) -> Result<(), E::Fault>
     ensures { Did E.meanings out.old comma_between result out.new }
 {
@@ -45,8 +46,8 @@ fn put_comma<E: Emit>(out: &mut E) -> Result<(), E::Fault>
     out.brk(SPACE_BREAK)
 }
 
-/// What closes a list, with a `,` after its last element where each stands on its own line and one may stand there. A
-/// list without elements is both delimiters, as one text.
+/// Emits the closer of a list. If each element is on its own line, a `,` follows the last one, if
+/// one is allowed. Of an empty list both delimiters are emitted as one text.
 pub fn add_close<E: Emit>(
     out: &mut E,
     before: Result<(), E::Fault>,
@@ -79,7 +80,7 @@ fn last_break(may: bool) -> Break
     CLOSING_SOFT_BREAK
 }
 
-/// What opens bounds.
+/// Emits what opens bounds.
 pub fn add_begin<E: Emit>(out: &mut E, before: Result<(), E::Fault>) -> Result<(), E::Fault>
     ensures { Adds E.meanings before out.old (tok.Begin false (pos 4) ∷ []) result out.new }
 {
@@ -87,7 +88,7 @@ pub fn add_begin<E: Emit>(out: &mut E, before: Result<(), E::Fault>) -> Result<(
     out.begin(false, 4)
 }
 
-/// What stands before a bound: a `+`, unless it is the first one.
+/// Emits what stands before a bound: a `+`, unless it is the first one.
 pub(crate) fn add_plus<E: Emit>(
     out: &mut E,
     before: Result<(), E::Fault>,
@@ -103,7 +104,7 @@ pub(crate) fn add_plus<E: Emit>(
     out.text(b"+ ")
 }
 
-/// What closes bounds.
+/// Emits what closes bounds.
 pub fn add_end<E: Emit>(out: &mut E, before: Result<(), E::Fault>) -> Result<(), E::Fault>
     requires { OnOk before (0 < E.meanings.groups out.old) }
     ensures { Adds E.meanings before out.old (tok.End ∷ []) result out.new }
@@ -112,7 +113,8 @@ pub fn add_end<E: Emit>(out: &mut E, before: Result<(), E::Fault>) -> Result<(),
     out.end()
 }
 
-/// What stands before a predicate of a where clause: before the first one the word `where`, and else a comma.
+/// Emits what stands before a predicate of a where clause: the word `where` before the first one,
+/// else a comma.
 pub(crate) fn add_predicates_lead<E: Emit>(
     out: &mut E,
     before: Result<(), E::Fault>,
@@ -128,7 +130,7 @@ pub(crate) fn add_predicates_lead<E: Emit>(
     put_comma(out)
 }
 
-/// The word `where`, on the line before it or on its own.
+/// Emits the word `where`, on the current line or on its own.
 fn open_predicates<E: Emit>(out: &mut E) -> Result<(), E::Fault>
     ensures { Did E.meanings out.old wheres_opened result out.new }
 {
@@ -139,7 +141,8 @@ fn open_predicates<E: Emit>(out: &mut E) -> Result<(), E::Fault>
     out.brk(SPACE_BREAK)
 }
 
-/// What closes a where clause, if it has predicates: before a body a break, with a `,` before its newline.
+/// Emits the end of a where clause, if it has predicates: before a body a break, with a `,` before
+/// its newline.
 pub(crate) fn add_predicates_close<E: Emit>(
     out: &mut E,
     before: Result<(), E::Fault>,

@@ -1,4 +1,4 @@
-//! What types and generic parameters are made of, with no type within it.
+//! The layout of the parts of types and generic parameters that hold no type.
 ghost use Rattle.std.specs.Prelude.{[], ◌∷◌, map, codes, true, Some};
 ghost use Rattle.lay_piece.specs.declared.kind.Kind.TheVariants as kind;
 ghost use Rattle.lay_form.specs.Form.{Done, Fixed, Piece};
@@ -13,7 +13,7 @@ use crate::lists::{add_close, add_lead};
 use lay_node::{Abi, Attr, Binder, Capture, ConstArg, GivenName, Lifetime, LifetimeParam};
 use lay_stream::Emit;
 
-/// Attributes of a parameter.
+/// Emits attributes of a parameter.
 pub fn add_param_attrs<E: Emit>(
     out: &mut E,
     before: Result<(), E::Fault>,
@@ -29,7 +29,7 @@ pub fn add_param_attrs<E: Emit>(
     done
 }
 
-/// Lifetimes that another one outlives, after a `:`; nothing without them.
+/// Emits a `:` and the bounds of a lifetime; nothing if there are none.
 pub(crate) fn add_outlived<E: Emit>(
     out: &mut E,
     before: Result<(), E::Fault>,
@@ -46,7 +46,7 @@ pub(crate) fn add_outlived<E: Emit>(
     done
 }
 
-/// A generic parameter that is a lifetime.
+/// Emits a lifetime parameter.
 pub(crate) fn add_lifetime_param<E: Emit>(
     out: &mut E,
     before: Result<(), E::Fault>,
@@ -60,7 +60,7 @@ pub(crate) fn add_lifetime_param<E: Emit>(
     add_outlived(out, lifetime, param.bounds.as_slice())
 }
 
-/// A binder, and a blank after it.
+/// Emits a binder, and a blank after it.
 pub(crate) fn add_binder<E: Emit>(
     out: &mut E,
     before: Result<(), E::Fault>,
@@ -79,7 +79,7 @@ pub(crate) fn add_binder<E: Emit>(
     }
 }
 
-/// Lifetimes in `<` and `>`.
+/// Emits lifetimes in `<` and `>`.
 fn add_lifetime_params<E: Emit>(
     out: &mut E,
     before: Result<(), E::Fault>,
@@ -97,7 +97,7 @@ fn add_lifetime_params<E: Emit>(
     add_close(out, done, true, params.is_empty(), b"<>", b">")
 }
 
-/// What is captured, in `<` and `>`.
+/// Emits the `<..>` of `use<..>`.
 pub(crate) fn add_captures<E: Emit>(
     out: &mut E,
     before: Result<(), E::Fault>,
@@ -114,7 +114,7 @@ pub(crate) fn add_captures<E: Emit>(
     add_close(out, done, true, captured.is_empty(), b"<>", b">")
 }
 
-/// A lifetime or a word that is captured.
+/// Emits a lifetime or a word of `use<..>`.
 fn add_capture<E: Emit>(
     out: &mut E,
     before: Result<(), E::Fault>,
@@ -128,7 +128,7 @@ fn add_capture<E: Emit>(
     }
 }
 
-/// A generic argument that is a constant.
+/// Emits a const generic argument.
 pub(crate) fn add_const<E: Emit>(
     out: &mut E,
     before: Result<(), E::Fault>,
@@ -146,7 +146,7 @@ pub(crate) fn add_const<E: Emit>(
     }
 }
 
-/// An ABI, and a blank after it.
+/// Emits an ABI, and a blank after it.
 pub fn add_abi<E: Emit>(
     out: &mut E,
     before: Result<(), E::Fault>,
@@ -169,7 +169,7 @@ pub fn add_abi<E: Emit>(
     }
 }
 
-/// The `&` of a reference, and its lifetime with a blank after it.
+/// Emits the `&` of a reference, and its lifetime with a blank after it.
 pub fn add_reference<E: Emit>(
     out: &mut E,
     before: Result<(), E::Fault>,
@@ -189,7 +189,7 @@ pub fn add_reference<E: Emit>(
     }
 }
 
-/// What a parameter of a function type is called, and a `:` after it.
+/// Emits the name of a parameter of a function type, and a `:` after it.
 pub(crate) fn add_param_name<E: Emit>(
     out: &mut E,
     before: Result<(), E::Fault>,
@@ -203,7 +203,7 @@ pub(crate) fn add_param_name<E: Emit>(
     }
 }
 
-/// A name that is given, or the `_` of none, and a `:` after it.
+/// Emits a name or a `_`, and a `:` after it.
 pub fn add_given_name<E: Emit>(
     out: &mut E,
     before: Result<(), E::Fault>,

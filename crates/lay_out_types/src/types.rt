@@ -1,4 +1,4 @@
-//! Paths, generic arguments, bounds and types.
+//! The layout of paths, generic arguments, bounds and types.
 ghost use Rattle.std.specs.Prelude.{map, option_map, true};
 ghost use Rattle.lay_stream.specs.Fed.{Did};
 ghost use Rattle.lay_form.specs.Form.{opener, closer};
@@ -18,14 +18,14 @@ use crate::parts::{
 use lay_node::{Arg, Args, Bound, Boxed, Constraint, FuncParam, Path, PathStart, PathStyle, Ty};
 use lay_stream::Emit;
 
-/// Feeds the layout of a path.
+/// Emits the layout of a path.
 pub fn put_path<E: Emit>(out: &mut E, path: &Path, style: PathStyle) -> Result<(), E::Fault>
     ensures { Did E.meanings out.old (stream_of (about_path path.now style).form) result out.new }
 {
     add_path(out, Ok(()), path, style)
 }
 
-/// Feeds the layout of the generic arguments of a segment.
+/// Emits the layout of the generic arguments of a segment.
 pub fn put_args<E: Emit>(out: &mut E, args: &Args, style: PathStyle) -> Result<(), E::Fault>
     ensures { Did E.meanings out.old (stream_of (in_style style (about_args args.now)).form) result
         out.new }
@@ -33,7 +33,7 @@ pub fn put_args<E: Emit>(out: &mut E, args: &Args, style: PathStyle) -> Result<(
     add_args(out, Ok(()), args, style)
 }
 
-/// Feeds the layout of bounds.
+/// Emits the layout of bounds.
 pub fn put_bounds<E: Emit>(out: &mut E, bounds: &[Bound]) -> Result<(), E::Fault>
     ensures { Did E.meanings out.old (stream_of (bounds_form (map about_bound bounds.now))) result
         out.new }
@@ -41,14 +41,14 @@ pub fn put_bounds<E: Emit>(out: &mut E, bounds: &[Bound]) -> Result<(), E::Fault
     add_bounds(out, Ok(()), bounds)
 }
 
-/// Feeds the layout of a type.
+/// Emits the layout of a type.
 pub fn put_type<E: Emit>(out: &mut E, ty: &Ty) -> Result<(), E::Fault>
     ensures { Did E.meanings out.old (stream_of (about_type ty.now).told.form) result out.new }
 {
     add_type(out, Ok(()), ty)
 }
 
-/// A path.
+/// Emits a path.
 #[cycle(add_type)]
 pub fn add_path<E: Emit>(
     out: &mut E,
@@ -69,7 +69,7 @@ pub fn add_path<E: Emit>(
     done
 }
 
-/// What a path begins with.
+/// Emits the beginning of a path.
 #[cycle(add_type)]
 fn add_start<E: Emit>(
     out: &mut E,
@@ -97,7 +97,8 @@ fn add_start<E: Emit>(
     }
 }
 
-/// The generic arguments of a segment: in code after `::`, unless they stand in parentheses.
+/// Emits the generic arguments of a segment: in expressions after `::`, unless they are in
+/// parentheses.
 #[cycle(add_type)]
 pub fn add_args<E: Emit>(
     out: &mut E,
@@ -124,7 +125,7 @@ pub fn add_args<E: Emit>(
     }
 }
 
-/// Generic arguments in `<` and `>`.
+/// Emits generic arguments in `<` and `>`.
 #[cycle(add_type)]
 pub fn add_angles<E: Emit>(
     out: &mut E,
@@ -142,7 +143,7 @@ pub fn add_angles<E: Emit>(
     add_close(out, done, true, args.is_empty(), b"<>", b">")
 }
 
-/// A generic argument.
+/// Emits a generic argument.
 #[cycle(add_type)]
 fn add_arg<E: Emit>(out: &mut E, before: Result<(), E::Fault>, arg: &Arg) -> Result<(), E::Fault>
     ensures { Adds E.meanings before out.old (stream_of (about_arg arg.now).form) result out.new }
@@ -163,7 +164,7 @@ fn add_arg<E: Emit>(out: &mut E, before: Result<(), E::Fault>, arg: &Arg) -> Res
     }
 }
 
-/// What is asked of a name among generic arguments.
+/// Emits the constraint of a name among generic arguments.
 #[cycle(add_type)]
 fn add_constraint<E: Emit>(
     out: &mut E,
@@ -189,7 +190,7 @@ fn add_constraint<E: Emit>(
     }
 }
 
-/// Bounds, with a `+` between them.
+/// Emits bounds, with a `+` between them.
 #[cycle(add_type)]
 pub fn add_bounds<E: Emit>(
     out: &mut E,
@@ -207,7 +208,7 @@ pub fn add_bounds<E: Emit>(
     add_end(out, done)
 }
 
-/// A bound.
+/// Emits a bound.
 #[cycle(add_type)]
 fn add_bound<E: Emit>(
     out: &mut E,
@@ -238,7 +239,7 @@ fn add_bound<E: Emit>(
     }
 }
 
-/// A type.
+/// Emits a type.
 #[cycle(add_type)]
 pub fn add_type<E: Emit>(out: &mut E, before: Result<(), E::Fault>, ty: &Ty) -> Result<(), E::Fault>
     ensures { Adds E.meanings before out.old (stream_of (about_type ty.now).told.form) result
@@ -313,7 +314,7 @@ pub fn add_type<E: Emit>(out: &mut E, before: Result<(), E::Fault>, ty: &Ty) -> 
     }
 }
 
-/// Types in parentheses.
+/// Emits types in parentheses.
 #[cycle(add_type)]
 fn add_types<E: Emit>(
     out: &mut E,
@@ -332,7 +333,8 @@ fn add_types<E: Emit>(
     add_close(out, done, true, types.is_empty(), b"()", b")")
 }
 
-/// The parameters of a function type in parentheses, and after them the `...` of one that takes further arguments.
+/// Emits the parameters of a function type in parentheses, with a `...` last if the function is
+/// variadic.
 #[cycle(add_type)]
 fn add_params<E: Emit>(
     out: &mut E,
@@ -358,7 +360,7 @@ fn add_params<E: Emit>(
     add_close(out, done, true, params.is_empty(), b"()", b")")
 }
 
-/// A return type, if there is one.
+/// Emits a return type, if there is one.
 #[cycle(add_type)]
 fn add_output<E: Emit>(
     out: &mut E,

@@ -1,4 +1,4 @@
-//! Where clauses.
+//! The layout of where clauses.
 ghost use Rattle.std.specs.Prelude.{cond};
 ghost use Rattle.lay_stream.specs.Fed.{Did};
 ghost use Rattle.lay_form.specs.Stream.{stream_of};
@@ -13,7 +13,8 @@ use crate::types::add_type;
 use lay_node::{Predicate, Wheres};
 use lay_stream::Emit;
 
-/// Feeds the layout of a where clause: before a body, or else before a `;`. It is nothing without predicates.
+/// Emits the layout of a where clause, before a body or before a `;`: nothing if it has no
+/// predicates.
 pub fn put_wheres<E: Emit>(out: &mut E, wheres: &Wheres, body: bool) -> Result<(), E::Fault>
     ensures { let form = cond body (wheres_before_body wheres.now)
         (wheres_before_semicolon wheres.now) in
@@ -28,7 +29,7 @@ pub fn put_wheres<E: Emit>(out: &mut E, wheres: &Wheres, body: bool) -> Result<(
     add_predicates_close(out, done, body, predicates.is_empty())
 }
 
-/// What a where clause says of a lifetime or of a type. Where nothing is asked, a `:` stands alone.
+/// Emits a predicate of a where clause. Without bounds the `:` stands alone.
 fn add_predicate<E: Emit>(
     out: &mut E,
     before: Result<(), E::Fault>,
