@@ -1,8 +1,10 @@
-//! The formatter for C: one call over byte buffers, which takes and gives no memory of its own.
+//! The formatter for C: one function over byte buffers, which neither takes nor gives allocated
+//! memory.
 //!
-//! [`lay_format_slices`] formats the input, and writes a prefix of its text to the buffer, as much as fits. It answers the length of
-//! the whole text, so a caller whose buffer was too small calls again with a greater one. The header is c/lay.h, whose
-//! `lay_format` is this call, where a pointer to no bytes may be null too.
+//! [`lay_format_slices`] formats the input and writes to the buffer as much of the text as fits. It
+//! gives the length of the whole text, so a caller whose buffer was too small calls again with a
+//! larger one. The header is c/lay.h; its `lay_format` is this function, and its pointers to no
+//! bytes may be null.
 #![tactic(auto)]
 
 ghost use Rattle.std.specs.Prelude.{◌≡◌, length};
@@ -12,21 +14,22 @@ use lay_files::{FileError, format_bytes};
 use lay_token::{Place2, Refusal};
 use std::alloc::Global;
 
-/// The text was made, and as much of it as fits stands in the buffer.
+/// The input was formatted, and as much of the text as fits is in the buffer.
 pub const DONE: u32 = 0;
-/// The input is no UTF-8.
+/// The input is not UTF-8.
 pub const NOT_UTF8: u32 = 1;
-/// At a place of the input there is no token.
+/// At a place in the input no token begins.
 pub const NO_TOKEN: u32 = 2;
 /// A delimiter has no partner.
 pub const UNBALANCED: u32 = 3;
 /// The tokens spell no file.
 pub const NO_ITEM: u32 = 4;
-/// Memory was not found.
+/// Memory could not be allocated.
 pub const NO_MEMORY: u32 = 5;
 
-/// What comes of a call. Where the input is refused, `at` is the number of the byte, from 0, and `line` and `column` are from
-/// 1; else the three are 0. `length` is that of the whole text, and 0 where there is none.
+/// The result of a call. For a syntax error `at` is the byte offset from 0, and `line` and `column`
+/// count from 1; otherwise the three are 0. `length` is the length of the whole text, and 0 if
+/// there is none.
 #[repr(C)]
 #[derive(Clone, Copy, Debug, PartialEq, Eq)]
 pub struct LayAnswer {
@@ -37,8 +40,8 @@ pub struct LayAnswer {
     pub status: u32,
 }
 
-/// Formats the input, a file of any length, and writes a prefix of its text to the buffer, as much as fits. Where there is no
-/// text, the buffer stays as it is.
+/// Formats the input, a file of any length, and writes to the buffer as much of the text as fits.
+/// On an error the buffer is unchanged.
 #[unsafe(no_mangle)]
 pub extern "C" fn lay_format_slices(alloc: Global, input: &[u8], buffer: &mut [u8]) -> LayAnswer
     ensures { AnswersAs input.now result buffer.old buffer.new }
@@ -50,7 +53,7 @@ pub extern "C" fn lay_format_slices(alloc: Global, input: &[u8], buffer: &mut [u
     }
 }
 
-/// The text was made; its prefix is written to the buffer.
+/// The result for this text, of which as much as fits is copied to the buffer.
 fn done(text: &[u8], buffer: &mut [u8]) -> LayAnswer
     ensures answer { result ≡ done_answer (length text.now) }
     ensures bytes { buffer.new ≡ filled text.now buffer.old }
@@ -73,7 +76,7 @@ fn fill(buffer: &mut [u8], bytes: &[u8])
     buffer[..count].copy_from_slice(&bytes[..count]);
 }
 
-/// The input is refused at a place.
+/// The result for a syntax error.
 fn refused(refusal: Refusal, place: Place2) -> LayAnswer
     ensures { result ≡ refused_answer refusal place }
 {
@@ -92,7 +95,7 @@ fn refused(refusal: Refusal, place: Place2) -> LayAnswer
     }
 }
 
-/// Memory was not found.
+/// Memory could not be allocated.
 fn wanting() -> LayAnswer
     ensures { result ≡ wanting_answer }
 {

@@ -5,7 +5,7 @@ use lay_io::{Failed, Sink};
 use lay_token::List;
 use std::alloc::Global;
 
-/// A sink that keeps what is written. A write for which no memory is found keeps nothing, and fails.
+/// A sink that keeps what is written. If memory is out, a write keeps nothing and fails.
 #[derive(Drop)]
 pub struct Keeper {
     bytes: Vec<u8>,
@@ -15,7 +15,7 @@ pub struct Keeper {
 impl Keeper {
     ghost use Rattle.lay_files.specs.Keeping.{kept_by};
 
-    /// Nothing is written yet. It takes no memory.
+    /// An empty sink. It doesn't allocate.
     pub fn new(alloc: Global) -> Keeper
         ensures { kept_by result ≡ [] }
     {
@@ -25,7 +25,7 @@ impl Keeper {
         }
     }
 
-    /// What was written.
+    /// Takes what was written.
     pub fn into_list(self) -> List<u8>
         ensures { result ≡ kept_by self }
     {

@@ -1,4 +1,4 @@
-//! What is laid out as a file.
+//! What has the layout of a file.
 ghost use Rattle.std.specs.Prelude.{true};
 ghost use Rattle.lay_layout.specs.Document.{stream};
 ghost use Rattle.lay_stream.specs.Fed.{Did};
@@ -11,12 +11,13 @@ use lay_code::{Expr, File};
 use lay_out_code::{put_enclosed_constant, put_file};
 use lay_stream::Emit;
 
-/// What is laid out as a file: a file itself, and an expression as the constant of it with each part in parentheses.
+/// What has the layout of a file: a file, or an expression, which stands for the constant with each
+/// of its parts in parentheses.
 pub(crate) trait Laid {
     /// The file.
     ghost file: { Self → File };
 
-    /// Feeds its layout.
+    /// Emits the layout of the file.
     fn put<E: Emit>(&self, out: &mut E) -> Result<(), E::Fault>
         ensures { Did E.meanings out.old (stream (layout_of_file (file self.now))) result out.new };
 }

@@ -1,4 +1,4 @@
-//! From bytes to the tree of a file.
+//! Parsing of whole files.
 ghost use Rattle.std.specs.Prelude.{◌≡◌, IfOk, IsTrue, IsUtf8};
 ghost use Rattle.std.specs.Str.{IsCharBoundary};
 ghost use Rattle.lay_lex.specs.Source.{seen};
@@ -15,31 +15,32 @@ use lay_read_tokens::ReadNone;
 use lay_token::{FormatError, NoMemory, Place2, Refusal, place_of};
 use std::alloc::Global;
 
-/// Why bytes read to no file.
+/// Why parsing failed.
 #[derive(Clone, Copy, Debug, PartialEq, Eq)]
 pub enum FileError {
-    /// They are refused at this place: in the bytes themselves where they are no UTF-8, else in the text that is lexed,
-    /// which has no byte order mark and in which each CR LF is one LF.
+    /// A syntax error at this place. It counts in the bytes themselves if they aren't UTF-8, else
+    /// in the text that is lexed, which has no byte order mark and one LF for each CR LF.
     Refused { refusal: Refusal, place: Place2 },
-    /// Memory was not found.
+    /// Memory could not be allocated.
     NoMemory,
 }
 
-/// The items of a file stand at this depth.
+/// The depth limit of the items of a file.
 pub const DEPTH: u32 = 256;
 
-/// The one file that the bytes read to, or their refusal and its place: bytes that are no UTF-8, a place where there is
-/// no token, a delimiter without a partner, or tokens that spell no file.
+/// Parses the bytes as a file. The syntax errors: bytes that aren't UTF-8, a place where no token
+/// begins, a delimiter without a partner, and tokens that spell no file.
 pub fn read_bytes(alloc: Global, bytes: &[u8]) -> Result<File, FileError>
     ensures { ReadAs top bytes.now result }
 {
     read_within(alloc, bytes, DEPTH)
 }
 
-/// The same where the items of the file stand at this depth. No more of the stack is taken than a file of this depth needs,
-/// whatever the bytes are.
+/// Parses the bytes as a file whose items fit in `depth` levels. It needs no more stack than a file
+/// of that depth, whatever the bytes are.
 ///
-/// It is read by windows of tokens first. Where that reads none, it is read from all its tokens, which tells why there is none.
+/// The bytes are read window by window first. If that reads no file, they are parsed from all their
+/// tokens, which gives the syntax error if there is one.
 pub fn read_within(alloc: Global, bytes: &[u8], depth: u32) -> Result<File, FileError>
     ensures { ReadAs depth bytes.now result }
 {
@@ -61,7 +62,7 @@ pub fn read_within(alloc: Global, bytes: &[u8], depth: u32) -> Result<File, File
     read_tokens(alloc, source, depth)
 }
 
-/// The same of the text of some bytes, which is read from all its tokens.
+/// Parses a prepared text from all its tokens.
 pub(crate) fn read_tokens(alloc: Global, source: Source, depth: u32) -> Result<File, FileError>
     requires text { IsUtf8 source.text }
     requires border { IsCharBoundary source.text source.start }
@@ -82,7 +83,7 @@ pub(crate) fn read_tokens(alloc: Global, source: Source, depth: u32) -> Result<F
     }
 }
 
-/// The error with the place of its refusal, which is counted in this text.
+/// The error with the place of a syntax error, which is counted in this text.
 pub(crate) fn placed(error: FormatError, text: &[u8]) -> FileError
     ensures { result ≡ placed_in text.now error }
 {
@@ -95,7 +96,7 @@ pub(crate) fn placed(error: FormatError, text: &[u8]) -> FileError
     }
 }
 
-/// The place at which these bytes have this refusal, as [`read_bytes`] tells it.
+/// The place of this syntax error of the bytes, as [`read_bytes`] gives it.
 pub fn refused_at(alloc: Global, bytes: &[u8], refusal: Refusal) -> Result<Place2, NoMemory>
     ensures { IfOk result (λ place. place ≡ place_in bytes.now refusal) }
 {
@@ -106,7 +107,7 @@ pub fn refused_at(alloc: Global, bytes: &[u8], refusal: Refusal) -> Result<Place
     }
 }
 
-/// The number of the byte at which an input is refused.
+/// The byte offset of a syntax error.
 fn number(refusal: Refusal) -> usize
     ensures { result ≡ number_of refusal }
 {

@@ -1,4 +1,4 @@
-//! From bytes to the text of their file, where no tree of the file stands in memory.
+//! Formatting of bytes without a tree of the whole file.
 ghost use Rattle.std.specs.Prelude.{IfOk, IsTrue, IsUtf8, OnOk};
 ghost use Rattle.std.specs.Str.{IsCharBoundary};
 ghost use Rattle.lay_lex.specs.Source.{seen};
@@ -18,10 +18,11 @@ use lay_read_tokens::ReadNone;
 use lay_token::{List, NoMemory};
 use std::alloc::Global;
 
-/// The text of the one file that the bytes read to, or their refusal and its place.
+/// Formats the bytes, or gives the syntax error and its place.
 ///
-/// What a window of tokens holds is laid out and given back before the next window is lexed. The text is kept until all was read.
-/// Where it isn't read by windows, it is read from all its tokens, which tells why there is none.
+/// The items in a window of tokens are laid out and dropped before the next window is lexed. The
+/// text is kept until everything was read. If the bytes can't be read window by window, they are
+/// parsed from all tokens, which gives the syntax error if there is one.
 pub fn format_bytes(alloc: Global, bytes: &[u8]) -> Result<List<u8>, FileError>
     ensures { FormattedAs top bytes.now result }
 {
@@ -36,7 +37,7 @@ pub fn format_bytes(alloc: Global, bytes: &[u8]) -> Result<List<u8>, FileError>
     }
 }
 
-/// The same of the text of some bytes, which is read from all its tokens.
+/// Formats a prepared text, parsed from all its tokens.
 fn format_tokens(alloc: Global, source: Source) -> Result<List<u8>, FileError>
     requires text { IsUtf8 source.text }
     requires border { IsCharBoundary source.text source.start }
@@ -53,7 +54,7 @@ fn format_tokens(alloc: Global, source: Source) -> Result<List<u8>, FileError>
     }
 }
 
-/// The text of the file that a source spells, where it is read by windows.
+/// Formats a prepared text window by window, if it can be read so.
 fn format_source(alloc: Global, source: &Source) -> Result<List<u8>, ReadNone>
     requires text { IsUtf8 source.now.text }
     requires border { IsCharBoundary source.now.text source.now.start }
@@ -63,12 +64,13 @@ fn format_source(alloc: Global, source: &Source) -> Result<List<u8>, ReadNone>
     match write_source(alloc, source, &mut keeper) {
         Ok(()) => Ok(keeper.into_list()),
         Err(NotPut::NoReading) => Err(ReadNone::NoReading),
-        // A keeper fails for want of memory alone.
+        // A `Keeper` fails only if memory is out.
         Err(NotPut::NoMemory | NotPut::Fault(_)) => Err(ReadNone::NoMemory),
     }
 }
 
-/// Writes the text of the file that a source spells, where it is read by windows. Else what was written says nothing.
+/// Writes the formatted text window by window, if it can be read so. Otherwise what was written
+/// says nothing.
 fn write_source<K: Sink>(
     alloc: Global,
     source: &Source,

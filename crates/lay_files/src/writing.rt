@@ -1,4 +1,4 @@
-//! From the tree of a file to its text.
+//! Formatting of trees: from a file to its text.
 ghost use Rattle.std.specs.Prelude.{◌≡◌, ◌≤◌, IfOk, OnOk, OnErr, IsErrOf, true};
 ghost use Rattle.lay_io.specs.Faults.{Rose, SameLoan};
 ghost use Rattle.lay_io.specs.Told.{GrewBy, GrewByPrefix};
@@ -49,7 +49,7 @@ pub fn write_file<K: Sink>(alloc: Global, file: &File, out: &mut K) -> Result<()
     write_laid(alloc, file, out)
 }
 
-/// The text of what is laid out as a file.
+/// The text of what has the layout of a file.
 fn laid_text<L: Laid>(alloc: Global, node: &L) -> Result<Text, NoMemory>
     ensures { IfOk result (λ text. text ≡ text_of_file (L.file node.now)) }
 {
@@ -57,7 +57,7 @@ fn laid_text<L: Laid>(alloc: Global, node: &L) -> Result<Text, NoMemory>
     Text::from_bytes(alloc, bytes.as_slice())
 }
 
-/// The same, as a list of its bytes.
+/// The text of what has the layout of a file, as a list of bytes.
 fn laid_bytes<L: Laid>(alloc: Global, node: &L) -> Result<List<u8>, NoMemory>
     ensures { IfOk result (λ bytes. bytes ≡ text_of_file (L.file node.now)) }
 {
@@ -68,7 +68,7 @@ fn laid_bytes<L: Laid>(alloc: Global, node: &L) -> Result<List<u8>, NoMemory>
     }
 }
 
-/// Writes the text of what is laid out as a file, piece by piece.
+/// Writes the text of what has the layout of a file, piece by piece.
 fn write_laid<L: Laid, K: Sink>(alloc: Global, node: &L, out: &mut K) -> Result<(), PrintError>
     ensures later { K.faults out.old ≤ K.faults out.new }
     ensures loan { SameLoan (K.loan out.old) (K.loan out.new) }

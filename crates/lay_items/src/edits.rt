@@ -1,4 +1,4 @@
-//! A file with the texts of its items.
+//! A file with the texts of its items, and edits of it.
 ghost use Rattle.std.specs.Prelude.{◌≡◌, ◌≤◌, ◌<◌, Some, length, map, slice_get, IfErr, IfOk};
 ghost use Rattle.lay_code.specs.Out.{out};
 ghost use Rattle.lay_files.specs.Readings.{ReadsOnlyTo};
@@ -14,7 +14,7 @@ use lay_files::{FileError, read_bytes};
 use lay_text::{FormatError, List, NoMemory, Text};
 use std::alloc::Global;
 
-/// A file with the text of what stands before its items, and that of each item.
+/// A file with the text of its beginning, and the text of each item.
 #[derive(Drop)]
 pub struct Items {
     alloc: Global,
@@ -26,7 +26,7 @@ pub struct Items {
 }
 
 impl Items {
-    /// The file that the bytes read to.
+    /// Parses the bytes as a file, and lays it out.
     pub fn from_bytes(alloc: Global, bytes: &[u8]) -> Result<Items, FormatError>
         ensures read { IfOk result (λ items. ReadsOnlyTo bytes.now items.file) }
         ensures unread { IfErr result (λ why. IsUnread bytes.now why) }
@@ -41,7 +41,7 @@ impl Items {
         }
     }
 
-    /// A file with the texts of its parts.
+    /// The file with the texts of its parts.
     #[tactic(auto, using(crate::proofs::KeptLemmas::kept))]
     fn from_file(alloc: Global, file: File) -> Result<Items, NoMemory>
         ensures { IfOk result (λ items. items.file ≡ file) }
@@ -71,14 +71,15 @@ impl Items {
         self.file.items.as_slice().len()
     }
 
-    /// The text of what stands before the items: of the first line, if it is a shebang, and of the inner attributes.
+    /// The text of the beginning of the file: its shebang line, if it has one, and its inner
+    /// attributes.
     pub fn head(&self) -> &[u8]
         ensures { result.now ≡ head_text self.now.file }
     {
         self.head.as_bytes()
     }
 
-    /// The text of an item.
+    /// The text of the item with this index.
     pub fn output(&self, index: usize) -> &[u8]
         requires { index < length self.now.file.items }
         ensures { slice_get (map item_text self.now.file.items) index ≡ Some result.now }
@@ -86,7 +87,7 @@ impl Items {
         self.outputs.as_slice()[index].as_bytes()
     }
 
-    /// The text of the file: that of what stands before the items and then that of each item, in order.
+    /// The text of the file: that of its beginning, and then that of each item, in order.
     pub fn whole(&self) -> Result<Text, NoMemory>
         ensures { IfOk result (λ text. text ≡ out self.now.file) }
     {
@@ -95,7 +96,7 @@ impl Items {
         Ok(whole)
     }
 
-    /// Puts the one item of a text in at a place.
+    /// Inserts the item that a text spells, so that it has this index. An error changes nothing.
     pub fn insert(&mut self, index: usize, text: &[u8]) -> Result<(), EditError>
         requires { index ≤ length self.old.file.items }
         ensures { Inserts self.old.file index text.now result self.new.file }
@@ -110,7 +111,7 @@ impl Items {
         }
     }
 
-    /// Puts the one item of a text in the place of another.
+    /// Replaces the item with this index by the one that a text spells. An error changes nothing.
     pub fn replace(&mut self, index: usize, text: &[u8]) -> Result<(), EditError>
         requires { index < length self.old.file.items }
         ensures { Replaces self.old.file index text.now result self.new.file }
@@ -123,7 +124,7 @@ impl Items {
         Ok(())
     }
 
-    /// Takes an item out. It takes no memory.
+    /// Removes the item with this index. It doesn't allocate.
     pub fn remove(&mut self, index: usize)
         requires { index < length self.old.file.items }
         ensures { self.new.file ≡ without_item self.old.file index }

@@ -18,7 +18,7 @@ use lay_text::{List, NoMemory, Text};
 use std::alloc::Global;
 use std::mem;
 
-/// The text of what stands before the items of a file. The file is as it was.
+/// The text of the beginning of a file. The file is unchanged afterwards.
 pub(crate) fn head_of(alloc: Global, file: &mut File) -> Result<Text, NoMemory>
     ensures same { file.new ≡ file.old }
     ensures head { IfOk result (λ head. head ≡ head_text file.old) }
@@ -47,12 +47,12 @@ pub(crate) fn output_of(alloc: Global, item: &Item) -> Result<Text, NoMemory>
     let mut keeper = Keeper::new(alloc);
     match write_alone(alloc, item, &mut keeper) {
         Ok(()) => Text::from_bytes(alloc, keeper.into_list().as_slice()),
-        // A keeper fails for want of memory alone.
+        // A `Keeper` fails only if memory is out.
         Err(PrintError::WriteFailed | PrintError::NoMemory) => Err(NoMemory),
     }
 }
 
-/// Writes the text of a file with this item alone.
+/// Writes the text of a file with only this item.
 fn write_alone<K: Sink>(alloc: Global, item: &Item, out: &mut K) -> Result<(), PrintError>
     ensures { OnOk result (GrewBy (K.written out.old) (K.written out.new)
         (text_of_file (alone item.now))) }
@@ -66,7 +66,7 @@ fn write_alone<K: Sink>(alloc: Global, item: &Item, out: &mut K) -> Result<(), P
     press.finish()
 }
 
-/// Feeds the layout of a file with this item alone.
+/// Emits the layout of a file with only this item.
 fn put_alone<E: Emit>(out: &mut E, item: &Item) -> Result<(), E::Fault>
     ensures { Did E.meanings out.old (stream (layout_of_file (alone item.now))) result out.new }
 {
@@ -74,7 +74,7 @@ fn put_alone<E: Emit>(out: &mut E, item: &Item) -> Result<(), E::Fault>
     out.brk(HARD_BREAK)
 }
 
-/// Adds texts at the end of another.
+/// Appends texts to another.
 pub(crate) fn push_all(text: &mut Text, parts: &[Text]) -> Result<(), NoMemory>
     ensures { OnOk result (text.new ≡ text.old ++ concat parts.now) }
 {

@@ -1,4 +1,4 @@
-//! The one item of a text.
+//! Parsing of a text as one item.
 ghost use Rattle.lay_items.specs.Edits.{IsOneItem, IsOnly};
 
 use crate::printing::output_of;
@@ -7,10 +7,10 @@ use lay_files::{FileError, read_bytes};
 use lay_text::{NoMemory, Refusal, Text};
 use std::alloc::Global;
 
-/// How many of what a file holds.
+/// How many of each kind of part a file has.
 #[derive(Clone, Copy, Debug, PartialEq, Eq)]
 pub struct Shape {
-    /// Whether its first line is a shebang.
+    /// Whether it has a shebang line.
     pub shebang: bool,
     /// How many inner attributes it has.
     pub attrs: usize,
@@ -18,14 +18,14 @@ pub struct Shape {
     pub items: usize,
 }
 
-/// Why an edit isn't made. All is as it was.
+/// Why an edit failed. Nothing was changed.
 #[derive(Clone, Copy, Debug, PartialEq, Eq)]
 pub enum EditError {
-    /// The text is refused.
+    /// The text has a syntax error.
     Refused(Refusal),
-    /// The text reads to a file of this shape, which isn't one item alone.
+    /// The text is a file of this shape, and not exactly one item.
     NotOneItem(Shape),
-    /// Memory was not found.
+    /// Memory could not be allocated.
     NoMemory,
 }
 
@@ -36,7 +36,7 @@ pub(crate) struct Laid {
     pub(crate) output: Text,
 }
 
-/// The one item that a text is, laid out.
+/// Parses a text as one item, and lays it out.
 pub(crate) fn one_item(alloc: Global, text: &[u8]) -> Result<Laid, EditError>
     ensures { IsOneItem text.now result }
 {
@@ -55,7 +55,7 @@ pub(crate) fn one_item(alloc: Global, text: &[u8]) -> Result<Laid, EditError>
     }
 }
 
-/// The one item of a file that holds nothing else, or its shape.
+/// The item of a file that holds nothing else; otherwise the file's shape.
 fn only(file: File) -> Result<Item, Shape>
     ensures { IsOnly file result }
 {

@@ -1,4 +1,4 @@
-//! Files, and the bodies of modules.
+//! The layout of files and of the bodies of modules, window by window.
 ghost use Rattle.std.specs.Prelude.{◌≡◌, IfOk, IsUtf8, OnOk};
 ghost use Rattle.std.specs.Str.{IsCharBoundary};
 ghost use Rattle.lay_files.specs.windows.Windows.{IsWindow};
@@ -13,9 +13,10 @@ use lay_lex::{Source, Stop};
 use lay_stream::Emit;
 use std::alloc::Global;
 
-/// Feeds the layout of the file that the tokens of the text spell, without its shebang, where it is read by windows.
+/// Emits the layout of the file that the tokens of the text spell, without its shebang line, if the
+/// file can be read window by window.
 ///
-/// The items of the file stand at the depth, and those within another item one lower.
+/// The items of the file fit in `depth` levels, and items within an item in one fewer.
 pub fn put_source<E: Emit>(
     alloc: Global,
     source: &Source,
@@ -37,9 +38,9 @@ pub fn put_source<E: Emit>(
     }
 }
 
-/// Feeds inner attributes and items from a place on, where the first window stands, up to the end of the text, or after the
-/// closing brace of the module that they stand in: whether they end in that. Within a module each has a newline before it, and
-/// else after it.
+/// Emits inner attributes and items from a byte offset on, where the first window begins, to the
+/// end of the text, or past the closing brace of the module that they are in. Says whether they end
+/// in that brace. Inside a module each has a newline before it, else after it.
 #[cycle(body)]
 #[inline(never)]
 fn put_body<E: Emit>(
@@ -76,7 +77,7 @@ fn put_body<E: Emit>(
     Err(NotPut::NoReading)
 }
 
-/// Feeds a module of this head, whose body stands from a place on, up to after its closing brace.
+/// Emits the module with this head, whose body begins at a byte offset, past its closing brace.
 #[cycle(body)]
 fn put_module<E: Emit>(
     alloc: Global,
@@ -105,7 +106,7 @@ fn put_module<E: Emit>(
     }
 }
 
-/// The window at a place.
+/// The window that begins at a byte offset.
 fn window_at<F>(alloc: Global, text: &str, place: usize) -> Result<Window, NotPut<F>>
     requires text { IsUtf8 text.now }
     requires border { IsCharBoundary text.now place }
@@ -117,7 +118,7 @@ fn window_at<F>(alloc: Global, text: &str, place: usize) -> Result<Window, NotPu
     }
 }
 
-/// Whether the window is the closing brace of a module alone, so that nothing stands in the module.
+/// Whether the window is only the closing brace of a module, so the module is empty.
 fn is_empty_body(window: &Window) -> bool
     ensures { result ≡ is_empty_body window.now.nested window.now.stop }
 {

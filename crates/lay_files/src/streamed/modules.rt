@@ -1,4 +1,4 @@
-//! What stands around the body of a module.
+//! The layout around the body of a module.
 ghost use Rattle.std.specs.Prelude.{◌<◌};
 ghost use Rattle.lay_stream.specs.Fed.{Did};
 ghost use Rattle.lay_files.specs.streamed.Through.{closing, empty_module, module_begun, module_row, opening};
@@ -12,7 +12,7 @@ use lay_out_types::calls::{add_text, add_word};
 use lay_out_types::lists::add_end;
 use lay_stream::Emit;
 
-/// Opens a module that holds something, with a newline before it within another.
+/// Opens a module that isn't empty, with a newline before it inside another one.
 pub fn open<E: Emit>(out: &mut E, within: bool, head: &Head) -> Result<(), E::Fault>
     ensures { Did E.meanings out.old (opening within head.now) result out.new }
 {
@@ -20,7 +20,7 @@ pub fn open<E: Emit>(out: &mut E, within: bool, head: &Head) -> Result<(), E::Fa
     open_body(out, Ok(()), true)
 }
 
-/// Closes a module that holds something, with a newline after it where it stands in none.
+/// Closes a module that isn't empty, with a newline after it outside modules.
 pub fn close<E: Emit>(out: &mut E, within: bool) -> Result<(), E::Fault>
     requires { 0 < E.meanings.groups out.old }
     ensures { Did E.meanings out.old (closing within) result out.new }
@@ -29,7 +29,7 @@ pub fn close<E: Emit>(out: &mut E, within: bool) -> Result<(), E::Fault>
     put_line_behind(out, within)
 }
 
-/// A module that holds nothing.
+/// Emits an empty module.
 pub fn put_empty<E: Emit>(out: &mut E, within: bool, head: &Head) -> Result<(), E::Fault>
     ensures { Did E.meanings out.old (empty_module within head.now) result out.new }
 {
@@ -38,7 +38,7 @@ pub fn put_empty<E: Emit>(out: &mut E, within: bool, head: &Head) -> Result<(), 
     put_line_behind(out, within)
 }
 
-/// The head of a module, on a line of its own within another.
+/// Emits the head of a module, on a line of its own inside another one.
 fn put_head<E: Emit>(out: &mut E, within: bool, head: &Head) -> Result<(), E::Fault>
     ensures { Did E.meanings out.old (module_begun within head.now) result out.new }
 {
@@ -46,7 +46,7 @@ fn put_head<E: Emit>(out: &mut E, within: bool, head: &Head) -> Result<(), E::Fa
     put_module_head(out, head)
 }
 
-/// The head of a module, with its attributes, each with a newline after it.
+/// Emits the head of a module, with its attributes, each with a newline after it.
 fn put_module_head<E: Emit>(out: &mut E, head: &Head) -> Result<(), E::Fault>
     ensures { Did E.meanings out.old (module_row head.now) result out.new }
 {

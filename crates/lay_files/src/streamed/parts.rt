@@ -1,4 +1,4 @@
-//! The parts of a file or of a module that stand in a window.
+//! The layout of the parts of a file or of a module that are in a window.
 ghost use Rattle.std.specs.Prelude.{IfOk, OnOk};
 ghost use Rattle.lay_read_tokens.specs.Answers.{AreLexed};
 ghost use Rattle.lay_files.specs.streamed.Through.{PutsAttrs, PutsInner, PutsItems, PutsParts};
@@ -13,8 +13,9 @@ use lay_read_tokens::{ReadNone, read_attr};
 use lay_stream::Emit;
 use std::alloc::Global;
 
-/// Feeds the inner attributes and the items that the tokens are, all but the head of a module at their end, if one stands
-/// there. The flag says whether items were fed before, after which no inner attribute stands, and then whether any were.
+/// Parses the tokens of a window as inner attributes and items, and emits these. If the head of a
+/// module is at the end, it isn't emitted. The flag says whether items were emitted before, after
+/// which no inner attribute may stand; the result says so for what follows.
 pub fn put_parts<E: Emit>(
     alloc: Global,
     nested: &Nested,
@@ -41,7 +42,7 @@ pub fn put_parts<E: Emit>(
     }
 }
 
-/// Feeds inner attributes, as long as one is read, where no items were fed before.
+/// Parses inner attributes and emits them, as many as there are, if no items were emitted before.
 fn put_inner<E: Emit>(
     alloc: Global,
     at: &mut Cursor<'_>,
@@ -59,7 +60,7 @@ fn put_inner<E: Emit>(
     }
 }
 
-/// Feeds inner attributes, as long as one is read.
+/// Parses inner attributes and emits them, as many as there are.
 fn put_attrs<E: Emit>(
     alloc: Global,
     at: &mut Cursor<'_>,
@@ -79,7 +80,7 @@ fn put_attrs<E: Emit>(
     Ok(())
 }
 
-/// Feeds items, as long as one is read. Each is given back before the next one is read.
+/// Parses items and emits them, as many as there are. Each is dropped before the next one is read.
 fn put_items<E: Emit>(
     alloc: Global,
     at: &mut Cursor<'_>,

@@ -1,4 +1,4 @@
-//! Files, and the bodies of modules.
+//! Parsing of files and of the bodies of modules, window by window.
 ghost use Rattle.std.specs.Prelude.{◌≡◌, IfOk, IsUtf8, [], None};
 ghost use Rattle.std.specs.Str.{IsCharBoundary};
 ghost use Rattle.lay_files.specs.windows.Bodies.{BodyAs, FileAs, IsEmpty};
@@ -14,9 +14,9 @@ use lay_read_tokens::stop::{boxed, keep};
 use lay_token::List;
 use std::alloc::Global;
 
-/// The file that the tokens of the text spell, without its shebang, where it is read by windows.
+/// Parses the text as a file, without its shebang line, if the file can be read window by window.
 ///
-/// The items of the file stand at the depth, and those within another item one lower.
+/// The items of the file fit in `depth` levels, and items within an item in one fewer.
 pub fn read_source(alloc: Global, source: &Source, depth: u32) -> Result<File, ReadNone>
     requires text { IsUtf8 source.now.text }
     requires border { IsCharBoundary source.now.text source.now.start }
@@ -31,7 +31,7 @@ pub fn read_source(alloc: Global, source: &Source, depth: u32) -> Result<File, R
     }
 }
 
-/// A file with nothing in it.
+/// An empty file.
 fn empty(alloc: Global) -> File
     ensures { IsEmpty result }
 {
@@ -42,8 +42,8 @@ fn empty(alloc: Global) -> File
     }
 }
 
-/// Inner attributes and items from a place on, up to the end of the text, or after the closing brace of the module that
-/// they stand in: whether they end in that.
+/// Parses inner attributes and items from a byte offset on, to the end of the text, or past the
+/// closing brace of the module that they are in. Says whether they end in that brace.
 #[inline(never)]
 fn read_body(
     alloc: Global,
@@ -79,7 +79,7 @@ fn read_body(
     Err(ReadNone::NoReading)
 }
 
-/// The module of this head, with the attributes and the items of this body.
+/// The module with this head, and the attributes and items of this body.
 fn module(alloc: Global, head: Head, body: File) -> Result<Item, ReadNone>
     ensures { IfOk result (λ item. item ≡ module_of head body) }
 {

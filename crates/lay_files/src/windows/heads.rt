@@ -1,4 +1,4 @@
-//! Attributes, and the heads of modules.
+//! Parsing of attributes and of the heads of modules.
 ghost use Rattle.std.specs.Prelude.{◌≡◌, IfOk, OnOk};
 ghost use Rattle.lay_read_tokens.specs.Answers.{AreLexed};
 ghost use Rattle.lay_files.specs.windows.Parts.{AddsAttrs, IsHead, IsModuleName};
@@ -13,7 +13,7 @@ use lay_read_tokens::{Ahead, ReadNone, read_attr};
 use lay_token::List;
 use std::alloc::Global;
 
-/// What stands before the braces of a module.
+/// The head of a module: everything before its `{`.
 #[derive(Drop)]
 pub struct Head {
     /// Outer attributes.
@@ -22,7 +22,7 @@ pub struct Head {
     pub name: Name,
 }
 
-/// The head of a module, where the tokens ahead are one.
+/// Parses the head of a module, if all tokens ahead are one.
 pub fn read_head(alloc: Global, at: &mut Cursor<'_>) -> Result<Head, ReadNone>
     requires { AreLexed at.old }
     ensures { IfOk result (λ head. IsHead head at.old) }
@@ -34,7 +34,7 @@ pub fn read_head(alloc: Global, at: &mut Cursor<'_>) -> Result<Head, ReadNone>
     Ok(Head { attrs, vis, name })
 }
 
-/// `mod` and a name, where the tokens ahead are these two.
+/// Parses `mod` and a name, if the tokens ahead are these two.
 fn read_module_name(alloc: Global, at: &Cursor<'_>) -> Result<Name, ReadNone>
     requires { AreLexed at.now }
     ensures { IfOk result (λ name. IsModuleName name at.now) }
@@ -51,7 +51,7 @@ fn read_module_name(alloc: Global, at: &Cursor<'_>) -> Result<Name, ReadNone>
     }
 }
 
-/// Adds attributes, as long as one is read.
+/// Parses attributes and appends them, as many as there are.
 pub fn add_attrs(
     alloc: Global,
     at: &mut Cursor<'_>,

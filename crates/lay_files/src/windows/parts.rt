@@ -1,4 +1,4 @@
-//! The parts of a file or of a module that stand in a window.
+//! Parsing of the parts of a file or of a module that are in a window.
 ghost use Rattle.std.specs.Prelude.{◌≡◌, OnOk};
 ghost use Rattle.lay_read_tokens.specs.Answers.{AreLexed};
 ghost use Rattle.lay_files.specs.windows.Parts.{AddsInner, AddsItems, PartsAs};
@@ -12,8 +12,8 @@ use lay_read_tokens::stop::keep;
 use lay_token::List;
 use std::alloc::Global;
 
-/// Adds the inner attributes and the items that the tokens are, all but the head of a module at their end, if one stands
-/// there.
+/// Parses the tokens of a window as inner attributes and items, and appends these. If the head of a
+/// module is at the end, it isn't read.
 pub fn read_parts(
     alloc: Global,
     nested: &Nested,
@@ -39,7 +39,7 @@ pub fn read_parts(
     }
 }
 
-/// Adds inner attributes, as long as one is read, where they may stand.
+/// Parses inner attributes and appends them, as many as there are, if they may stand here.
 fn add_inner(
     alloc: Global,
     at: &mut Cursor<'_>,
@@ -56,7 +56,7 @@ fn add_inner(
     }
 }
 
-/// Adds items, as long as one is read.
+/// Parses items and appends them, as many as there are.
 fn add_items(
     alloc: Global,
     at: &mut Cursor<'_>,

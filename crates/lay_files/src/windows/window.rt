@@ -9,20 +9,20 @@ use lay_read_tokens::ReadNone;
 use lay_token::{Delim, FormatError, Kind, List, Token};
 use std::alloc::Global;
 
-/// A window has so many tokens at least, if an item ends after them.
+/// The least number of tokens in a window, if an item ends after them.
 const LEAST: usize = 4096;
 
-/// Some of the tokens of a text.
+/// Consecutive tokens of a text, with balanced delimiters.
 #[derive(Drop)]
 pub struct Window {
-    /// The tokens, without the brace after which they end.
+    /// The tokens, without a brace of a module that ends the window.
     pub nested: Nested,
     pub stop: Stop,
-    /// Where the text goes on, after the brace.
+    /// The byte offset where the text goes on, after that brace.
     pub end: usize,
 }
 
-/// The tokens of the text from this place on.
+/// Lexes the window that begins at this byte offset.
 pub fn read_window(alloc: Global, text: &str, place: usize) -> Result<Window, ReadNone>
     requires text { IsUtf8 text.now }
     requires border { IsCharBoundary text.now place }
@@ -40,7 +40,7 @@ pub fn read_window(alloc: Global, text: &str, place: usize) -> Result<Window, Re
     }
 }
 
-/// The tokens without the brace after which they end, if they end after one.
+/// The tokens without the brace of a module that ends the window, if one does.
 fn without_brace(tokens: List<Token>, stop: Stop) -> Result<List<Token>, ReadNone>
     ensures { IfOk result (λ rest. Unbraced stop tokens rest) }
 {
@@ -56,7 +56,7 @@ fn without_brace(tokens: List<Token>, stop: Stop) -> Result<List<Token>, ReadNon
     }
 }
 
-/// Whether the token is the brace after which tokens end so.
+/// Whether the token is the brace that ends a window that stops so.
 fn is_brace(token: &Token, stop: Stop) -> bool
     ensures { IsTrue result → IsBrace stop token.now }
 {
@@ -67,7 +67,7 @@ fn is_brace(token: &Token, stop: Stop) -> bool
     }
 }
 
-/// Why nothing is read.
+/// The error of a reader for this error of the lexer.
 fn unread(error: FormatError) -> ReadNone {
     match error {
         FormatError::Refused(_) => ReadNone::NoReading,
