@@ -1,15 +1,15 @@
-//! The tokens ahead, of a list or of a text.
+//! A cursor over tokens, of a list or of a text.
 ghost use Rattle.lay_lex.specs.one_by_one.Ahead.{Tells};
 
 use lay_lex::one_by_one::{Cursor, Lexeme};
 use lay_token::Token;
 
-/// Tokens that are given one by one. It is copied to look ahead.
+/// Gives tokens one by one. It is copied to look ahead.
 #[derive(Clone, Copy, Debug)]
 pub(crate) enum Ahead<'a> {
-    /// Those of a list.
+    /// The tokens of a list.
     Tokens(&'a [Token]),
-    /// Those that a text lexes to, from a place on.
+    /// The tokens that a text lexes to, from a byte offset on.
     Text(Cursor<'a>),
 }
 
@@ -17,7 +17,7 @@ impl<'a> Ahead<'a> {
     ghost use Rattle.lay_lex.specs.one_by_one.Ahead.{IsNext};
     ghost use Rattle.lay_map.specs.Ahead.{tokens_of};
 
-    /// Goes past the next token and tells it; or nothing, where there is none.
+    /// Gives the next token and moves past it; `None` if there is none.
     #[inline(always)]
     pub(crate) fn next(&mut self) -> Option<Lexeme<'a>>
         ensures { IsNext (tokens_of self.old) result (tokens_of self.new) }
@@ -38,7 +38,7 @@ impl<'a> Ahead<'a> {
     }
 }
 
-/// A token, lent.
+/// The token, with its text borrowed.
 fn lent(token: &Token) -> Lexeme<'_>
     ensures { Tells result token.now }
 {

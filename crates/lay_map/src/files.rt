@@ -18,11 +18,12 @@ use lay_out_code::put_file;
 use lay_text::{List, NoMemory};
 use std::alloc::Global;
 
-/// Where the units of the tokens stand that spell the file, in their order: each token that says something of it, and the tokens of one
-/// documentation together. A mark that the grammar lets stand or not is in none.
+/// The units of the tokens, which spell the file, in order: each token that matters, and the tokens
+/// of one documentation together. Punctuation that the grammar allows but doesn't require is in no
+/// unit.
 ///
-/// The tokens are those that some text lexes to. There is no room, as where memory is wanting, for a unit that begins after 2^32 bytes or is
-/// as long.
+/// The tokens are those that some text lexes to. If a unit begins after 2^32 bytes, or is as long,
+/// the error is `NoMemory`.
 pub fn units(alloc: Global, file: &File, nested: &Nested) -> Result<List<Unit>, NoMemory>
     requires lexed { AreLexed nested.now }
     requires spells { SpellsFile top file.now nested.now }
@@ -33,8 +34,8 @@ pub fn units(alloc: Global, file: &File, nested: &Nested) -> Result<List<Unit>, 
     units_of_spans(alloc, spans.as_slice())
 }
 
-/// The same of a text, from a place on: where the units of the tokens stand that it lexes to. No list of these tokens is made, and each place
-/// is kept in 8 bytes.
+/// The units of the tokens of a text, lexed from the byte offset `start` on. No list of these
+/// tokens is made, and each unit is kept in 8 bytes.
 pub fn units_of_text(
     alloc: Global,
     file: &File,
@@ -50,7 +51,7 @@ pub fn units_of_text(
     found(alloc, file, Ahead::Text(Cursor::new(text, start)))
 }
 
-/// Where the units of these tokens stand.
+/// The units of these tokens.
 fn found(alloc: Global, file: &File, tokens: Ahead<'_>) -> Result<List<Span>, NoMemory>
     requires lexed { AreLexed (tokens_of tokens) }
     requires spells { SpellsFile top file.now (tokens_of tokens) }

@@ -6,7 +6,7 @@ use lay_text::NoMemory;
 use std::alloc::Global;
 use std::marker::Model;
 
-/// A stack of flags, seen with the last one first.
+/// A stack of flags. Contracts see it with the last one first.
 #[derive(Drop)]
 pub(crate) struct Flags {
     items: Vec<bool>,
@@ -21,7 +21,7 @@ impl Model for Flags {
 }
 
 impl Flags {
-    /// No flag. It takes no memory.
+    /// The empty stack. It doesn't allocate.
     pub(crate) fn new(alloc: Global) -> Flags
         ensures { result ≡ [] }
     {
@@ -39,14 +39,14 @@ impl Flags {
         }
     }
 
-    /// Takes the last flag away, if there is one.
+    /// Pops the last flag, if there is one.
     pub(crate) fn pop(&mut self)
         ensures { self.new ≡ under self.old }
     {
         let _ = self.items.pop();
     }
 
-    /// The last flag, or `false` where there is none.
+    /// The last flag, or `false` if there is none.
     pub(crate) fn top(&self) -> bool
         ensures { result ≡ top self.now }
     {

@@ -1,4 +1,4 @@
-//! The laws of the map.
+//! The theorems about the map. (No code runs.)
 ghost use Rattle.std.specs.Prelude.{◌≡◌, Bool, ℕ, List, [], false, length, map, true};
 ghost use Rattle.lay_code.specs.Reading.{top};
 ghost use Rattle.lay_code.specs.Written.{Written};
@@ -16,8 +16,8 @@ ghost use Rattle.lay_map.specs.Flow.{At, Still, flow};
 ghost use Rattle.lay_map.specs.Marking.{begun, fed_all, units_of};
 ghost use Rattle.lay_map.specs.Places.{place_of};
 
-/// Where a form is clear, and its layout tells which of its commas are words, the units of tokens that spell it are those that are found by
-/// the stream of its layout.
+/// If a form is `clear`, and its layout tells which of its commas count, then matching the tokens
+/// against the layout's stream finds exactly the form's units.
 pub fn found_law()
     ensures { (f : Form) (depth : ℕ) (ts : List Token) (arrow : Bool) → AreSingle ts
         → clear f [] true ≡ true → is_level (words f) ≡ true
@@ -26,7 +26,8 @@ pub fn found_law()
         → units_of (fed_all (stream_of f) (begun ts false)) ≡ map place_of (units f depth ts [] s) }
 {}
 
-/// Two lists of tokens that spell one file have as many units, which say the same. One list that spells a file in two ways has them at the same places.
+/// Two lists of tokens that spell the same file have equally many units, which say the same. If one
+/// list spells a file in two ways, its units are at the same places.
 pub fn map_law()
     ensures said { (file : File) (ts us : List Token) → AreLexed ts → AreLexed us
         → (s : Spells (form_of_file file) top ts []) → (z : Spells (form_of_file file) top us [])

@@ -1,4 +1,4 @@
-//! What takes the tokens of a layout and finds the units of a text by them.
+//! The `Emit` that finds the units of a text from a layout.
 ghost use Rattle.std.specs.Prelude.{◌≡◌, ◌<◌, [], ◌∷◌, IfOk, OnErr, OnOk, length, true, false};
 ghost use Rattle.lay_layout.specs.declared.layout.Tok.TheVariants as tok;
 ghost use Rattle.lay_stream.specs.Fed.{Did};
@@ -15,15 +15,15 @@ use lay_text::{List, NoMemory};
 use std::alloc::Global;
 use std::marker::Model;
 
-/// Finds the units of tokens by the layout of what they spell, which it is fed.
+/// Finds the units of tokens from the layout of the node that they spell, which it is fed.
 #[derive(Drop)]
 pub(crate) struct Marker<'a> {
     /// All the tokens.
     tokens: Ahead<'a>,
-    /// The first line is that of a shebang.
+    /// Whether the first line is a shebang line.
     shebang: bool,
     marking: Marking<'a>,
-    /// A call has failed.
+    /// Whether a call has failed.
     failed: bool,
 }
 
@@ -37,7 +37,7 @@ impl<'a> Model for Marker<'a> {
 }
 
 impl<'a> Marker<'a> {
-    /// Nothing was fed. The flag says that the first line is that of a shebang.
+    /// A marker that was fed nothing. `shebang` says that the first line is a shebang line.
     pub(crate) fn new(alloc: Global, tokens: Ahead<'a>, shebang: bool) -> Marker<'a>
         ensures { result ≡ record { tokens = tokens_of tokens.entry; shebang = shebang; state = begun (tokens_of tokens.entry) shebang; failed = false } }
     {
@@ -49,7 +49,7 @@ impl<'a> Marker<'a> {
         }
     }
 
-    /// The units, where nothing more is fed.
+    /// The units that were found: nothing more is fed.
     pub(crate) fn into_units(self) -> Result<List<Span>, NoMemory>
         ensures { IfOk result (λ units. units ≡ units_of self.entry.state) }
     {
@@ -62,7 +62,7 @@ impl<'a> Marker<'a> {
         marking.into_units()
     }
 
-    /// Keeps whether a call has failed.
+    /// Notes whether a call has failed, and gives its result back.
     fn answer(&mut self, given: Result<(), NoMemory>) -> Result<(), NoMemory>
         ensures same { result ≡ given }
         ensures ok { OnOk result (self.new ≡ self.old) }

@@ -1,4 +1,4 @@
-//! What the tokens of a layout tell of the tokens of a text.
+//! Matching of the tokens of a text against the tokens of a layout.
 ghost use Rattle.std.specs.Prelude.{◌≡◌, ◌∷◌, [], cond, drop, not, ◌==◌, IfOk, OnOk, true};
 ghost use Rattle.lay_map.specs.Ahead.{tokens_of};
 ghost use Rattle.lay_map.specs.Marking.{BeginsWord, begun, behind_line, broken, comma_settled, documented, first_ahead, group_begun, group_ended};
@@ -13,40 +13,40 @@ use lay_text::{List, NoMemory};
 use std::alloc::Global;
 use std::marker::Model;
 
-/// Where a layout is in documentation.
+/// Where in documentation the layout is.
 #[derive(Clone, Copy, Debug, PartialEq, Eq)]
 pub(crate) enum Within {
-    /// In none.
+    /// Outside documentation.
     Code,
-    /// In documentation on a line, or in the first line of a file, up to the next break.
+    /// In a line comment, or in the shebang line, up to the next break.
     Line,
-    /// The text of documentation in a block comes next.
+    /// Before the text of a block comment.
     Block,
-    /// The end of such a block comes next.
+    /// Before the end of a block comment.
     End,
 }
 
-/// What begins documentation.
+/// The beginning of documentation.
 #[derive(Clone, Copy, Debug, PartialEq, Eq)]
 pub(crate) struct Opening {
-    /// It is that of what it stands in.
+    /// Whether it documents the item that it stands in.
     inner: bool,
-    /// It is a block.
+    /// Whether it is a block comment.
     block: bool,
 }
 
-/// A walk over tokens, and what was fed that isn't decided yet.
+/// The walk over the tokens, and the pending part of the layout.
 #[derive(Drop)]
 pub(crate) struct Marking<'a> {
     walk: Walk<'a>,
-    /// How many opening braces were fed in a row; the next word decides which ones they are.
+    /// The number of `{` that were fed in a row. The next word decides which of them are words.
     row: usize,
-    /// A text `,` was fed last; the next call decides whether it is a word.
+    /// Whether a text `,` was fed last. The next call decides whether it is a word.
     comma: bool,
     within: Within,
-    /// The arrow of an arm was fed in the group that is open.
+    /// Whether the `=>` of an arm was fed in the open group.
     arrow: bool,
-    /// The same of each group around it.
+    /// The same flag for each group around it.
     outer: Flags,
 }
 
@@ -59,7 +59,8 @@ impl<'a> Model for Marking<'a> {
 }
 
 impl<'a> Marking<'a> {
-    /// Nothing was fed. The flag says that the first line is that of a shebang, which has no tokens.
+    /// The state before anything is fed. `shebang` says that the first line is a shebang line,
+    /// which has no tokens.
     pub(crate) fn new(alloc: Global, ahead: Ahead<'a>, shebang: bool) -> Marking<'a>
         ensures { result ≡ begun (tokens_of ahead.entry) shebang }
     {
@@ -73,7 +74,7 @@ impl<'a> Marking<'a> {
         }
     }
 
-    /// A text.
+    /// Takes a text.
     pub(crate) fn text(&mut self, text: &[u8]) -> Result<(), NoMemory>
         ensures { OnOk result (self.new ≡ text_within self.old.within text.now self.old) }
     {
@@ -94,7 +95,7 @@ impl<'a> Marking<'a> {
         }
     }
 
-    /// A break.
+    /// Takes a break.
     pub(crate) fn brk(&mut self, token: Break) -> Result<(), NoMemory>
         ensures { OnOk result (self.new ≡ broken token self.old) }
     {
@@ -103,7 +104,7 @@ impl<'a> Marking<'a> {
         self.settle_comma()
     }
 
-    /// The beginning of a group.
+    /// Takes the begin of a group.
     pub(crate) fn begin(&mut self) -> Result<(), NoMemory>
         ensures { OnOk result (self.new ≡ group_begun self.old) }
     {
@@ -113,7 +114,7 @@ impl<'a> Marking<'a> {
         Ok(())
     }
 
-    /// The end of a group.
+    /// Takes the end of a group.
     pub(crate) fn end(&mut self) -> Result<(), NoMemory>
         ensures { OnOk result (self.new ≡ group_ended self.old) }
     {
@@ -123,7 +124,7 @@ impl<'a> Marking<'a> {
         Ok(())
     }
 
-    /// The units that were found, where nothing more is fed.
+    /// The units that were found: nothing more is fed.
     pub(crate) fn into_units(self) -> Result<List<Span>, NoMemory>
         ensures { IfOk result (λ units. units ≡ units_of self.entry) }
     {
@@ -141,7 +142,7 @@ impl<'a> Marking<'a> {
         Ok(walk.into_units())
     }
 
-    /// Takes the `,` that waits, if one does, as a word.
+    /// Settles the pending `,`, if there is one, as a word.
     fn settle_comma(&mut self) -> Result<(), NoMemory>
         ensures { OnOk result (self.new ≡ comma_settled self.old) }
     {
@@ -152,7 +153,8 @@ impl<'a> Marking<'a> {
         Ok(())
     }
 
-    /// Takes the opening braces that wait, before a word that isn't `;`, or that is.
+    /// Settles the pending `{`s before the next word. `loose`: that word isn't a `;`, so `;` may
+    /// stand between them.
     #[inline(always)]
     fn settle(&mut self, loose: bool) -> Result<(), NoMemory>
         ensures { OnOk result (self.new ≡ settled loose self.old) }
@@ -165,7 +167,8 @@ impl<'a> Marking<'a> {
         self.walk.place(row, loose)
     }
 
-    /// Takes the token of a word that begins with this byte: how many bytes it has.
+    /// Takes the token of a word that begins with this byte, and gives the length of its text in
+    /// bytes.
     fn word(&mut self, byte: u8) -> Result<usize, NoMemory>
         ensures word { OnOk result (self.new ≡ worded byte self.old) }
         ensures length { IfOk result (λ length. length ≡ first_ahead byte self.old) }
@@ -174,7 +177,7 @@ impl<'a> Marking<'a> {
         self.walk.word(byte)
     }
 
-    /// A text that isn't within documentation.
+    /// Takes a text outside documentation.
     fn read(&mut self, text: &[u8]) -> Result<(), NoMemory>
         ensures { OnOk result (self.new ≡ read text.now self.old) }
     {
@@ -184,7 +187,7 @@ impl<'a> Marking<'a> {
         }
     }
 
-    /// A text that isn't of documentation.
+    /// Takes a text that isn't documentation.
     fn read_code(&mut self, text: &[u8]) -> Result<(), NoMemory>
         ensures { OnOk result (self.new ≡ read_code text.now self.old) }
     {
@@ -215,7 +218,7 @@ impl<'a> Marking<'a> {
         Ok(())
     }
 
-    /// The words of a text, with blanks between them or without.
+    /// Takes the words of a text, with or without blanks between them.
     fn words(&mut self, text: &[u8]) -> Result<(), NoMemory>
         ensures { OnOk result (self.new ≡ words_of 0 text.now self.old) }
     {
@@ -227,7 +230,7 @@ impl<'a> Marking<'a> {
         Ok(())
     }
 
-    /// A byte of a text, where a word may begin: how many bytes more belong to the word.
+    /// Takes the first byte of a word, and gives how many more bytes belong to the word.
     fn begin_word(&mut self, byte: u8) -> Result<usize, NoMemory>
         ensures { IfOk result (λ length. BeginsWord byte self.old length self.new) }
     {
@@ -241,7 +244,7 @@ impl<'a> Marking<'a> {
         Ok(self.word(byte)?.saturating_sub(1))
     }
 
-    /// One more opening brace waits.
+    /// Adds a pending `{`.
     fn raise(&mut self) -> Result<(), NoMemory>
         ensures { OnOk result (self.new ≡ raised self.old) }
     {
@@ -250,14 +253,14 @@ impl<'a> Marking<'a> {
     }
 }
 
-/// What follows so many bytes.
+/// The bytes without the first `count`.
 fn skip(bytes: &[u8], count: usize) -> &[u8]
     ensures { result.now ≡ drop count bytes.now }
 {
     &bytes[count.min(bytes.len())..]
 }
 
-/// Where a layout is after a break.
+/// Where in documentation the layout is after a break.
 fn behind_line(within: Within) -> Within
     ensures { result ≡ behind_line within }
 {
@@ -267,14 +270,14 @@ fn behind_line(within: Within) -> Within
     }
 }
 
-/// Whether a `,` before the break is in no unit: that after the last of several fields, or that of an arm.
+/// Whether a `,` before the break is in no unit: after the last of several fields, or after an arm.
 fn is_free(token: Break, arrow: bool) -> bool
     ensures { result ≡ is_free token arrow }
 {
     token.blank == 65535 && (token.offset < 0 || arrow)
 }
 
-/// The documentation that a text begins, if it does.
+/// The documentation that a text begins, if it begins any.
 fn opening_of(text: &[u8]) -> Option<Opening>
     ensures { result ≡ opening_of text.now }
 {

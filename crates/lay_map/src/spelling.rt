@@ -11,8 +11,9 @@ ghost use Rattle.lay_token.specs.declared.token.Token.{Token};
 ghost use Rattle.lay_map.specs.spelling.Choice.{chosen, clear, is_level};
 ghost use Rattle.lay_map.specs.spelling.Units.{AreSingle, said, units, words};
 
-/// The laws of units. What they say is told by the form, however it is spelled, so two spellings of one form have the same
-/// number of units, which say the same. Where the form is clear, the first match finds them by what they say alone.
+/// The theorem about units. (No code runs.) What units say depends on the form only, not on how it
+/// is spelled. So two spellings of a form have equally many units, which say the same. If the form
+/// is clear, they are found by searching for the first match of what they say.
 pub fn units_law()
     ensures told { (f : Form) (depth : ℕ) (ts rest : List Token) → AreSingle ts
         → (s : Spells f depth ts rest) → said (units f depth ts rest s) ≡ words f }

@@ -1,4 +1,4 @@
-//! What is told of single tokens.
+//! Facts about single tokens.
 ghost use Rattle.std.specs.Prelude.{◌≡◌, [], ◌∷◌, IfOk, drop};
 ghost use Rattle.lay_token.specs.declared.token.Token.{Token as TokenValue};
 ghost use Rattle.lay_map.specs.spelling.Choice.{alike, closes, is_doc, is_semicolon, more_doc, opens};
@@ -37,7 +37,7 @@ pub(crate) fn is_semicolon(lexeme: &Lexeme<'_>) -> bool
     }
 }
 
-/// Whether the token says what is looked for, as far as its first byte tells.
+/// Whether the token matches what is searched, as far as its first byte tells.
 #[inline(always)]
 pub(crate) fn says(sought: Sought, lexeme: &Lexeme<'_>) -> bool
     ensures { result ≡ is_said sought lexeme.now.kind lexeme.now.text.now }
@@ -65,8 +65,8 @@ fn begins(text: &[u8], byte: u8) -> bool
     }
 }
 
-/// How many tokens more documentation has that begins with a token of this kind: `#[doc = "text"]` is six tokens, and
-/// `#![doc = "text"]` seven.
+/// How many more tokens documentation has that begins with a token of this kind: `#[doc = "text"]`
+/// has six tokens, and `#![doc = "text"]` seven.
 pub(crate) fn more_doc(inner: bool, kind: Kind) -> usize
     ensures { result ≡ more_doc inner kind }
 {
@@ -79,7 +79,8 @@ pub(crate) fn more_doc(inner: bool, kind: Kind) -> usize
     }
 }
 
-/// Goes past so many tokens, as far as they are: the last of them, or else the first one.
+/// Moves past `more` tokens, or as many as there are. Gives the last of them, or `first` if there
+/// are none.
 #[inline(always)]
 pub(crate) fn last_of<'a>(first: Lexeme<'a>, ahead: &mut Ahead<'a>, more: usize) -> Lexeme<'a>
     ensures last { (t : TokenValue) → Tells first.entry t
@@ -100,7 +101,7 @@ pub(crate) fn last_of<'a>(first: Lexeme<'a>, ahead: &mut Ahead<'a>, more: usize)
     last
 }
 
-/// The unit from a token to another.
+/// The unit that reaches from a token to another.
 #[inline(always)]
 pub(crate) fn unit_from(first: &Lexeme<'_>, last: &Lexeme<'_>) -> Unit
     ensures { (t u : TokenValue) → Tells first.now t → Tells last.now u → result ≡ unit_from t u }

@@ -1,4 +1,4 @@
-//! Units and pairs of units: where they stand.
+//! Units and pairs of units, as byte ranges.
 ghost use Rattle.std.specs.Prelude.{◌≡◌, ◌++◌, ◌∷◌, [], length, IfOk, OnOk};
 ghost use Rattle.lay_map.specs.Pairs.{paired};
 
@@ -6,14 +6,15 @@ use lay_text::{List, NoMemory};
 use std::alloc::Global;
 use std::marker::Model;
 
-/// Where a unit stands: from the start of its first token to the end of its last one, in bytes of the text.
+/// The byte range of a unit in its text: from the start of its first token to the end of its last
+/// one.
 #[derive(Clone, Copy, Debug, PartialEq, Eq)]
 pub struct Unit {
     pub at: usize,
     pub len: usize,
 }
 
-/// Where a unit stands, in 8 bytes, so that all units of a large text have room beside its tree. Contracts see the unit.
+/// The byte range of a unit in 8 bytes, to save memory. Contracts see the `Unit`.
 #[derive(Debug, Drop)]
 pub struct Span {
     at: u32,
@@ -29,7 +30,7 @@ impl Model for Span {
 }
 
 impl Span {
-    /// The unit, kept. `Err` where it begins after 2^32 bytes or has as many: there is no room for it.
+    /// Packs the unit. The error, `NoMemory`, means that it begins after 2^32 bytes or is as long.
     #[inline(always)]
     pub(crate) fn new(unit: Unit) -> Result<Span, NoMemory>
         ensures { IfOk result (λ span. span ≡ unit) }
@@ -52,14 +53,14 @@ impl Span {
     }
 }
 
-/// Where what one unit says stands in the source, and where in the output.
+/// A unit of the source and the unit of the output that says the same.
 #[derive(Clone, Copy, Debug, PartialEq, Eq)]
 pub struct Pair {
     pub source: Unit,
     pub output: Unit,
 }
 
-/// Each unit of the source with the unit of the output that has the same number. There are as many of both.
+/// Pairs the units of the source and of the output by their index. There are equally many of both.
 pub fn pairs(alloc: Global, source: &[Unit], output: &[Unit]) -> Result<List<Pair>, NoMemory>
     requires { length source.now ≡ length output.now }
     ensures { IfOk result (λ list. list ≡ paired source.now output.now) }
@@ -80,7 +81,7 @@ pub fn pairs(alloc: Global, source: &[Unit], output: &[Unit]) -> Result<List<Pai
     Ok(list)
 }
 
-/// The units that are kept so.
+/// Unpacks the units.
 pub(crate) fn units_of_spans(alloc: Global, spans: &[Span]) -> Result<List<Unit>, NoMemory>
     ensures { IfOk result (λ list. list ≡ spans.now) }
 {

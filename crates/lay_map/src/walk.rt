@@ -1,4 +1,4 @@
-//! A walk over tokens, which finds the first one that begins as a word does.
+//! A walk over tokens that searches the next token of a word.
 ghost use Rattle.std.specs.Prelude.{◌≡◌, ◌+◌, ◌++◌, ◌∷◌, [], IfOk, OnOk};
 ghost use Rattle.lay_token.specs.declared.token.Token.{Token as TokenValue};
 ghost use Rattle.lay_map.specs.spelling.Choice.{behind_token, openers};
@@ -17,7 +17,7 @@ use lay_token::Kind;
 use std::alloc::Global;
 use std::marker::Model;
 
-/// What is looked for.
+/// What is searched.
 #[derive(Clone, Copy, Debug)]
 pub(crate) enum Sought {
     /// A token whose text begins with this byte.
@@ -26,11 +26,11 @@ pub(crate) enum Sought {
     Docs,
 }
 
-/// A place in the tokens, and what was found before it.
+/// A place in the tokens, and the units that were found before it.
 #[derive(Drop)]
 pub(crate) struct Walk<'a> {
     ahead: Ahead<'a>,
-    /// Of each brace that is open, whether it is in a unit.
+    /// For each open brace, whether it is in a unit.
     braces: Flags,
     units: List<Span>,
 }
@@ -56,8 +56,8 @@ impl<'a> Walk<'a> {
         }
     }
 
-    /// Takes the first token whose text begins with this byte as a unit: how many bytes its text has. The tokens before it are in no
-    /// unit.
+    /// Takes the next token whose text begins with this byte as a unit, and gives the length of its
+    /// text in bytes. The tokens before it are in no unit.
     pub(crate) fn word(&mut self, byte: u8) -> Result<usize, NoMemory>
         ensures word { OnOk result (self.new ≡ taken_from 0
             (sought_from (Sought.First byte) self.old)) }
@@ -80,7 +80,7 @@ impl<'a> Walk<'a> {
         }
     }
 
-    /// Takes the first documentation as a unit. The tokens before it are in no unit.
+    /// Takes the next documentation as a unit. The tokens before it are in no unit.
     pub(crate) fn docs(&mut self, inner: bool) -> Result<(), NoMemory>
         ensures { OnOk result (self.new ≡ documented_from inner self.old) }
     {
@@ -100,8 +100,8 @@ impl<'a> Walk<'a> {
         }
     }
 
-    /// Takes so many opening braces, each as a unit: of those that stand in a row the last ones. The flag says that `;` may stand
-    /// between them.
+    /// Takes `row` opening braces, each as a unit: the last ones of those that stand in a row.
+    /// `loose` says that `;` may stand between them.
     #[inline(never)]
     pub(crate) fn place(&mut self, row: usize, loose: bool) -> Result<(), NoMemory>
         ensures { OnOk result (self.new ≡ placed loose row self.old) }
@@ -128,7 +128,7 @@ impl<'a> Walk<'a> {
     }
 }
 
-/// Goes past the token that is looked for and tells it; or past all, where there is none.
+/// Moves past the token that is searched, and gives it; or past all tokens if there is none.
 #[inline(always)]
 fn find<'a>(
     braces: &mut Flags,
@@ -147,7 +147,7 @@ fn find<'a>(
     Ok(None)
 }
 
-/// Whether the token is the one that is looked for.
+/// Whether the token is the one that is searched.
 #[inline(always)]
 fn is_sought(braces: &Flags, sought: Sought, lexeme: &Lexeme<'_>) -> bool
     ensures { (t : TokenValue) → Tells lexeme.now t → result ≡ is_sought sought braces.now t }
@@ -161,7 +161,7 @@ fn is_sought(braces: &Flags, sought: Sought, lexeme: &Lexeme<'_>) -> bool
     }
 }
 
-/// Whether a closing brace is looked for.
+/// Whether a closing brace is searched.
 fn is_closing(sought: Sought) -> bool
     ensures { result ≡ is_closing sought }
 {
@@ -171,7 +171,7 @@ fn is_closing(sought: Sought) -> bool
     }
 }
 
-/// Goes past a token of this kind, which is in a unit or isn't.
+/// Moves past a token of this kind; `is_kept` says that it is in a unit.
 #[inline(always)]
 fn pass(braces: &mut Flags, kind: Kind, is_kept: bool) -> Result<(), NoMemory>
     ensures { OnOk result (braces.new ≡ behind_token is_kept kind braces.old) }
@@ -185,7 +185,7 @@ fn pass(braces: &mut Flags, kind: Kind, is_kept: bool) -> Result<(), NoMemory>
     Ok(())
 }
 
-/// Takes a token, and so many more of those ahead, as a unit.
+/// Takes a token, and `more` of those ahead, as a unit.
 #[inline(always)]
 fn take<'a>(
     braces: &mut Flags,
@@ -213,7 +213,7 @@ fn add(units: &mut List<Span>, unit: Unit) -> Result<(), NoMemory>
     }
 }
 
-/// Takes so many opening braces, each as a unit.
+/// Takes opening braces, each as a unit.
 fn place(
     braces: &mut Flags,
     units: &mut List<Span>,
@@ -246,7 +246,8 @@ fn place(
     Ok(())
 }
 
-/// How many opening braces stand in a row ahead. They were counted before, or else the count is 0; so no row is counted twice.
+/// How many opening braces come next in a row. `count` is this number if they were counted before,
+/// else 0; so no row is counted twice.
 fn counted(count: usize, ahead: Ahead<'_>, loose: bool) -> Result<usize, NoMemory>
     requires { IsCount loose count (tokens_of ahead) }
     ensures { IfOk result (λ given. given ≡ openers loose (tokens_of ahead.entry)) }
@@ -258,7 +259,8 @@ fn counted(count: usize, ahead: Ahead<'_>, loose: bool) -> Result<usize, NoMemor
     }
 }
 
-/// How many opening braces stand in a row, with any number of `;` between, or with none.
+/// How many opening braces come next in a row; if `loose`, any number of `;` may stand between
+/// them.
 fn count_openers(ahead: Ahead<'_>, loose: bool) -> Result<usize, NoMemory>
     ensures { IfOk result (λ count. count ≡ openers loose (tokens_of ahead.entry)) }
 {
@@ -274,7 +276,7 @@ fn count_openers(ahead: Ahead<'_>, loose: bool) -> Result<usize, NoMemory>
     Ok(count)
 }
 
-/// One more. There is no room to count beyond the greatest number.
+/// `count + 1`; `NoMemory` on overflow.
 pub(crate) fn one_more(count: usize) -> Result<usize, NoMemory>
     ensures { IfOk result (λ more. more ≡ count + 1) }
 {

@@ -1,4 +1,4 @@
-//! Units of a source and of an output, as lines.
+//! Pairs of units as lines of text.
 ghost use Rattle.std.specs.Prelude.{◌≡◌, ◌≤◌, ◌++◌, ◌∷◌, [], OnOk, OnErr, IsErrOf};
 ghost use Rattle.std.specs.Fmt.{decimal};
 ghost use Rattle.lay_io.specs.Faults.{Rose, SameLoan};
@@ -13,7 +13,7 @@ use lay_printer::PrintError;
 use lay_token::NoMemory;
 use std::alloc::Global;
 
-/// Writes a line for each unit of the source and the unit of the output that has the same number.
+/// Writes a line for each unit of the source and the unit of the output with the same index.
 pub fn write_lines<K: Sink>(
     alloc: Global,
     source: &[Span],
@@ -48,7 +48,8 @@ pub fn write_lines<K: Sink>(
     Ok(())
 }
 
-/// Writes the line of two units. What the text holds that is handed in is lost: it is there so that no line needs new memory.
+/// Writes the line of two units. `line` is only a buffer, so that no line allocates anew; its
+/// content is lost.
 fn write_line<K: Sink>(
     line: &mut Vec<u8>,
     source: Unit,
@@ -75,7 +76,7 @@ fn write_line<K: Sink>(
     }
 }
 
-/// Adds the line of two units: where the one stands, and where the other does.
+/// Appends the line of two units: the place of the one, and that of the other.
 fn add_line(line: &mut Vec<u8>, source: Unit, output: Unit) -> Result<(), NoMemory>
     ensures { OnOk result (line.new.items ≡ line.old.items
         ++ line_of (record { source = source; output = output })) }
@@ -84,7 +85,7 @@ fn add_line(line: &mut Vec<u8>, source: Unit, output: Unit) -> Result<(), NoMemo
     add_unit(line, output, b'\n')
 }
 
-/// Adds where a unit stands, as its start, `+` and its length, and a byte after it.
+/// Appends the place of a unit, as its start, `+` and its length, and then a byte.
 fn add_unit(line: &mut Vec<u8>, unit: Unit, behind: u8) -> Result<(), NoMemory>
     ensures { OnOk result (line.new.items ≡ line.old.items ++ (unit_text unit ++ behind ∷ [])) }
 {
@@ -92,7 +93,7 @@ fn add_unit(line: &mut Vec<u8>, unit: Unit, behind: u8) -> Result<(), NoMemory>
     add_number(line, unit.len, behind)
 }
 
-/// Adds a number in decimal digits, and a byte after it.
+/// Appends a number in decimal digits, and then a byte.
 fn add_number(line: &mut Vec<u8>, number: usize, behind: u8) -> Result<(), NoMemory>
     ensures { OnOk result (line.new.items ≡ line.old.items ++ (decimal number ++ behind ∷ [])) }
 {

@@ -1,4 +1,4 @@
-//! From bytes that read to a file to the map of the file's text.
+//! From bytes that parse to a file to the map of its formatted text.
 ghost use Rattle.std.specs.Prelude.{◌≡◌, ◌≤◌, IfOk, IsErrOf, OnErr, OnOk};
 ghost use Rattle.lay_io.specs.Faults.{Rose, SameLoan};
 ghost use Rattle.lay_code.specs.Out.{out as text_of_file};
@@ -15,8 +15,9 @@ use lay_printer::PrintError;
 use lay_token::{List, NoMemory};
 use std::alloc::Global;
 
-/// Writes a line for each unit of bytes that read to the file: where it stands in the text that is lexed of them, which has no byte order
-/// mark and in which each CR LF is one LF, and where the unit of the file's text stands that says the same.
+/// Writes a line for each unit of bytes that parse to the file: where it is in the text that is
+/// lexed, which has no byte order mark and one LF for each CR LF, and where the unit of the
+/// formatted text is that says the same.
 pub fn write_map<K: Sink>(
     alloc: Global,
     bytes: &[u8],
@@ -44,7 +45,7 @@ pub fn write_map<K: Sink>(
     write_lines(alloc, source.as_slice(), output.as_slice(), out)
 }
 
-/// The units of a file's text, which reads to it.
+/// The units of the text of a file, which parses to it.
 fn units_of_output(alloc: Global, file: &File) -> Result<List<Span>, NoMemory>
     requires { Reads (text_of_file file.now) file.now }
     ensures { IfOk result (λ units. (reads : Reads (text_of_file file.now) file.now)
@@ -54,7 +55,8 @@ fn units_of_output(alloc: Global, file: &File) -> Result<List<Span>, NoMemory>
     units_in(alloc, text.as_bytes(), file)
 }
 
-/// The units of bytes that read to a file. No step of reading them is refused, so an error of one is want of memory.
+/// The units of bytes that parse to a file. Since no step of parsing them is refused, an error
+/// means that memory is out.
 fn units_in(alloc: Global, bytes: &[u8], file: &File) -> Result<List<Span>, NoMemory>
     requires { Reads bytes.now file.now }
     ensures { IfOk result (λ units. (reads : Reads bytes.now file.now) → units ≡ units_read reads) }
