@@ -1,4 +1,4 @@
-//! Statements and blocks.
+//! Builders of statements and blocks.
 ghost use Rattle.std.specs.Prelude.{◌≡◌, ◌+◌, ◌≤◌, ◌++◌, [], max, option_to_list};
 ghost use Rattle.lay_code.specs.Reading.{top};
 ghost use Rattle.lay_code.specs.declared.blocks.Stmt.TheVariants as stmt;
@@ -14,7 +14,7 @@ use lay_code::{Block, Expr, Name, Pat, Stmt, Ty};
 use lay_text::List;
 use std::alloc::Global;
 
-/// A statement that gives a value to a name, of this type if one is given: `let a: B = c;`.
+/// A `let` statement that binds a name: `let a = c;`, or with a type, `let a: B = c;`.
 pub fn stmt_let(
     alloc: Global,
     name: BuiltName,
@@ -51,7 +51,7 @@ fn let_stmt(
     Ok((stmt, need.max(1) + 1))
 }
 
-/// The pattern that a name is.
+/// A name as a pattern.
 pub(crate) fn bind(name: Name) -> Pat
     ensures { result ≡ node.bind name }
 {
@@ -63,7 +63,7 @@ pub(crate) fn bind(name: Name) -> Pat
     }
 }
 
-/// A statement that is an expression: `a;`.
+/// An expression statement: `a;`.
 pub fn stmt_expr(alloc: Global, expr: BuiltExpr) -> Result<BuiltStmt, BuildError>
     ensures { Makes form_of_stmt (node.stmt_expr expr) result }
 {
@@ -83,7 +83,7 @@ fn expr_stmt(alloc: Global, expr: Expr, ended: bool) -> Result<Stmt, BuildError>
     })
 }
 
-/// A block of these statements, and of what it is worth, if that is given: `{ a; b }`.
+/// A block of these statements, and of a last expression, if there is one: `{ a; b }`.
 pub fn block(
     alloc: Global,
     stmts: List<BuiltStmt>,
@@ -97,7 +97,7 @@ pub fn block(
     kept(block_of(alloc, stmts, last, need.max(more + 1)))
 }
 
-/// The last statement of a block, which tells what the block is worth.
+/// The last expression of a block as a statement without `;`.
 fn tail_stmt(alloc: Global, tail: Option<Expr>) -> Result<Option<Stmt>, BuildError>
     ensures { Gives result (λ last. option_to_list last ≡ node.tail_stmt tail) }
 {
@@ -124,7 +124,7 @@ fn block_of(
     Ok((block, need))
 }
 
-/// A list with one more item at its end, if there is one.
+/// The list with one more item appended, if there is one.
 fn with_last<T: Drop>(list: List<T>, last: Option<T>) -> Result<List<T>, BuildError>
     ensures { Gives result (λ whole. whole ≡ list ++ option_to_list last) }
 {

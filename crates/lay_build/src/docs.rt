@@ -1,4 +1,4 @@
-//! Documentation of items.
+//! Builders of documentation.
 ghost use Rattle.std.specs.Prelude.{◌≡◌, MatchBool};
 ghost use Rattle.std.specs.Str.{is_utf8};
 ghost use Rattle.lay_build_types.specs.Answers.{Gives, Makes, Refuses};
@@ -12,8 +12,8 @@ use lay_text::{NoMemory, Text};
 use std::alloc::Global;
 use std::str;
 
-/// The item with documentation after its attributes: a comment or, where no comment can say the text, the attribute
-/// `#[doc = "text"]`. BadText comes where the text is no UTF-8.
+/// The item with documentation after its attributes: a comment, or `#[doc = "text"]` if no comment
+/// can hold the text. The error is `BadText` if the text is not UTF-8.
 pub fn with_doc(alloc: Global, item: BuiltItem, text: &[u8]) -> Result<BuiltItem, BuildError>
     ensures { MatchBool (is_utf8 text.now) (Makes form_of_item (node.with_doc item text.now) result)
         (Refuses BuildError.BadText result) }
@@ -23,7 +23,7 @@ pub fn with_doc(alloc: Global, item: BuiltItem, text: &[u8]) -> Result<BuiltItem
     kept(both(with_attr(item, attr), Ok(need)))
 }
 
-/// Documentation of what follows it, where the text is UTF-8.
+/// Outer documentation of this text, if it is UTF-8.
 fn checked_doc(alloc: Global, text: &[u8]) -> Result<Attr, BuildError>
     ensures { MatchBool (is_utf8 text.now) (Gives result (λ attr. attr ≡ node.doc text.now))
         (Refuses BuildError.BadText result) }
@@ -34,7 +34,7 @@ fn checked_doc(alloc: Global, text: &[u8]) -> Result<Attr, BuildError>
     }
 }
 
-/// Documentation of what follows it, as a comment or as an attribute.
+/// Outer documentation of this text, as a comment or as an attribute.
 fn doc(alloc: Global, text: &[u8]) -> Result<Attr, BuildError>
     ensures { Gives result (λ attr. attr ≡ node.doc text.now) }
 {
@@ -81,7 +81,7 @@ fn copied(alloc: Global, text: &[u8]) -> Result<Text, BuildError>
     }
 }
 
-/// The item with one more attribute, the last.
+/// The item with one more attribute, after those that it has.
 fn with_attr(item: Item, attr: Attr) -> Result<Item, BuildError>
     ensures { Gives result (λ made. made ≡ node.with_attr item attr) }
 {

@@ -1,4 +1,4 @@
-//! Files.
+//! The builder of files.
 ghost use Rattle.std.specs.Prelude.{◌≡◌, ◌≤◌, IfOk};
 ghost use Rattle.lay_form.specs.Depth.{least_depth};
 ghost use Rattle.lay_code.specs.nodes.File.{form_of_file};
@@ -11,8 +11,8 @@ use lay_code::File;
 use lay_text::{List, NoMemory};
 use std::alloc::Global;
 
-/// The file of these items. It can be written: it is normal, each name and literal in it is a piece of its kind, and it is no
-/// deeper than files may be.
+/// A file of these items. It can be written: it is normal, each name and literal in it is a piece
+/// of its kind, and it is no deeper than a file may be.
 pub fn file(alloc: Global, items: List<BuiltItem>) -> Result<File, NoMemory>
     ensures node { IfOk result (λ file. file ≡ node.file items) }
     ensures written { IfOk result (λ file. Written file) }

@@ -1,4 +1,4 @@
-//! Items.
+//! Builders of items.
 ghost use Rattle.std.specs.Prelude.{◌≡◌, ◌+◌, ◌≤◌, max};
 ghost use Rattle.lay_code.specs.Reading.{top};
 ghost use Rattle.lay_build_types.specs.Answers.{Gives, Makes};
@@ -19,7 +19,7 @@ use lay_code::{
 use lay_text::List;
 use std::alloc::Global;
 
-/// A name with its type, as a parameter or as a field of a struct: `a: B`.
+/// A name with its type, as a parameter or a struct field: `a: B`.
 pub fn param(name: BuiltName, ty: BuiltType) -> Result<BuiltParam, BuildError>
     ensures { Makes form_of_param (node.param name ty) result }
 {
@@ -28,7 +28,7 @@ pub fn param(name: BuiltName, ty: BuiltType) -> Result<BuiltParam, BuildError>
     kept(Ok((NamedType { name, ty }, need + 1)))
 }
 
-/// A struct whose fields have names: `struct A { b: C }`.
+/// A struct with named fields: `struct A { b: C }`.
 pub fn item_struct(
     alloc: Global,
     public: bool,
@@ -115,7 +115,7 @@ fn constant(
     item_of(alloc, public, kind, need + 1)
 }
 
-/// A function of these parameters, which answers what is of this type, if one is given: `fn a(b: C) -> D { e }`.
+/// A function with these parameters, and this return type if there is one: `fn a(b: C) -> D { e }`.
 pub fn item_fn(
     alloc: Global,
     public: bool,
@@ -224,14 +224,14 @@ fn item_of(
     Ok((item, need))
 }
 
-/// How an item is marked that may be named anywhere, or where it stands alone.
+/// `pub`, or no visibility.
 fn visibility(public: bool) -> Vis
     ensures { result ≡ node.visibility public }
 {
     if public { Vis::Public } else { Vis::Inherited }
 }
 
-/// The generic parameters of an item that has none.
+/// No generic parameters.
 fn no_generics(alloc: Global) -> Generics
     ensures { result ≡ node.no_generics }
 {
@@ -240,7 +240,7 @@ fn no_generics(alloc: Global) -> Generics
     }
 }
 
-/// The where clause of an item that has none.
+/// No where clause.
 fn no_wheres(alloc: Global) -> Wheres
     ensures { result ≡ node.no_wheres }
 {

@@ -11,7 +11,7 @@ pub struct NamedType {
     pub ty: Ty,
 }
 
-/// A parameter of a function, or a field of a struct, that was built.
+/// A built parameter of a function, or a built field of a struct.
 pub type BuiltParam = Built<NamedType>;
 
 impl Node for NamedType {

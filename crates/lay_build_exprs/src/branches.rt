@@ -1,4 +1,4 @@
-//! Branches. What is tested is lent, and becomes the expression that has the branches.
+//! Builders of `if` expressions. The condition is lent, and becomes the whole expression.
 ghost use Rattle.std.specs.Prelude.{◌≡◌, ◌∷◌, [], ◌≤◌, max};
 ghost use Rattle.lay_form.specs.Depth.{least_depth};
 ghost use Rattle.lay_code.specs.Reading.{top};
@@ -16,7 +16,7 @@ use lay_text::List;
 use std::alloc::Global;
 use std::mem;
 
-/// A branch: `if a { b }`, or with the block after `else`, `if a { b } else { c }`.
+/// An `if` expression: `if a { b }`, or with `otherwise`, `if a { b } else { c }`.
 pub fn expr_if(
     alloc: Global,
     test: BuiltExpr,
@@ -32,7 +32,7 @@ pub fn expr_if(
     kept_with(test, need)
 }
 
-/// Adds its blocks, of which the deeper needs this depth, after what is tested.
+/// Adds the blocks, of which the deeper one needs this depth, to the condition.
 fn add_blocks(
     alloc: Global,
     test: &mut Expr,
@@ -52,7 +52,7 @@ fn add_blocks(
     Ok(need)
 }
 
-/// Makes a branch of a test, which stands so.
+/// A branch of the condition, which may stand so.
 fn one_branch(
     alloc: Global,
     test: &mut Expr,

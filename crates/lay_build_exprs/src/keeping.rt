@@ -1,11 +1,11 @@
-//! Nodes that are kept as they were made.
+//! The last step of building a node.
 ghost use Rattle.std.specs.Prelude.{◌≡◌, Err, IfOk, MatchResult};
 ghost use Rattle.lay_build_types.specs.Answers.{IsPart, Makes};
 
 use lay_build_types::{BuildError, Built, Node, kept};
 
-/// The node, kept with the depth that it needs where it isn't too deep, or why it couldn't be made. It is lent to what makes it, and
-/// owned here alone, so that calls in between needn't let it go.
+/// The node as a built one, unless it is too deep or making it failed. The node is lent to `make`
+/// and owned here only, so functions in between needn't drop it.
 pub(crate) fn kept_with<N: Node + Drop>(
     node: N,
     need: Result<u32, BuildError>,

@@ -11,7 +11,7 @@ pub struct NamedExpr {
     pub value: Expr,
 }
 
-/// A field of a struct literal that was built.
+/// A built field of a struct literal.
 pub type BuiltField = Built<NamedExpr>;
 
 impl Node for NamedExpr {

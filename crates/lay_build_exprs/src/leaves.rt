@@ -1,4 +1,4 @@
-//! Literals and paths.
+//! Builders of literals and paths.
 ghost use Rattle.std.specs.Prelude.{◌≡◌, MatchBool};
 ghost use Rattle.std.specs.Str.{is_utf8};
 ghost use Rattle.lay_build_types.specs.Answers.{Makes, Refuses};
@@ -14,10 +14,10 @@ use lay_text::{List, NoMemory, Text};
 use std::alloc::Global;
 use std::str;
 
-/// The depth that an expression needs that has no other in it.
+/// The depth of an expression that contains no other.
 const LEAF: u32 = 1;
 
-/// The integer literal of a number, in decimal digits and without a suffix.
+/// An integer literal, in decimal digits and without suffix.
 pub fn expr_int(alloc: Global, value: u128) -> Result<BuiltExpr, BuildError>
     ensures { Makes form_of_expr (node.expr_int value) result }
 {
@@ -35,7 +35,7 @@ pub fn expr_int(alloc: Global, value: u128) -> Result<BuiltExpr, BuildError>
     }
 }
 
-/// The string literal whose value a text is. BadText comes where the text is no UTF-8.
+/// The string literal whose value is this text. The error is `BadText` if the text is not UTF-8.
 pub fn expr_str(alloc: Global, text: &[u8]) -> Result<BuiltExpr, BuildError>
     ensures { MatchBool (is_utf8 text.now) (Makes form_of_expr (node.expr_str text.now) result)
         (Refuses BuildError.BadText result) }
@@ -62,7 +62,7 @@ fn is_text(bytes: &[u8]) -> bool
     str::from_utf8(bytes).is_ok()
 }
 
-/// The path of these names: `a::b::C`.
+/// A path as an expression: `a::b::C`.
 pub fn expr_path(
     alloc: Global,
     first: BuiltName,

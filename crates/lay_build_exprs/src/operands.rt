@@ -1,5 +1,5 @@
-//! Parentheses, where an expression needs them to stand in another. An expression is lent with the depth that it needs, and what is
-//! answered is the depth that it needs then.
+//! Parentheses round parts that need them. A function is lent an expression with the depth that it
+//! needs, and gives the depth that it needs afterwards.
 ghost use Rattle.std.specs.Prelude.{◌≡◌, ◌≤◌};
 ghost use Rattle.lay_form.specs.Depth.{least_depth};
 ghost use Rattle.lay_code.specs.Reading.{top};
@@ -24,7 +24,7 @@ pub(crate) fn operand(alloc: Global, expr: &mut Expr, need: u32) -> Result<u32, 
     unless(alloc, stands, expr, need)
 }
 
-/// What is called. After the name of a field a call would be a method's.
+/// The callee of a call. Directly after a field name the arguments would be those of a method call.
 pub(crate) fn callee(alloc: Global, expr: &mut Expr, need: u32) -> Result<u32, BuildError>
     requires need { need ≡ least_depth (form_of_expr expr.old) }
     requires within { need ≤ top }
@@ -36,7 +36,7 @@ pub(crate) fn callee(alloc: Global, expr: &mut Expr, need: u32) -> Result<u32, B
     operand(alloc, expr, need)
 }
 
-/// What an `if` tests.
+/// The condition of an `if`.
 pub(crate) fn test(alloc: Global, expr: &mut Expr, need: u32) -> Result<u32, BuildError>
     requires need { need ≡ least_depth (form_of_expr expr.old) }
     requires within { need ≤ top }
@@ -46,7 +46,7 @@ pub(crate) fn test(alloc: Global, expr: &mut Expr, need: u32) -> Result<u32, Bui
     unless(alloc, stands, expr, need)
 }
 
-/// An expression, in parentheses unless it may stand so.
+/// Puts the expression in parentheses, unless it may stand as it is.
 fn unless(alloc: Global, stands: bool, expr: &mut Expr, need: u32) -> Result<u32, BuildError>
     requires need { need ≡ least_depth (form_of_expr expr.old) }
     requires within { need ≤ top }
@@ -69,7 +69,7 @@ fn put_in_parens(alloc: Global, expr: &mut Expr) -> Result<(), BuildError>
     Ok(())
 }
 
-/// Whether an operator, and any step, takes it as it is.
+/// Whether the expression may be an operand or the base of a step as it is.
 fn is_operand(expr: &Expr) -> bool
     ensures { result ≡ node.is_operand expr.now }
 {
@@ -83,14 +83,14 @@ fn is_operand(expr: &Expr) -> bool
     )
 }
 
-/// Whether it is a chain of operators.
+/// Whether the expression is a chain of operators.
 fn is_chain(expr: &Expr) -> bool
     ensures { result ≡ node.is_chain expr.now }
 {
     matches!(expr, Expr::Chain { .. })
 }
 
-/// Whether it ends in the name of a field.
+/// Whether the expression ends in the name of a field.
 fn ends_in_field(expr: &Expr) -> bool
     ensures { result ≡ node.ends_in_field expr.now }
 {
@@ -100,7 +100,7 @@ fn ends_in_field(expr: &Expr) -> bool
     }
 }
 
-/// Whether the last step is a field.
+/// Whether the last step is a field access.
 fn field_last(steps: &[Step]) -> bool
     ensures { result ≡ node.field_last steps.now }
 {
@@ -110,7 +110,7 @@ fn field_last(steps: &[Step]) -> bool
     }
 }
 
-/// Whether a step is a field.
+/// Whether a step is a field access.
 fn is_field(step: &Step) -> bool
     ensures { result ≡ node.is_field step.now }
 {

@@ -1,4 +1,4 @@
-//! Operators. The left operand is lent, and becomes the expression that has the operator.
+//! Builders of operators. The left operand is lent, and becomes the whole expression.
 ghost use Rattle.std.specs.Prelude.{◌≡◌, ◌∷◌, [], ◌≤◌, IsTrue};
 ghost use Rattle.lay_form.specs.Depth.{least_depth};
 ghost use Rattle.lay_code.specs.Operators.{op_level};
@@ -17,7 +17,7 @@ use lay_code::{Boxed, Expr, Op};
 use std::alloc::Global;
 use std::mem;
 
-/// An operator between two operands: `a + b`. It is none that assigns and no range's.
+/// A binary operator: `a + b`. The operator is no assignment and no range.
 pub fn expr_binary(
     alloc: Global,
     op: Op,
@@ -33,7 +33,7 @@ pub fn expr_binary(
     kept_with(left, need)
 }
 
-/// Adds an operator and the operand after it to the one before it.
+/// Adds an operator and its right operand to the left one.
 fn add_operand(
     alloc: Global,
     left: &mut Expr,
@@ -58,7 +58,8 @@ fn add_operand(
     Ok(need)
 }
 
-/// Adds an operator and what follows it, in parentheses where it has to be.
+/// Makes a chain of the left operand, an operator and the right operand. The operands have the
+/// parentheses that they need.
 fn chain(alloc: Global, left: &mut Expr, op: Op, right: Boxed<Expr>) -> Result<(), BuildError>
     ensures { Gives result (λ done. left.new ≡ variant.Chain left.old ((op, right) ∷ [])) }
 {

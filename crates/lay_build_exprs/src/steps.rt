@@ -1,4 +1,5 @@
-//! Fields, methods and calls. A base is lent with the depth that it needs, and becomes the expression that has the step.
+//! Builders of field accesses, method calls and calls. The base is lent with the depth that it
+//! needs, and becomes the whole expression.
 ghost use Rattle.std.specs.Prelude.{◌≡◌, ◌∷◌, [], ◌+◌, ◌≤◌, OnOk};
 ghost use Rattle.std.specs.List.{AllByRecursion};
 ghost use Rattle.lay_form.specs.Depth.{least_depth};
@@ -18,7 +19,7 @@ use lay_text::List;
 use std::alloc::Global;
 use std::mem;
 
-/// A field: `a.b`.
+/// A field access: `a.b`.
 pub fn expr_field(alloc: Global, base: BuiltExpr, field: BuiltName) -> Result<BuiltExpr, BuildError>
     ensures { Makes form_of_expr (node.expr_field base field) result }
 {
@@ -28,7 +29,7 @@ pub fn expr_field(alloc: Global, base: BuiltExpr, field: BuiltName) -> Result<Bu
     kept_with(base, need)
 }
 
-/// Adds a field after a base.
+/// Adds a field access to a base.
 fn add_field(alloc: Global, base: &mut Expr, need: u32, name: Name) -> Result<u32, BuildError>
     requires need { need ≡ least_depth (form_of_expr base.old) }
     requires within { need ≤ top }
@@ -38,7 +39,7 @@ fn add_field(alloc: Global, base: &mut Expr, need: u32, name: Name) -> Result<u3
     stepped(alloc, base, need, Step::Field { name }, 0)
 }
 
-/// A call of a method: `a.b(c, d)`.
+/// A method call: `a.b(c, d)`.
 pub fn expr_method(
     alloc: Global,
     base: BuiltExpr,
@@ -53,7 +54,7 @@ pub fn expr_method(
     kept_with(base, need)
 }
 
-/// Adds a call of a method after a base.
+/// Adds a method call to a base.
 fn add_method(
     alloc: Global,
     base: &mut Expr,
@@ -89,7 +90,7 @@ pub fn expr_call(
     kept_with(base, need)
 }
 
-/// Adds a call after a base.
+/// Adds a call to a base.
 fn add_call(
     alloc: Global,
     base: &mut Expr,
@@ -106,7 +107,7 @@ fn add_call(
     stepped(alloc, base, need, Step::Apply { args }, more)
 }
 
-/// Adds a step after a base, and after the steps that the base has, and answers the depth that this needs.
+/// Adds a step to a base, after the steps that it has, and gives the depth that the whole needs.
 fn stepped(
     alloc: Global,
     base: &mut Expr,
@@ -136,7 +137,7 @@ fn has_steps(base: &Expr) -> bool
     matches!(base, Expr::Postfix { .. })
 }
 
-/// Adds a step after a base, and after the steps that the base has.
+/// Adds a step to a base, after the steps that it has.
 fn add_step(alloc: Global, base: &mut Expr, step: Step) -> Result<(), BuildError>
     ensures { Gives result (λ done. base.new ≡ node.stepped base.old step) }
 {
@@ -146,7 +147,7 @@ fn add_step(alloc: Global, base: &mut Expr, step: Step) -> Result<(), BuildError
     }
 }
 
-/// Adds a step after a base that has none.
+/// Adds a step to a base that has none.
 fn add_first_step(alloc: Global, base: &mut Expr, step: Step) -> Result<(), BuildError>
     ensures { Gives result (λ done. base.new ≡ variant.Postfix base.old (step ∷ [])) }
 {

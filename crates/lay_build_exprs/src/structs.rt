@@ -1,4 +1,4 @@
-//! Struct literals and their fields.
+//! Builders of struct literals and their fields.
 ghost use Rattle.std.specs.Prelude.{◌≡◌, max};
 ghost use Rattle.lay_build_types.specs.Answers.{Gives, Makes};
 ghost use Rattle.lay_build_types.specs.Kinds.{form_of_expr};
@@ -37,7 +37,7 @@ pub fn expr_struct(
     kept(struct_of(alloc, first, rest, fields, need))
 }
 
-/// A struct literal, of whose fields the deepest needs this depth by itself.
+/// A struct literal, whose deepest field needs this depth.
 fn struct_of(
     alloc: Global,
     first: Name,

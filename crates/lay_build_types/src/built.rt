@@ -1,4 +1,4 @@
-//! Nodes that were built, and why none is.
+//! Nodes that were built, and the errors of building.
 ghost use Rattle.std.specs.Prelude.{◌≡◌, IfOk};
 ghost use Rattle.lay_form.specs.Depth.{least_depth};
 ghost use Rattle.lay_form.specs.Form.{Form};
@@ -6,32 +6,32 @@ ghost use Rattle.lay_build_types.specs.Answers.{Answers, IsKept, IsPart};
 
 use std::marker::Model;
 
-/// The greatest depth of what stands in a file.
+/// The greatest depth of what a file holds.
 const DEPTH: u32 = 256;
 
-/// Why nothing is built. What the call was given is let go.
+/// Why building failed. The arguments of the call are dropped.
 #[derive(Clone, Copy, Debug, PartialEq, Eq)]
 pub enum BuildError {
-    /// The text is no name: no identifier, or `crate`, `self`, `super` or `Self`.
+    /// The text is not an identifier, or it is `_`, `crate`, `self`, `super` or `Self`.
     BadName,
-    /// The text is no UTF-8.
+    /// The text is not UTF-8.
     BadText,
-    /// The node is deeper than files may be.
+    /// The node is deeper than a file may be.
     TooDeep,
-    /// Memory was not found.
+    /// Memory could not be allocated.
     NoMemory,
 }
 
-/// A kind of nodes that calls build.
+/// A kind of node that can be built.
 pub trait Node {
-    /// The tokens that spell a node, which tell the depth that it needs.
+    /// The form of a node, which determines the depth that it needs.
     ghost form: { Self → Form };
 
-    /// What holds of a node that is built, wherever it is put.
+    /// What holds of a built node, wherever it is put.
     ghost Holds: { Self → Type 0 };
 }
 
-/// A node that was built. Contracts see the node alone; the least depth that it needs is kept beside it.
+/// A built node. Contracts see the node only; the depth that it needs is kept beside it.
 #[derive(Drop)]
 pub struct Built<N: Node> {
     node: N,
@@ -61,7 +61,7 @@ impl<N: Node> Built<N> {
         &self.node
     }
 
-    /// The node, and the least depth that it needs.
+    /// Takes the node out, with the depth that it needs.
     pub fn into_parts(self) -> (N, u32)
         ensures parts { result ≡ (self, least_depth (N.form self)) }
         ensures kept { IsKept N.form N.Holds self }
@@ -71,7 +71,7 @@ impl<N: Node> Built<N> {
     }
 }
 
-/// A node that was made, with its need. It is kept where it isn't too deep.
+/// The node as a built one, unless it is too deep; `made` is the node with the depth that it needs.
 pub fn kept<N: Node + Drop>(made: Result<(N, u32), BuildError>) -> Result<Built<N>, BuildError>
     requires { IfOk made (IsPart N.form N.Holds) }
     ensures { Answers N.form made result }

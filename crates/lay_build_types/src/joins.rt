@@ -1,4 +1,4 @@
-//! What is put together, whatever it is. Where memory is wanting, all that was handed in is let go.
+//! Helpers of the builder. If memory is out, the arguments are dropped.
 ghost use Rattle.std.specs.Prelude.{◌≡◌, ◌++◌, ◌∷◌, [], Err, IfErr, MatchResult, None, Ok, OnOk, Some};
 ghost use Rattle.lay_build_types.specs.Answers.{Gives};
 
@@ -7,7 +7,7 @@ use lay_code::Boxed;
 use lay_text::{List, NoMemory};
 use std::alloc::Global;
 
-/// Two parts together, or why the first that wasn't made wasn't.
+/// The pair of two parts, or the error of the first that failed.
 pub fn both<A: Drop, B: Drop>(
     first: Result<A, BuildError>,
     second: Result<B, BuildError>,
@@ -23,7 +23,7 @@ pub fn both<A: Drop, B: Drop>(
     }
 }
 
-/// A box of a node.
+/// Boxes a node.
 pub fn boxed<T: Drop>(alloc: Global, node: T) -> Result<Boxed<T>, BuildError>
     ensures { Gives result (λ boxed. boxed ≡ node) }
 {
@@ -33,7 +33,7 @@ pub fn boxed<T: Drop>(alloc: Global, node: T) -> Result<Boxed<T>, BuildError>
     }
 }
 
-/// Adds an item at the end of a list.
+/// Appends an item to a list.
 pub fn keep<T: Drop>(list: &mut List<T>, item: T) -> Result<(), BuildError>
     ensures ok { OnOk result (list.new ≡ list.old ++ item ∷ []) }
     ensures err { IfErr result (λ why. why ≡ BuildError.NoMemory) }

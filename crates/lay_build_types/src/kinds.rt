@@ -1,25 +1,25 @@
-//! The kinds of nodes that are built.
+//! The kinds of nodes that can be built.
 ghost use Rattle.lay_build_types.specs.Kinds as kinds;
 
 use crate::built::{Built, Node};
 use lay_code::{Block, Expr, Item, Name, Stmt, Ty};
 
-/// A name that was built.
+/// A built name.
 pub type BuiltName = Built<Name>;
 
-/// A type that was built.
+/// A built type.
 pub type BuiltType = Built<Ty>;
 
-/// An expression that was built.
+/// A built expression.
 pub type BuiltExpr = Built<Expr>;
 
-/// A statement that was built.
+/// A built statement.
 pub type BuiltStmt = Built<Stmt>;
 
-/// A block that was built.
+/// A built block.
 pub type BuiltBlock = Built<Block>;
 
-/// An item that was built.
+/// A built item.
 pub type BuiltItem = Built<Item>;
 
 impl Node for Name {

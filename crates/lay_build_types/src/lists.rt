@@ -1,4 +1,4 @@
-//! Lists of nodes that were built.
+//! Lists of built nodes.
 ghost use Rattle.std.specs.Prelude.{◌≡◌, IfSome, map};
 ghost use Rattle.lay_build_types.specs.Answers.{AreParts, Gives, IsKept, need_if};
 
@@ -7,7 +7,7 @@ use crate::joins::keep;
 use lay_text::List;
 use std::alloc::Global;
 
-/// The nodes of a list, and the greatest depth that one needs.
+/// The nodes of a list, and the greatest depth that one of them needs.
 pub fn nodes<N: Node + Drop>(
     alloc: Global,
     list: List<Built<N>>,
@@ -26,7 +26,7 @@ pub fn nodes<N: Node + Drop>(
     Ok((nodes, need))
 }
 
-/// The node that may be there, and the depth that it needs.
+/// The optional node, and the depth that it needs.
 pub fn part_or_none<N: Node>(built: Option<Built<N>>) -> (Option<N>, u32)
     ensures part { result ≡ (built, need_if N.form built) }
     ensures kept { IfSome built (IsKept N.form N.Holds) }
@@ -40,17 +40,17 @@ pub fn part_or_none<N: Node>(built: Option<Built<N>>) -> (Option<N>, u32)
     }
 }
 
-/// A node of which another one is made.
+/// A node that can be turned into a node of type `M`.
 pub trait Turns<M> {
-    /// The other one.
+    /// The node that it becomes.
     ghost turned: { Self → M };
 
-    /// Makes it.
+    /// Turns the node.
     fn turn(self, alloc: Global) -> Result<M, BuildError>
         ensures { Gives result (λ made. made ≡ turned self) };
 }
 
-/// What is made of each node of a list.
+/// Turns each node of a list.
 pub fn turn_all<N: Turns<M> + Drop, M: Drop>(
     alloc: Global,
     list: List<N>,

@@ -1,4 +1,4 @@
-//! Names, and the paths that they make.
+//! Builders of names, and of paths of names.
 ghost use Rattle.std.specs.Prelude.{◌≡◌, ◌↔◌, IsTrue, MatchBool};
 ghost use Rattle.lay_piece.specs.declared.kind.Kind.TheVariants as kinds;
 ghost use Rattle.lay_form.specs.Pieces.{is_text_of};
@@ -16,8 +16,8 @@ use lay_text::{List, NoMemory, Text};
 use std::alloc::Global;
 use std::str;
 
-/// The name that a text is; a keyword is written as a raw identifier. BadName comes where the text is no identifier, and of
-/// `_`, `crate`, `self`, `super` and `Self`.
+/// A name; a keyword becomes a raw identifier. The error is `BadName` if the text is not an
+/// identifier, or is `_`, `crate`, `self`, `super` or `Self`.
 pub fn name(alloc: Global, text: &[u8]) -> Result<BuiltName, BuildError>
     ensures { MatchBool (node.may_be_name text.now) (Makes form_of_name (node.name text.now) result) (Refuses BuildError.BadName result) }
 {
@@ -51,14 +51,14 @@ fn is_ident(kind: Kind) -> bool
     matches!(kind, Kind::Ident)
 }
 
-/// Whether words of this class are names where they are raw alone.
+/// Whether words of this class can only be names as raw identifiers.
 fn is_raw(class: Class) -> bool
     ensures { result ≡ node.is_raw class }
 {
     matches!(class, Class::Strict | Class::Reserved)
 }
 
-/// The path of these names, the last with these arguments.
+/// The path of these names; the last one has these generic arguments.
 pub fn path(
     alloc: Global,
     first: Name,
@@ -74,7 +74,7 @@ pub fn path(
     })
 }
 
-/// The segments of a path of these names, the last with these arguments.
+/// The segments of a path of these names; the last one has these generic arguments.
 fn segments(
     alloc: Global,
     first: Name,
@@ -95,7 +95,7 @@ fn segments(
     Ok(segments)
 }
 
-/// The word that a name is.
+/// The name as a word of a path.
 fn word(name: Name) -> Word
     ensures { result ≡ node.word name }
 {

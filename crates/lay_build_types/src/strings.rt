@@ -1,4 +1,4 @@
-//! String literals.
+//! Builders of string literals.
 ghost use Rattle.std.specs.Prelude.{◌≡◌, ◌++◌, IfOk, OnOk};
 ghost use Rattle.lay_build_types.specs.Answers.{Gives};
 ghost use Rattle.lay_build_types.specs.Strings.{escaped, string_text};
@@ -7,7 +7,7 @@ use crate::built::BuildError;
 use lay_text::{NoMemory, Text};
 use std::alloc::Global;
 
-/// The string literal whose value a text is.
+/// The string literal whose value is this text.
 pub fn string_literal(alloc: Global, text: &[u8]) -> Result<Text, BuildError>
     ensures { Gives result (λ literal. literal ≡ string_text text.now) }
 {
@@ -17,7 +17,7 @@ pub fn string_literal(alloc: Global, text: &[u8]) -> Result<Text, BuildError>
     }
 }
 
-/// The text in quotes, each byte escaped that has to be.
+/// The text in quotes, with the bytes escaped that need it.
 fn quoted(alloc: Global, text: &[u8]) -> Result<Text, NoMemory>
     ensures { IfOk result (λ literal. literal ≡ string_text text.now) }
 {
@@ -30,7 +30,7 @@ fn quoted(alloc: Global, text: &[u8]) -> Result<Text, NoMemory>
     Ok(literal)
 }
 
-/// Adds a byte, escaped if it has to be.
+/// Appends a byte, escaped if it needs it.
 fn push_escaped(literal: &mut Text, byte: u8) -> Result<(), NoMemory>
     ensures { OnOk result (literal.new ≡ literal.old ++ escaped byte) }
 {

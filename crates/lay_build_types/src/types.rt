@@ -1,4 +1,4 @@
-//! Types.
+//! Builders of types.
 ghost use Rattle.std.specs.Prelude.{◌≡◌, ◌+◌, ◌≤◌};
 ghost use Rattle.lay_node.specs.declared.types.Arg.TheVariants as arg;
 ghost use Rattle.lay_code.specs.Reading.{top};
@@ -15,7 +15,7 @@ use lay_code::{Arg, Args, Name, Ty};
 use lay_text::List;
 use std::alloc::Global;
 
-/// The type of a path of names, the last with these arguments, if there are any: `a::B<C, D>`.
+/// A path as a type; the last name has these generic arguments, if there are any: `a::B<C, D>`.
 pub fn type_path(
     alloc: Global,
     first: BuiltName,
@@ -30,7 +30,7 @@ pub fn type_path(
     kept(path_type(alloc, first, rest, args, need))
 }
 
-/// The type of a path of names whose arguments need this depth.
+/// A path as a type, whose generic arguments need this depth.
 fn path_type(
     alloc: Global,
     first: Name,
@@ -46,7 +46,7 @@ fn path_type(
     Ok((Ty::Path { path }, need + 1))
 }
 
-/// The generic arguments that these types are, or none.
+/// The generic arguments of these types, or none.
 fn type_args(alloc: Global, args: List<Ty>) -> Result<Args, BuildError>
     ensures { Gives result (λ arguments. arguments ≡ node.type_args args) }
 {
@@ -65,7 +65,7 @@ impl Turns<Arg> for Ty {
     }
 }
 
-/// A reference: `&A` or, where what it refers to may be written, `&mut A`.
+/// A reference type: `&A`, or `&mut A` if `writable`.
 pub fn type_ref(alloc: Global, writable: bool, of: BuiltType) -> Result<BuiltType, BuildError>
     ensures { Makes form_of_type (node.type_ref writable of) result }
 {
@@ -73,7 +73,7 @@ pub fn type_ref(alloc: Global, writable: bool, of: BuiltType) -> Result<BuiltTyp
     kept(reference(alloc, writable, inner, need))
 }
 
-/// A reference to a type that needs this depth.
+/// A reference type of a type that needs this depth.
 fn reference(alloc: Global, mutable: bool, inner: Ty, need: u32) -> Result<(Ty, u32), BuildError>
     requires { need ≤ top }
     ensures { Gives result (λ part. part ≡ (node.type_ref mutable inner, need + 1)) }
@@ -87,7 +87,7 @@ fn reference(alloc: Global, mutable: bool, inner: Ty, need: u32) -> Result<(Ty, 
     Ok((ty, need + 1))
 }
 
-/// A tuple: `(A, B)`.
+/// A tuple type: `(A, B)`.
 pub fn type_tuple(alloc: Global, parts: List<BuiltType>) -> Result<BuiltType, BuildError>
     ensures { Makes form_of_type (node.type_tuple parts) result }
 {
