@@ -1,4 +1,4 @@
-//! The command, as `clap` reads it.
+//! The command line in terms of `clap`.
 ghost use Rattle.std.specs.Prelude.{◌≡◌, IfOk, false, map};
 ghost use Rattle.clap.specs.Words.{app_of, rule_of};
 ghost use Rattle.lay_args.specs.Command.{Matched, command as the_command, flag_rule, option_rule};
@@ -8,8 +8,8 @@ use clap::{Arg, ArgAction, ArgMatches, Command};
 use lay_text::NoMemory;
 use std::alloc::{AllocError, Global};
 
-/// The matches that `clap` has for the words, or none where it finds a fault in them: a word that is no part of the
-/// command, or one that asks for help.
+/// What `clap` matches in the words, or `None` if they are no command line: a word is no part of
+/// the command, or asks for help.
 pub fn matches<'a>(alloc: Global, words: &'a [&'a str]) -> Result<Option<ArgMatches<'a>>, NoMemory>
     ensures { IfOk result (Matched (map (λ word. word.now) words.entry.now)) }
 {
@@ -23,8 +23,8 @@ pub fn matches<'a>(alloc: Global, words: &'a [&'a str]) -> Result<Option<ArgMatc
     }
 }
 
-/// The flags `--check` and `--map`, the options `--sample` and `--items` and one optional file, of words that don't begin
-/// with the program's name.
+/// The definition of the command: the flags `--check` and `--map`, the options `--sample` and
+/// `--items`, and one optional file. The words don't begin with the program's name.
 fn command<'a>(alloc: Global) -> Result<Command<'a>, AllocError>
     ensures { IfOk result (λ command. app_of command ≡ the_command) }
 {
@@ -41,7 +41,7 @@ fn command<'a>(alloc: Global) -> Result<Command<'a>, AllocError>
         .arg(file)
 }
 
-/// A flag of this long name.
+/// A flag with this long name.
 fn flag<'a>(alloc: Global, name: &'a str) -> Arg<'a>
     ensures rule { rule_of result ≡ flag_rule name.entry.now }
     ensures local { result.global ≡ false }
@@ -49,7 +49,7 @@ fn flag<'a>(alloc: Global, name: &'a str) -> Arg<'a>
     Arg::new(alloc, name).long(name).action(ArgAction::SetTrue)
 }
 
-/// An option of this long name, which takes one value.
+/// An option with this long name, which takes one value.
 fn option<'a>(alloc: Global, name: &'a str) -> Arg<'a>
     ensures rule { rule_of result ≡ option_rule name.entry.now }
     ensures local { result.global ≡ false }

@@ -1,4 +1,4 @@
-//! Words as texts.
+//! Words as UTF-8.
 ghost use Rattle.std.specs.Prelude.{◌≡◌, IfOk, MatchOption, false, true, map};
 ghost use Rattle.std.specs.List.{list_all};
 ghost use Rattle.std.specs.Str.{is_utf8};
@@ -7,7 +7,7 @@ use lay_text::{NoMemory, Text};
 use std::alloc::Global;
 use std::str;
 
-/// All the words as texts, or none of them where one isn't UTF-8.
+/// All words as `str`, or `None` if one isn't UTF-8.
 pub fn texts(alloc: Global, words: &[Text]) -> Result<Option<Vec<&str>>, NoMemory>
     ensures { IfOk result (λ answer. MatchOption answer (list_all is_utf8 words.now ≡ false)
         (λ texts. (list_all is_utf8 words.now ≡ true)
@@ -23,7 +23,7 @@ pub fn texts(alloc: Global, words: &[Text]) -> Result<Option<Vec<&str>>, NoMemor
     Ok(Some(texts))
 }
 
-/// A word as a text, where it is UTF-8.
+/// A word as `str`, if it is UTF-8.
 fn text(word: &Text) -> Option<&str>
     ensures { MatchOption result (is_utf8 word.now ≡ false)
         (λ text. (is_utf8 word.now ≡ true) × (text.now ≡ word.now)) }

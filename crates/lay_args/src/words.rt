@@ -1,4 +1,4 @@
-//! From words to a line.
+//! Parsing of a command line.
 ghost use Rattle.std.specs.Prelude.{◌≡◌, IfOk, option_map};
 ghost use Rattle.clap.specs.Words.{found_of, rows_of};
 ghost use Rattle.lay_args.specs.Line.{IsBounded, input_of, is_set, line_for, line_of, line_of_matches, sample_for};
@@ -13,10 +13,10 @@ use lay_io::Which;
 use lay_text::{NoMemory, Text};
 use std::alloc::Global;
 
-/// The line that the words make, which stand without the program's name. A word that isn't UTF-8 makes it `Usage`,
-/// and which other words are a line is `clap`'s definition for a command with the flags `--check` and `--map`, the
-/// options `--sample` and `--items` and one optional file, of which the flags don't stand together, and the options stand together
-/// and with nothing else.
+/// Parses the words as a command line; they stand without the program's name. The result is `Usage`
+/// if a word isn't UTF-8. Which other words are accepted is `clap`'s definition for the flags
+/// `--check` and `--map`, the options `--sample` and `--items` and one optional file, where the
+/// flags exclude each other, and each option requires the other one and excludes everything else.
 pub fn line(alloc: Global, words: &[Text]) -> Result<Line, NoMemory>
     ensures asked { IfOk result (λ line. line ≡ line_of words.now) }
     ensures few { IfOk result IsBounded }
@@ -30,7 +30,7 @@ pub fn line(alloc: Global, words: &[Text]) -> Result<Line, NoMemory>
     }
 }
 
-/// The line that the matches say.
+/// The command line that these matches mean.
 fn from_matches(alloc: Global, matches: &ArgMatches<'_>) -> Result<Line, NoMemory>
     ensures { IfOk result (λ line. line ≡ line_of_matches (rows_of (found_of matches.now))) }
 {
@@ -41,7 +41,8 @@ fn from_matches(alloc: Global, matches: &ArgMatches<'_>) -> Result<Line, NoMemor
     from_values(alloc, check, map, sample, items, matches.get_str("file"))
 }
 
-/// The line that the flags `--check` and `--map`, the texts of `--sample` and `--items`, and FILE say.
+/// The command line that these values mean: the flags `--check` and `--map`, the arguments of
+/// `--sample` and `--items`, and FILE.
 fn from_values(
     alloc: Global,
     check: bool,
@@ -63,7 +64,8 @@ fn from_values(
     }
 }
 
-/// The sample that the texts of `--sample` and `--items` ask for, where both write numbers.
+/// The sample for these arguments of `--sample` and `--items`, or `Usage` if one is no number in
+/// range.
 fn from_texts(sample: &str, items: &str) -> Line
     ensures { result ≡ sample_for (seed_of sample.now) (item_count_of items.now) }
 {
@@ -73,7 +75,7 @@ fn from_texts(sample: &str, items: &str) -> Line
     }
 }
 
-/// The input that is named, or standard input where none is.
+/// The named input, or standard input if there is no name.
 fn input(alloc: Global, file: Option<&str>) -> Result<Which, NoMemory>
     ensures { IfOk result (λ input. input ≡ input_of (option_map (λ name. name.now) file.entry)) }
 {
@@ -83,7 +85,7 @@ fn input(alloc: Global, file: Option<&str>) -> Result<Which, NoMemory>
     }
 }
 
-/// Whether a flag stands in the words: `clap` gives it the value `true` where it does.
+/// Whether a flag is set: then `clap` gives it the value `true`.
 fn is_set(value: Option<&str>) -> bool
     ensures { result ≡ is_set (option_map (λ text. text.now) value.entry) }
 {

@@ -1,4 +1,4 @@
-//! The program: the real objects, one call, and its status as exit status.
+//! The program: it calls [`run`] with the system's objects, and makes its status the exit status.
 #![tactic(auto)]
 
 ghost use Rattle.std.specs.Prelude.{◌≡◌, [], OnOk, OnErr};
@@ -15,7 +15,7 @@ use std::process::ExitCode;
 use std::rt::{Env, Files};
 use std::{env, io};
 
-/// Why the words aren't at hand.
+/// Why the words of the command line can't be had.
 enum NoWords {
     NotText,
     NoMemory,
@@ -36,7 +36,8 @@ fn main(rt: HostRuntime) -> ExitCode {
     }
 }
 
-/// The status of a run over the system's objects. It is generic over the system, so that what its files drop isn't proved here again.
+/// The status of a run with the system's objects. It is generic over the system, so that the drop
+/// of its files isn't proved here again.
 fn outcome<R: Input + Files + Print + Eprint>(rt: &R, alloc: Global, words: &[Text]) -> Status {
     let mut out = match HostSink::stdout(alloc, rt) {
         Ok(out) => out,
@@ -48,7 +49,8 @@ fn outcome<R: Input + Files + Print + Eprint>(rt: &R, alloc: Global, words: &[Te
     finished(status, out.flush(), &mut err)
 }
 
-/// The status of a run, or `WriteFailed` where its output wasn't handed to the system, which is told in one line.
+/// The status of a run, or `WriteFailed` if its output couldn't be handed to the system; that is
+/// reported in one line.
 fn finished<E: Sink>(status: Status, flushed: Result<(), Failed>, err: &mut E) -> Status
     ensures same { OnOk flushed ((result ≡ status) × (err.new ≡ err.old)) }
     ensures failed { OnErr flushed ((result ≡ Status.WriteFailed)
@@ -65,7 +67,7 @@ fn finished<E: Sink>(status: Status, flushed: Result<(), Failed>, err: &mut E) -
     }
 }
 
-/// The words of the command without the program's name.
+/// The words of the command line, without the program's name.
 fn words(rt: &(impl Env + AllocGlobal), alloc: Global) -> Result<Vec<Text>, NoWords> {
     let given = match env::args(rt) {
         Ok(given) => given,
@@ -84,7 +86,7 @@ fn words(rt: &(impl Env + AllocGlobal), alloc: Global) -> Result<Vec<Text>, NoWo
     Ok(words)
 }
 
-/// The exit status that stands for an outcome.
+/// The exit status for a status.
 fn exit_status(status: Status) -> u8
     ensures { result ≡ number_of status }
 {

@@ -31,37 +31,39 @@ use lay_token::{List, NoMemory, Refusal, Text};
 use std::alloc::Global;
 use std::mem::forget;
 
-/// How a run comes out.
+/// How a run of the command ended.
 #[derive(Clone, Copy, Debug, PartialEq, Eq)]
 pub enum Status {
-    /// The text was written whole; or the input was checked, and is its text; or its map was written whole; or the sample was summed
-    /// up.
+    /// The text was written completely; or the input was checked and is formatted; or its map was
+    /// written completely; or the sample was summed up.
     Done,
-    /// The input was checked, and isn't its text. Nothing was written.
+    /// The input was checked and isn't formatted. Nothing was written.
     Differs,
-    /// The words are no line of the command. Nothing was read.
+    /// The words are no command line. Nothing was read.
     Usage,
     /// A read failed. Nothing was written.
     ReadFailed,
-    /// The input reads to no file. Nothing was written.
+    /// The input has a syntax error. Nothing was written.
     Refused(Refusal),
-    /// A write failed. A prefix of what is to be written was written.
+    /// A write failed. A prefix of the output was written.
     WriteFailed,
     /// The input holds more than 16 MiB. Nothing was written.
     TooLong,
-    /// Memory was not found. A prefix of what is to be written was written.
+    /// Memory could not be allocated. A prefix of the output was written.
     NoMemory,
 }
 
 /// The greatest input of the command, in bytes.
 pub const LIMIT: usize = 16_777_216;
 
-/// Runs the command with its words, without the program's name: `[FILE]` writes the text of an input to `out`,
-/// `--check [FILE]` tells whether the input is its text, `--map [FILE]` writes where what the input says stands in its text, and
-/// `--sample SEED --items N` makes a sample, formats it, and writes one line that sums it up. Every other outcome is told in one
-/// line on `err`.
+/// Runs the command with its words, without the program's name: `[FILE]` writes the formatted text
+/// of an input to `out`, `--check [FILE]` checks whether the input is formatted, `--map [FILE]`
+/// writes where the parts of the input are in its formatted text, and `--sample SEED --items N`
+/// makes a sample, formats it, and writes one line that sums it up. For every other outcome one
+/// line is written to `err`.
 ///
-/// The program is to end after its run: what an input was read to isn't taken apart, and its memory not given back.
+/// The program has to end after the run: the tree of an input isn't dropped, and its memory isn't
+/// freed.
 pub fn run<I: Inputs, K: Sink, E: Sink>(
     alloc: Global,
     words: &[Text],
@@ -71,43 +73,45 @@ pub fn run<I: Inputs, K: Sink, E: Sink>(
 ) -> Status
     requires { I.chosen inputs.old ≡ None }
 
-    // Words that are no line: nothing was read and nothing written.
+    // If the words are no command line, nothing was read and nothing written.
     ensures usage { result ≡ Status.Usage → line_of words.now ≡ line.Usage }
     ensures complete_usage { line_of words.now ≡ line.Usage → (result ≡ Status.Usage) ⊎ (result ≡ Status.NoMemory) }
     ensures untouched { line_of words.now ≡ line.Usage → (inputs.new ≡ inputs.old) × (out.new ≡ out.old) }
 
-    // The input that the line names is chosen, and none where it names none, unless memory was wanting for the words.
+    // The input that the command line names is chosen, and none if it names none, unless memory was
+    // out while parsing the words.
     ensures chosen { (I.chosen inputs.new ≡ input_of (line_of words.now))
         ⊎ ((result ≡ Status.NoMemory) × (inputs.new ≡ inputs.old)) }
 
-    // Of the input that the line names an end is left, and of each other what was left.
+    // Of the chosen input what is left is a suffix of what was left; of each other input it is
+    // unchanged.
     ensures others { (which : Which) → input_of (line_of words.now) ≢ Some which
         → I.left inputs.new which ≡ I.left inputs.old which }
     ensures rest { (which : Which) → input_of (line_of words.now) ≡ Some which
         → IsEnd (I.left inputs.old which) (I.left inputs.new which) }
 
-    // No count falls, and each sink that comes back holds the loan that it held.
+    // No count of faults falls, and each sink that comes back holds the loan that it held.
     ensures later { (I.faults inputs.old ≤ I.faults inputs.new) × (K.faults out.old ≤ K.faults out.new)
         × (E.faults err.old ≤ E.faults err.new) }
     ensures loan { SameLoan (K.loan out.old) (K.loan out.new) × SameLoan (E.loan err.old) (E.loan err.new) }
 
-    // The cause of each answer, and what it leaves, where an input is formatted and where one is checked.
+    // The cause of each status, and what it leaves, if an input is formatted or checked.
     ensures format { (which : Which) → line_of words.now ≡ line.Format which
         → FormatRun K.written K.faults I.left I.faults which inputs.old inputs.new out.old out.new result }
     ensures check { (which : Which) → line_of words.now ≡ line.Check which
         → CheckRun I.left I.faults which inputs.old inputs.new result }
     ensures unwritten { (which : Which) → line_of words.now ≡ line.Check which → out.new ≡ out.old }
 
-    // The same where an input is mapped.
+    // The same if an input is mapped.
     ensures map { (which : Which) → line_of words.now ≡ line.Map which
         → MapRun K.written K.faults I.left I.faults which inputs.old inputs.new out.old out.new result }
 
-    // The same where a sample is summed up. No input is touched.
+    // The same if a sample is summed up. No input is touched.
     ensures sample { (seed items : ℕ) → line_of words.now ≡ line.Sample seed items
         → (inputs.new ≡ inputs.old) × SampleRun K.written K.faults items (sample_text seed items) out.old out.new result }
 
-    // With no fault the answer is the one that the input's bytes have, and what a run wrote is formatted again to the
-    // same bytes.
+    // Without a fault the status is the one that the input's bytes determine, and formatting what
+    // was written gives the same bytes.
     ensures complete { (which : Which) (bytes : Items ℕ) (file : File) → line_of words.now ≡ line.Format which
         → ¬ (Rose (I.faults inputs.old) (I.faults inputs.new)) → ¬ (Rose (K.faults out.old) (K.faults out.new))
         → I.left inputs.old which ≡ Some bytes → length bytes ≤ 16777216 → Reads bytes file
@@ -149,7 +153,7 @@ pub fn run<I: Inputs, K: Sink, E: Sink>(
         → IsRefused (sample_text seed items) refusal
         → (result ≡ Status.Refused refusal) ⊎ (result ≡ Status.NoMemory) }
 
-    // The line of the status stands on `err`, and none where the work was done.
+    // The line of the status is written to `err`, and none on success.
     ensures said { Says (given_to (line_of words.now) (I.left inputs.old)) result
         (E.written err.old) (E.written err.new) (E.faults err.old) (E.faults err.new) }
     ensures silent { result ≡ Status.Done → err.new ≡ err.old }
@@ -159,7 +163,7 @@ pub fn run<I: Inputs, K: Sink, E: Sink>(
     status_after(ended)
 }
 
-/// The status of a run that ended so.
+/// The status of a run that ended like this.
 fn status_after(ended: Result<(), Stop>) -> Status
     ensures { result ≡ status_of ended }
 {
@@ -202,7 +206,7 @@ fn execute<I: Inputs, K: Sink>(
     }
 }
 
-/// Writes the text of an input.
+/// Writes the formatted text of an input.
 fn format_input<I: Inputs, K: Sink>(
     alloc: Global,
     which: Which,
@@ -232,7 +236,7 @@ fn format_input<I: Inputs, K: Sink>(
     }
 }
 
-/// Compares an input with its text.
+/// Compares an input with its formatted text.
 fn check_input<I: Inputs>(alloc: Global, which: Which, inputs: &mut I) -> Result<(), Stop>
     requires { I.chosen inputs.old ≡ None }
     ensures chosen { I.chosen inputs.new ≡ Some which }
@@ -255,7 +259,7 @@ fn check_input<I: Inputs>(alloc: Global, which: Which, inputs: &mut I) -> Result
     }
 }
 
-/// Writes where what an input says stands in its text.
+/// Writes the map from an input to its formatted text.
 fn map_input<I: Inputs, K: Sink>(
     alloc: Global,
     which: Which,
@@ -285,7 +289,7 @@ fn map_input<I: Inputs, K: Sink>(
     }
 }
 
-/// The bytes of an input, and the file that they read to.
+/// Reads an input, and parses it; gives its bytes and the file.
 fn read_input<I: Inputs>(
     alloc: Global,
     which: Which,

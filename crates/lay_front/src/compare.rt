@@ -1,4 +1,4 @@
-//! A text against the bytes that are expected of it.
+//! Comparison of the text of a file with bytes.
 ghost use Rattle.std.specs.Prelude.{◌≡◌, ◌≢◌, ◌<◌, ◌≤◌, ◌↔◌, [], length, take, slice_get, slice_index, IfOk, IsTrue, Some};
 ghost use Rattle.std.specs.Option.{ForSome, ForNone};
 ghost use Rattle.lay_code.specs.Out.{out as text_of_file};
@@ -10,8 +10,8 @@ use lay_printer::PrintError;
 use lay_token::{List, NoMemory};
 use std::alloc::Global;
 
-/// Whether the text of a file is these bytes. The text isn't kept: it is compared as it is made, and no more of it is
-/// made than up to the first byte that differs.
+/// Whether the text of a file is these bytes. The text isn't kept: it is compared as it is made,
+/// and only made up to the first byte that differs.
 pub fn is_text(alloc: Global, file: &File, bytes: List<u8>) -> Result<bool, NoMemory>
     ensures { IfOk result (λ same. IsTrue same ↔ (bytes ≡ text_of_file file.now)) }
 {
@@ -23,14 +23,14 @@ pub fn is_text(alloc: Global, file: &File, bytes: List<u8>) -> Result<bool, NoMe
     }
 }
 
-/// A sink that compares what is written with the bytes that are expected, and keeps none of it but the first byte that
-/// is wrong. There it fails, and so does each later write.
+/// A sink that compares what is written with the expected bytes, and keeps nothing of it but the
+/// first byte that is wrong. That write fails, and so does each later one.
 #[derive(Drop)]
 struct Comparer {
     expected: List<u8>,
-    /// How many of the bytes have been met.
+    /// How many of the expected bytes were written.
     met: usize,
-    /// The first wrong byte, which stands after those that were met.
+    /// The first wrong byte, which was written after those.
     wrong: Option<u8>,
     faults: u64,
     ghost within: { met ≤ length expected },
@@ -43,7 +43,7 @@ struct Comparer {
 impl Comparer {
     ghost use Rattle.lay_front.specs.Comparing.{expected_by, written_to};
 
-    /// Nothing is written yet. It takes no memory.
+    /// A comparer to which nothing was written. It doesn't allocate.
     fn new(expected: List<u8>) -> Comparer
         ensures expected { expected_by result ≡ expected }
         ensures nothing { written_to result ≡ [] }
@@ -57,7 +57,7 @@ impl Comparer {
         }
     }
 
-    /// Whether what was written is all that is expected, and nothing else.
+    /// Whether exactly the expected bytes were written.
     fn has_met_all(&self) -> bool
         ensures { IsTrue result ↔ (written_to self.now ≡ expected_by self.now) }
     {
@@ -97,7 +97,7 @@ impl Sink for Comparer {
     }
 }
 
-/// How many bytes at the beginning of a piece are those that are expected.
+/// The length of the common prefix of a piece and the expected bytes.
 fn same_front(piece: &[u8], expected: &[u8]) -> usize
     ensures in_piece { result ≤ length piece.now }
     ensures in_expected { result ≤ length expected.now }

@@ -1,4 +1,4 @@
-//! From bytes to laid-out bytes in a sink.
+//! Formatting of bytes and of trees, to a text or to a sink.
 ghost use Rattle.std.specs.Prelude.{◌≡◌, ◌≤◌, ◌⊎◌, ℕ, List as Items, Ok, Err, IfOk, IsOk};
 ghost use Rattle.lay_io.specs.Faults.{Rose, SameLoan};
 ghost use Rattle.lay_io.specs.Told.{GrewBy};
@@ -18,30 +18,30 @@ use lay_printer::PrintError;
 use lay_token::{FormatError, NoMemory, Refusal, Text};
 use std::alloc::Global;
 
-/// Why a text wasn't written whole.
+/// Why a text wasn't written completely.
 #[derive(Clone, Copy, Debug, PartialEq, Eq)]
 pub enum IntoError {
-    /// The bytes read to no file. Nothing was written.
+    /// The bytes have a syntax error. Nothing was written.
     Refused(Refusal),
     /// A write failed. A prefix of the text was written.
     WriteFailed,
-    /// Memory was not found. A prefix of the text was written.
+    /// Memory could not be allocated. A prefix of the text was written.
     NoMemory,
 }
 
-/// The text of the file that the bytes read to, which reads to the same file. Refused comes exactly where they are
-/// refused.
+/// Formats the bytes. The text parses to the same file as the bytes. `Refused` is given exactly if
+/// the bytes have a syntax error.
 pub fn format(alloc: Global, bytes: &[u8]) -> Result<Text, FormatError>
-    // The cause of each answer.
+    // The cause of each error.
     ensures formats { FormatsTo bytes.now result }
 
-    // The answer is the one that the bytes have.
+    // The result is the one that the bytes determine.
     ensures complete { (file : File) → Reads bytes.now file
         → (result ≡ Ok (text_of_file file)) ⊎ (result ≡ Err FormatError.NoMemory) }
     ensures complete_refused { (refusal : Refusal) → IsRefused bytes.now refusal
         → (result ≡ Err (FormatError.Refused refusal)) ⊎ (result ≡ Err FormatError.NoMemory) }
 
-    // The text is formatted again to the same bytes.
+    // Formatting the text again gives the same bytes.
     ensures again { (given : Items ℕ) (file : File) → Reads given file
         → bytes.now ≡ text_of_file file
         → (result ≡ Ok bytes.now) ⊎ (result ≡ Err FormatError.NoMemory) }
@@ -49,8 +49,8 @@ pub fn format(alloc: Global, bytes: &[u8]) -> Result<Text, FormatError>
     format_text(alloc, bytes)
 }
 
-/// The text of a file that can be written, which reads to the file. Whether a file can be written is told by
-/// `is_written` of `lay_laws`.
+/// The text of a file that can be written; it parses to that file. `is_written` of `lay_laws`
+/// decides whether a file can be written.
 pub fn unparse(alloc: Global, file: &File) -> Result<Text, NoMemory>
     requires written { Written file.now }
     requires depth { least_depth (form_of_file file.now) ≤ top }
@@ -60,16 +60,16 @@ pub fn unparse(alloc: Global, file: &File) -> Result<Text, NoMemory>
     text_of(alloc, file)
 }
 
-/// Writes the text of the file that the bytes read to, which reads to the same file. Refused comes exactly where
-/// they are refused.
+/// Formats the bytes, and writes the text, which parses to the same file. `Refused` is given
+/// exactly if the bytes have a syntax error.
 pub fn format_into<K: Sink>(alloc: Global, bytes: &[u8], out: &mut K) -> Result<(), IntoError>
     ensures later { K.faults out.old ≤ K.faults out.new }
     ensures loan { SameLoan (K.loan out.old) (K.loan out.new) }
 
-    // The cause of each answer, and what it leaves.
+    // The cause of each error, and what it leaves.
     ensures formats { Formats K.written K.faults bytes.now out.old out.new result }
 
-    // With no fault the answer is the one that the bytes have.
+    // Without a fault the result is the one that the bytes determine.
     ensures complete { (file : File) → ¬ (Rose (K.faults out.old) (K.faults out.new))
         → Reads bytes.now file
         → (IsOk result × GrewBy (K.written out.old) (K.written out.new) (text_of_file file))
@@ -77,7 +77,7 @@ pub fn format_into<K: Sink>(alloc: Global, bytes: &[u8], out: &mut K) -> Result<
     ensures complete_refused { (refusal : Refusal) → IsRefused bytes.now refusal
         → (result ≡ Err (IntoError.Refused refusal)) ⊎ (result ≡ Err IntoError.NoMemory) }
 
-    // What was written is formatted again to the same bytes.
+    // Formatting what was written gives the same bytes.
     ensures again { (given : Items ℕ) (file : File) → Reads given file
         → bytes.now ≡ text_of_file file
         → ¬ (Rose (K.faults out.old) (K.faults out.new))
@@ -87,7 +87,7 @@ pub fn format_into<K: Sink>(alloc: Global, bytes: &[u8], out: &mut K) -> Result<
     format_bytes(alloc, bytes, out)
 }
 
-/// Reads the bytes to their file, and gives its text.
+/// Parses the bytes as a file, and gives its text.
 fn format_text(alloc: Global, bytes: &[u8]) -> Result<Text, FormatError>
     ensures { FormatsTo bytes.now result }
 {
@@ -102,7 +102,7 @@ fn format_text(alloc: Global, bytes: &[u8]) -> Result<Text, FormatError>
     }
 }
 
-/// Reads the bytes to their file, and writes its text.
+/// Parses the bytes as a file, and writes its text.
 fn format_bytes<K: Sink>(alloc: Global, bytes: &[u8], out: &mut K) -> Result<(), IntoError>
     ensures later { K.faults out.old ≤ K.faults out.new }
     ensures loan { SameLoan (K.loan out.old) (K.loan out.new) }

@@ -1,4 +1,4 @@
-//! The lines that say why a run stopped.
+//! The messages of the command.
 ghost use Rattle.std.specs.Prelude.{◌≡◌, ◌≤◌, ◌++◌, [], Err, OnOk, codes};
 ghost use Rattle.std.specs.Fmt.{decimal};
 ghost use Rattle.lay_io.specs.Calls.{Writes};
@@ -12,8 +12,8 @@ use itoa::Buffer;
 use lay_io::{Failed, Sink};
 use lay_token::{Place2, Refusal};
 
-/// Says on `err` why a run ended, and nothing where it was done: a line, in pieces, without memory. A fault of `err`
-/// changes nothing else.
+/// Writes to `err` one line that says why a run ended, or nothing on success. It writes the line in
+/// pieces, and allocates nothing. A fault of `err` has no other effect.
 pub fn tell<E: Sink>(ended: Result<(), Stop>, err: &mut E)
     ensures part { GrewByPrefix (E.written err.old) (E.written err.new) (line_of_end ended) }
     ensures whole { ¬ (Rose (E.faults err.old) (E.faults err.new))
@@ -28,7 +28,7 @@ pub fn tell<E: Sink>(ended: Result<(), Stop>, err: &mut E)
     let _ = write_line(stop, err);
 }
 
-/// Says on `err` that a write failed: its line, or a prefix of it where `err` fails too.
+/// Writes to `err` that a write failed: the line, or a prefix of it if `err` fails too.
 pub fn tell_failed_write<E: Sink>(err: &mut E)
     ensures part { GrewByPrefix (E.written err.old) (E.written err.new)
         (message [] Status.WriteFailed) }
@@ -59,7 +59,7 @@ fn write_line<E: Sink>(stop: Stop, err: &mut E) -> Result<(), Failed>
     }
 }
 
-/// Writes the line of a refusal: where it stands, and why.
+/// Writes the line of a syntax error: its place and its cause.
 fn write_refusal<E: Sink>(refusal: Refusal, place: Place2, err: &mut E) -> Result<(), Failed>
     ensures bytes { Writes (E.written err.old) (E.written err.new) result
         (refusal_line refusal place) }
@@ -72,7 +72,7 @@ fn write_refusal<E: Sink>(refusal: Refusal, place: Place2, err: &mut E) -> Resul
     write_number(place.column, reason(refusal), err)
 }
 
-/// Writes a number in decimal digits, and a piece after it.
+/// Writes a number in decimal digits, and then a piece.
 fn write_number<E: Sink>(number: usize, behind: &[u8], err: &mut E) -> Result<(), Failed>
     ensures bytes { Writes (E.written err.old) (E.written err.new) result
         (decimal number ++ behind.now) }
@@ -86,7 +86,7 @@ fn write_number<E: Sink>(number: usize, behind: &[u8], err: &mut E) -> Result<()
     err.write(behind)
 }
 
-/// Why an input is refused, after the place.
+/// The message of a syntax error, without its place.
 fn reason(refusal: Refusal) -> &'static [u8]
     ensures { result.now ≡ reason refusal }
 {

@@ -20,8 +20,8 @@ use lay_sample::sample;
 use lay_token::{NoMemory, Text};
 use std::alloc::Global;
 
-/// Makes the sample of a seed and so many items, formats it, and writes the line that sums it up. The text isn't kept: it
-/// is counted as it is made.
+/// Makes the sample of a seed with this many items, formats it, and writes the line that sums it
+/// up. The formatted text isn't kept: it is counted as it is made.
 pub fn sum_up_sample<K: Sink>(alloc: Global, seed: u64, items: u32, out: &mut K) -> Result<(), Stop>
     requires { items ≤ 200000 }
     ensures run { SampleRun K.written K.faults items (sample_text seed items) out.old out.new
@@ -49,7 +49,7 @@ pub fn sum_up_sample<K: Sink>(alloc: Global, seed: u64, items: u32, out: &mut K)
     }
 }
 
-/// The line that sums up a sample of so many items and its file's text.
+/// The line that sums up a sample of this many items and its formatted text.
 fn summary_of(alloc: Global, items: u32, bytes: &[u8], file: &File) -> Result<Text, NoMemory>
     ensures { IfOk result (λ line. line ≡ summary items bytes.now (text_of_file file.now)) }
 {
@@ -64,7 +64,7 @@ fn summary_of(alloc: Global, items: u32, bytes: &[u8], file: &File) -> Result<Te
     Ok(line)
 }
 
-/// Adds a piece and a number in decimal digits after it.
+/// Appends a piece, and a number in decimal digits.
 fn add(line: &mut Text, piece: &[u8], number: u64) -> Result<(), NoMemory>
     ensures { IfOk result (λ _. line.new ≡ line.old ++ (piece.now ++ decimal number)) }
 {
@@ -72,7 +72,7 @@ fn add(line: &mut Text, piece: &[u8], number: u64) -> Result<(), NoMemory>
     line.push_bytes(Buffer::new().format(number).as_bytes())
 }
 
-/// What there is to count of a file's text.
+/// The counts of a file's text.
 fn count(alloc: Global, file: &File) -> Result<Counts, NoMemory>
     ensures bytes { IfOk result (λ counts. counts.bytes ≡ length (text_of_file file.now)) }
     ensures lines { IfOk result (λ counts. counts.lines ≡ lines_of (text_of_file file.now)) }

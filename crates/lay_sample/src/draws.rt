@@ -1,22 +1,22 @@
-//! What a seed draws.
+//! Pseudo-random draws from a seed.
 ghost use Rattle.std.specs.Prelude.{◌≡◌, ◌<◌};
 ghost use Rattle.lay_sample.specs.Sample.{draw, item_at, next_state, state_behind};
 
 use crate::items::Item;
 
-/// By how much a draw multiplies the state.
+/// The multiplier of the generator.
 const MULTIPLIER: u64 = 6364136223846793005;
-/// What a draw then adds to the state.
+/// The increment of the generator.
 const INCREMENT: u64 = 1442695040888963407;
 
-/// Numbers and items, drawn one after another. The state begins at the seed.
+/// Draws numbers and items. The state begins as the seed.
 #[derive(Debug, Drop)]
 pub struct Draws {
     pub state: u64,
 }
 
 impl Draws {
-    /// Draws an item: its kind, and its number where the kind has one.
+    /// Draws an item: its kind, and its number if the kind has one.
     pub fn item(&mut self) -> Item
         ensures item { result ≡ item_at self.old.state }
         ensures state { self.new.state ≡ state_behind self.old.state }
@@ -29,8 +29,8 @@ impl Draws {
         }
     }
 
-    /// Draws a number below `n`. The lowest 33 bits of the state are left out, since low bits soon come again in the same
-    /// order.
+    /// Draws a number below `n`. The lowest 33 bits of the state aren't used, since low bits repeat
+    /// with a short period.
     fn below(&mut self, n: u64) -> u64
         requires { 0 < n }
         ensures number { result ≡ draw n self.old.state }

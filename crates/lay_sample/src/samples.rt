@@ -9,8 +9,8 @@ use itoa::Buffer;
 use lay_text::{NoMemory, Text};
 use std::alloc::Global;
 
-/// The sample of a seed: a text of that many items, each on a line of its own that ends with LF. Asking for more items
-/// only adds lines. Memory is taken for the text alone, and `NoMemory` is answered where it isn't found.
+/// The sample of a seed: a text of this many items, each on a line of its own that ends with LF.
+/// With more items it only gets more lines. Only the text is allocated; `NoMemory` if that fails.
 #[tactic(auto, using(crate::proofs::More::sample_more, crate::proofs::More::state_more))]
 pub fn sample(alloc: Global, seed: u64, items: u32) -> Result<Text, NoMemory>
     requires { items ≤ 200000 }
@@ -24,7 +24,7 @@ pub fn sample(alloc: Global, seed: u64, items: u32) -> Result<Text, NoMemory>
     Ok(text)
 }
 
-/// Adds the line of item `i`.
+/// Appends the line of item `i`.
 fn push_line(text: &mut Text, i: u64, item: Item) -> Result<(), NoMemory>
     ensures { OnOk result (text.new ≡ text.old ++ line_of i item) }
 {
@@ -50,7 +50,7 @@ fn push_line(text: &mut Text, i: u64, item: Item) -> Result<(), NoMemory>
     }
 }
 
-/// Adds bytes, and a number in decimal digits after them.
+/// Appends bytes, and a number in decimal digits.
 fn push_number(text: &mut Text, before: &[u8], number: u64) -> Result<(), NoMemory>
     ensures { OnOk result (text.new ≡ text.old ++ before.now ++ decimal number) }
 {

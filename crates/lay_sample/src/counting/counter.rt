@@ -7,20 +7,20 @@ use crate::counting::tally::Tally;
 use lay_io::{Failed, Sink};
 use std::marker::Model;
 
-/// The counts of a text. A line ends at an LF, which is no part of it. After the last LF stands one more line, which is
-/// empty where the text ends there.
+/// The counts of a text. A line ends at an LF, which doesn't belong to it. After the last LF there
+/// is one more line, which is empty if the text ends there.
 #[derive(Clone, Copy, Debug, PartialEq, Eq)]
 pub struct Counts {
     /// How many bytes there are.
     pub bytes: u64,
     /// How many of the bytes are LFs.
     pub lines: u64,
-    /// How many bytes the longest line has.
+    /// The length of the longest line in bytes.
     pub longest: u64,
 }
 
-/// A sink that counts what is written and keeps none of it. It takes no memory but its own. A write fails where the bytes
-/// would be 2^64 or more. It counts nothing then, and is counted as a fault.
+/// A sink that counts what is written and keeps nothing of it. It allocates nothing. If the count
+/// of bytes would reach 2^64, a write fails; then it counts nothing, and the fault is counted.
 #[derive(Drop)]
 pub struct Counter {
     tally: Tally,
@@ -40,7 +40,7 @@ impl Model for Counter {
 }
 
 impl Counter {
-    /// Nothing is written yet.
+    /// A counter to which nothing was written.
     pub fn new() -> Counter
         ensures { result ≡ record { text = []; faults = 0 } }
     {

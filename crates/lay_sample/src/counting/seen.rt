@@ -5,7 +5,7 @@ ghost use Rattle.std.specs.Coded.{coded_list, coded_ℕ};
 
 use std::marker::Model;
 
-/// The bytes that were written so far. It has none of them in memory: it takes no bytes.
+/// The bytes that were written so far. They are ghost data: the struct has no bytes in memory.
 #[derive(Drop)]
 pub(crate) struct Seen {
     pub ghost text: { List ℕ },
@@ -16,14 +16,14 @@ impl Model for Seen {
 }
 
 impl Seen {
-    /// Nothing was written.
+    /// No bytes.
     pub(crate) fn new() -> Seen
         ensures { result.text ≡ [] }
     {
         Seen {}
     }
 
-    /// A piece was written after it.
+    /// The bytes, and then this piece.
     pub(crate) fn and(&self, piece: &[u8]) -> Seen
         ensures { result.text ≡ self.now.text ++ piece.now }
     {

@@ -29,14 +29,14 @@ impl Tally {
         }
     }
 
-    /// Whether so many more bytes can be counted.
+    /// Whether this many more bytes can be counted.
     pub(crate) fn has_room(&self, bytes: usize) -> bool
         ensures { IsTrue result ↔ (self.now.bytes + bytes < 2 ^ 64) }
     {
         bytes as u64 <= u64::MAX - self.bytes
     }
 
-    /// Counts a piece after the text.
+    /// Counts a piece that follows the text.
     pub(crate) fn add(&mut self, piece: &[u8])
         requires { self.old.bytes + length piece.now < 2 ^ 64 }
         ensures { (text : List ℕ) → IsTallyOf self.old text
@@ -47,7 +47,7 @@ impl Tally {
         }
     }
 
-    /// Counts a byte after the text.
+    /// Counts a byte that follows the text.
     fn push(&mut self, byte: u8)
         requires { self.old.bytes + 1 < 2 ^ 64 }
         ensures one { self.new.bytes ≡ self.old.bytes + 1 }
