@@ -1,4 +1,5 @@
-//! What calls make, tokens of texts, and printers over sinks that keep what is written.
+//! Helpers of the tests: results that must be `Ok`, tokens of texts, and printers over sinks in
+//! memory.
 ghost use Rattle.std.specs.Prelude.{IfOk};
 ghost use Rattle.lay_read_tokens.specs.Answers.{AreLexed};
 
@@ -11,7 +12,7 @@ use lay_token::FormatError;
 use std::alloc::Global;
 use std::process::Abort;
 
-/// What a call makes.
+/// The value of a result that must be `Ok`.
 pub(crate) fn made<T, E>(rt: &impl Abort, answer: Result<T, E>) -> T {
     match answer {
         Ok(value) => value,
@@ -24,7 +25,7 @@ pub(crate) fn list(rt: &impl Abort, alloc: Global, bytes: &[u8]) -> List<u8> {
     List::from_vec(made(rt, bytes.to_vec(alloc)))
 }
 
-/// The tokens of a text, nested, or why there are none.
+/// The tokens of a text, with balanced delimiters, or the error.
 fn nested(alloc: Global, text: &[u8]) -> Result<Nested, FormatError>
     ensures { IfOk result (λ found. AreLexed found) }
 {
@@ -33,7 +34,7 @@ fn nested(alloc: Global, text: &[u8]) -> Result<Nested, FormatError>
     nest(alloc, tokens)
 }
 
-/// The tokens of a text, nested.
+/// The tokens of a text, with balanced delimiters.
 pub(crate) fn lexed(rt: &impl Abort, alloc: Global, text: &str) -> Nested
     ensures { AreLexed result }
 {
@@ -49,14 +50,14 @@ pub(crate) fn printer(rt: &impl Abort, alloc: Global) -> Printer<QuietSink> {
     made(rt, Printer::new(alloc, sink))
 }
 
-/// What was printed.
+/// Checks what was printed.
 pub(crate) fn is_printed(rt: &impl Abort, printer: Printer<QuietSink>, wanted: &str) {
     assert!(rt; printer.open_groups() == 0);
     let sink = made(rt, printer.finish());
     is(rt, sink.bytes(), wanted.as_bytes());
 }
 
-/// These bytes are the others.
+/// Checks that the bytes are equal.
 pub(crate) fn is(rt: &impl Abort, found: &[u8], wanted: &[u8]) {
     assert_eq!(rt; found, wanted);
 }
