@@ -1,7 +1,8 @@
 -- What an answer of the lexer says of a window.
-use Rattle.std.specs.Prelude.{ℕ, ◌≡◌, Bool, true, false, ◌&&◌, ◌||◌, List, [], ◌∷◌, codes, drop, IsTrue, Result, Ok, Err}
+use Rattle.std.specs.Prelude.{ℕ, ◌≡◌, ◌+◌, ◌-◌, ◌^◌, min, Bool, true, false, ◌&&◌, ◌||◌, List, [], ◌∷◌, codes, drop, IsTrue, Result, Ok, Err}
 use Rattle.std.specs.Str.{chars, bytes_eq, IsCharBoundary}
 use Rattle.lay_piece.specs.declared.kind.Kind.{Kind}
+use Rattle.lay_piece.specs.declared.kind.Kind.TheVariants as kinds
 use Rattle.lay_token.specs.Delimiters.{is_opener, is_closer}
 use Rattle.lay_token.specs.Lexes.{Part, Other, spell, Fit, Lexes, NoTokenAt, is_punct, tokens_from}
 use Rattle.lay_token.specs.declared.token.Token.{Token}
@@ -21,6 +22,13 @@ abbrev pub ends_in_stop : List Token → Bool
 ends_in_stop [] = false
 ends_in_stop (t ∷ []) = is_stop t.kind t.text
 ends_in_stop (t ∷ u ∷ us) = ends_in_stop (u ∷ us)
+
+-- How many groups are open after a token of this kind, where so many are open before it. A closing delimiter that has no
+-- partner leaves none open, and the number stays within 64 bits.
+abbrev pub open_after : ℕ → Kind → ℕ
+open_after groups (kinds.Opener d) = min (groups + 1) (2 ^ 64 - 1)
+open_after groups (kinds.Closer d) = groups - 1
+open_after groups _ = groups
 
 -- From one place of the text up to another stand parts, whose tokens are these, and the last of them is a stop.
 pub record UpTo (text : List ℕ) (from to : ℕ) (tokens : List Token) : Type 0 where

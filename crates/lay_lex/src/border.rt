@@ -1,6 +1,6 @@
 //! Where a window of tokens may end.
-ghost use Rattle.std.specs.Prelude.{IfSome, IsFalse, IsSome, IsTrue};
-ghost use Rattle.lay_lex.specs.Window.{ends_in_stop, is_end};
+ghost use Rattle.std.specs.Prelude.{◌≡◌, IfSome, IsFalse, IsSome, IsTrue};
+ghost use Rattle.lay_lex.specs.Window.{ends_in_stop, is_end, open_after};
 
 use crate::window::Stop;
 use lay_token::{Delim, Kind, Token};
@@ -43,11 +43,13 @@ pub fn ends_behind(least: Option<usize>, open: usize, tokens: &[Token]) -> Optio
 
 /// How many groups are open after a token of this kind.
 #[inline]
-pub fn open_behind(open: usize, kind: Kind) -> usize {
+pub fn open_behind(groups: usize, kind: Kind) -> usize
+    ensures { result ≡ open_after groups kind }
+{
     match kind {
-        Kind::Opener(_) => open.saturating_add(1),
-        Kind::Closer(_) => open.saturating_sub(1),
-        _ => open,
+        Kind::Opener(_) => groups.saturating_add(1),
+        Kind::Closer(_) => groups.saturating_sub(1),
+        _ => groups,
     }
 }
 
