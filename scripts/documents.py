@@ -15,6 +15,7 @@ usage: documents.py COMMAND
 - The oldest Rust of the crate is the one that its README, the package beside it and the workflow name.
 - Each crate has a row in docs/ARCHITECTURE.md and in docs/PROVED.md, and a place in the graph. The
   table of what a new node costs has the files that node.py lists.
+- Each row of the table of claims of docs/PROVED.md names clauses that stand in the sources.
 
 A line tells each fault; the exit status is 0 where there is none.
 """
@@ -36,6 +37,12 @@ DOCUMENTS = [TOP / "README.md", TOP / "CONTRIBUTING.md", *sorted((TOP / "docs").
              TOP / "SECURITY.md", TOP / "CHANGELOG.md", TOP / ".github/PULL_REQUEST_TEMPLATE.md"]
 BLOCK = re.compile(r"^```(\S+)(?: (\S+))?\n(.*?)^```$", re.M | re.S)
 NAMED = re.compile(r"`((?:crates|docs|examples|rust|scripts|tests|tools|c)/[\w./-]+)|\b(docs/\w+\.md)|\B(CONTRIBUTING\.md|CHANGELOG\.md|README\.md)\b")
+# A clause in the table of claims: "`again` of `lay_reparse::reparse_law`", and "the clause of .." where
+# it is a function's only one, without a name.
+CLAUSE = re.compile(r"(?:`(\w+)`|the clause) of `(lay_\w+)::([\w:]+)`")
+# A public function up to its body, and what it is a function of.
+FUNCTION = re.compile(r"^( *)pub fn (\w+)\b(.*?)^\1\{", re.M | re.S)
+OWNER = re.compile(r"^impl(?:<.*?>)? (?:\w+ for )?(\w+)", re.M)
 KINDS = re.compile(r"^KINDS = \{\n(.*?)^\}", re.M | re.S)
 
 
@@ -159,6 +166,36 @@ def wrong_rows():
         yield f"docs/ARCHITECTURE.md: the longest chain has {longest} crates"
 
 
+def clauses_of(crate, name):
+    """The names of the clauses of a public function of a crate, "" of one without a name; or None where
+    there is no such function, or not just one."""
+    owner, _, function = name.rpartition("::")
+    found = []
+    for path in sorted((TOP / "crates" / crate / "src").rglob("*.rt")):
+        text = path.read_text()
+        for head in FUNCTION.finditer(text):
+            owners = OWNER.findall(text, 0, head.start()) if head[1] else []
+            if head[2] == function and (owners[-1] if owners else "") == owner:
+                found.append(re.findall(r"^ *ensures (?:(\w+) )?\{", head[3], re.M))
+    return found[0] if len(found) == 1 else None
+
+
+def wrong_claims():
+    """Each row of the table of claims names clauses, and all that stands between backquotes there is
+    part of one."""
+    sections = (TOP / "docs/PROVED.md").read_text().split("\n## The claims, each by one clause\n")
+    rows = re.findall(r"^\| (.*) \| (.*) \|$", sections[-1].split("\n## ")[0], re.M) if len(sections) == 2 else []
+    if rows[:1] != [("Claim", "Clause")] or not rows[1:]:
+        yield "docs/PROVED.md: no table of claims"
+    for claim, cell in rows[1:]:
+        if "`" in CLAUSE.sub("", cell) or not CLAUSE.search(cell):
+            yield f"docs/PROVED.md: no clause of a function: {cell}"
+        for clause, crate, function in CLAUSE.findall(cell):
+            its = clauses_of(crate, function)
+            if its is None or (clause not in its if clause else its != [""]):
+                yield f"docs/PROVED.md: {claim}: not there: {cell}"
+
+
 def wrong_contents():
     """The table of contents of docs/DECISIONS.md names its sections, in order."""
     text = (TOP / "docs/DECISIONS.md").read_text()
@@ -204,7 +241,7 @@ def main():
     checks = [
         wrong_samples(command), wrong_refusals(command), wrong_commands(command), wrong_clauses(),
         wrong_generator(), wrong_numbers(), wrong_names(), wrong_node(), wrong_rows(), wrong_contents(),
-        wrong_pages(), wrong_moving(command), wrong_versions(),
+        wrong_claims(), wrong_pages(), wrong_moving(command), wrong_versions(),
     ]
     found = [fault for check in checks for fault in check]
     print(*found, sep="\n", end="\n" if found else "")
