@@ -1,5 +1,6 @@
 //! Words, modes, exit statuses, and the lines on standard error: docs/COMMAND.md.
 
+use crate::map::map;
 use crate::refuse::{format, Refusal};
 use crate::sample::sample;
 use crate::source::normalise;
@@ -9,6 +10,7 @@ pub enum Line {
     Usage,
     Format(Option<String>),
     Check(Option<String>),
+    Map(Option<String>),
     Sample(u64, u32),
 }
 
@@ -21,7 +23,7 @@ fn number(s: &str, digits: usize) -> Option<u64> {
 
 /// What the words ask for.
 pub fn line(words: &[String]) -> Line {
-    let (mut check, mut file, mut seed, mut items) = (false, None, None, None);
+    let (mut check, mut map, mut file, mut seed, mut items) = (false, false, None, None, None);
     let mut only_file = false;
     let mut i = 0;
     while i < words.len() {
@@ -32,11 +34,12 @@ pub fn line(words: &[String]) -> Line {
             continue;
         }
         if !only_file && w.starts_with("--") {
-            if w == "--check" {
-                if check {
+            if w == "--check" || w == "--map" {
+                let flag = if w == "--check" { &mut check } else { &mut map };
+                if *flag {
                     return Line::Usage;
                 }
-                check = true;
+                *flag = true;
                 continue;
             }
             let (name, value) = match w.split_once('=') {
@@ -72,14 +75,13 @@ pub fn line(words: &[String]) -> Line {
         file = Some(w.clone());
     }
     match (seed, items) {
-        (None, None) => {
-            if check {
-                Line::Check(file)
-            } else {
-                Line::Format(file)
-            }
-        }
-        (Some(s), Some(n)) if !check && file.is_none() => match (number(&s, 20), number(&n, 6)) {
+        (None, None) => match (check, map) {
+            (false, false) => Line::Format(file),
+            (true, false) => Line::Check(file),
+            (false, true) => Line::Map(file),
+            (true, true) => Line::Usage,
+        },
+        (Some(s), Some(n)) if !check && !map && file.is_none() => match (number(&s, 20), number(&n, 6)) {
             (Some(s), Some(n)) if n <= 200_000 => Line::Sample(s, n as u32),
             _ => Line::Usage,
         },
@@ -131,7 +133,9 @@ pub fn refusal_line(bytes: &[u8], r: Refusal) -> String {
 
 /// The status, what goes to standard output, and what goes to standard error.
 pub fn run(words: &[String], read: &mut dyn FnMut(Option<&str>) -> std::io::Result<Vec<u8>>) -> (Status, Vec<u8>, String) {
-    let (which, check) = match line(words) {
+    let words = line(words);
+    let (check, mapped) = (matches!(words, Line::Check(_)), matches!(words, Line::Map(_)));
+    let which = match words {
         Line::Usage => {
             let usage = "usage: lay_fmt [--check | --map] [FILE] or lay_fmt --sample SEED --items N\n";
             return (Status::Usage, vec![], usage.into());
@@ -149,8 +153,7 @@ pub fn run(words: &[String], read: &mut dyn FnMut(Option<&str>) -> std::io::Resu
                 }
             };
         }
-        Line::Format(w) => (w, false),
-        Line::Check(w) => (w, true),
+        Line::Format(which) | Line::Check(which) | Line::Map(which) => which,
     };
     let bytes = match read(which.as_deref()) {
         Ok(b) => b,
@@ -159,7 +162,7 @@ pub fn run(words: &[String], read: &mut dyn FnMut(Option<&str>) -> std::io::Resu
     if bytes.len() > LIMIT {
         return (Status::TooLong, vec![], "input is longer than 16777216 bytes\n".into());
     }
-    match format(&bytes) {
+    match if mapped { map(&bytes) } else { format(&bytes) } {
         Err(r) => (Status::Refused(r), vec![], refusal_line(&bytes, r)),
         Ok(o) if check => {
             if o.as_bytes() == bytes {

@@ -6,6 +6,7 @@ pub mod depth;
 pub mod doc;
 pub mod layout;
 pub mod lex;
+pub mod map;
 pub mod nest;
 pub mod random;
 pub mod read;

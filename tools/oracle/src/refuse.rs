@@ -20,6 +20,15 @@ pub enum Refusal {
 
 /// The file that the tokens spell, or the place of the item that isn't accepted.
 pub fn read_file<'a>(toks: &[Token<'a>], partner: &[u32], shebang: Option<String>) -> Result<File<'a>, usize> {
+    read_units(toks, partner, shebang).map(|(file, _)| file)
+}
+
+/// The same, and where the tokens stand that say something of the file, each with its length.
+pub fn read_units<'a>(
+    toks: &[Token<'a>],
+    partner: &[u32],
+    shebang: Option<String>,
+) -> Result<(File<'a>, Vec<(usize, usize)>), usize> {
     let mut r = Reader::new(toks, partner);
     let mut file = File { shebang, attrs: vec![], items: vec![] };
     while r.inner_attr_ahead() {
@@ -36,7 +45,8 @@ pub fn read_file<'a>(toks: &[Token<'a>], partner: &[u32], shebang: Option<String
             _ => return Err(toks[at].at),
         }
     }
-    Ok(file)
+    let units = r.units();
+    Ok((file, units))
 }
 
 /// Reads a normalised source and hands the file on.

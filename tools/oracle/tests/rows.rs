@@ -217,6 +217,17 @@ fn cmd(words: &[&str], input: &[u8]) -> (Status, String, String) {
 }
 
 #[test]
+fn maps() {
+    let map = |input: &str, lines: &str| assert_eq!(cmd(&["--map"], input.as_bytes()), (Status::Done, lines.into(), "".into()));
+    map("struct A;", "0+6 0+6\n7+1 7+1\n8+1 8+1\n");
+    map("use a::{b,c,};", "0+3 0+3\n4+1 4+1\n5+1 5+1\n6+1 6+1\n7+1 7+1\n8+1 8+1\n9+1 9+1\n10+1 11+1\n12+1 12+1\n13+1 13+1\n");
+    map("#[doc=\"a\"]struct A;", "0+10 0+4\n10+6 5+6\n17+1 12+1\n18+1 13+1\n");
+    map("", "");
+    assert_eq!(cmd(&["--map", "--check"], b"struct A;").0, Status::Usage);
+    assert_eq!(cmd(&["--map"], b"fn"), (Status::Refused(NoItem(0)), "".into(), "1:1: no item\n".into()));
+}
+
+#[test]
 fn failing_devices() {
     assert_eq!(cmd(&["q"], b"").0, Status::ReadFailed);
 }

@@ -2,6 +2,7 @@
 
 use oracle::layout::{lay, lay_loose};
 use oracle::lex::lex;
+use oracle::map::units;
 use oracle::nest::nest;
 use oracle::random::file;
 use oracle::refuse::{format, read_file};
@@ -42,5 +43,30 @@ fn assert_all_texts_read(seed: u64) {
 #[test]
 fn every_text_reads_back() {
     let checks = || (0..TREES).for_each(assert_all_texts_read);
+    thread::Builder::new().stack_size(STACK).spawn(checks).unwrap().join().unwrap();
+}
+
+/// What a source says, unit by unit; of documentation only that it is some.
+fn said(text: &str) -> Vec<&str> {
+    let (units, _) = units(text.as_bytes()).expect("it reads");
+    let said = |(at, len): (usize, usize)| match &text[at..at + len] {
+        unit if unit.starts_with("//") || unit.starts_with("/*") || unit.len() > 1 && unit.starts_with('#') => "///",
+        unit => unit,
+    };
+    units.into_iter().map(said).collect()
+}
+
+fn assert_all_spellings_say_the_same(seed: u64) {
+    let file = file(seed);
+    let out = text(&lay(&file));
+    for spelling in 0..4 {
+        let spelled = text(&lay_loose(&file, seed ^ spelling));
+        assert_eq!(said(&spelled), said(&out), "other units: {spelled}");
+    }
+}
+
+#[test]
+fn every_spelling_says_the_same() {
+    let checks = || (0..TREES).for_each(assert_all_spellings_say_the_same);
     thread::Builder::new().stack_size(STACK).spawn(checks).unwrap().join().unwrap();
 }

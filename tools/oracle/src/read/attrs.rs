@@ -55,6 +55,15 @@ impl<'t, 'a> Reader<'t, 'a> {
     }
 
     pub(super) fn meta(&mut self, inner: bool) -> R<Attr<'a>> {
+        let from = self.pos - 1 - usize::from(inner);
+        let attr = self.meta_group(inner)?;
+        if let Attr::Doc { .. } = attr {
+            self.docs.push((from, self.pos));
+        }
+        Ok(attr)
+    }
+
+    fn meta_group(&mut self, inner: bool) -> R<Attr<'a>> {
         self.group(Delim::Bracket, |s| {
             let path = if s.eat_kw("unsafe") { MetaPath::Unsafe } else { MetaPath::Path(s.path(Style::Simple)?) };
             if s.done() {

@@ -11,7 +11,9 @@ impl<'t, 'a> Reader<'t, 'a> {
                 let attrs = s.inner_attrs()?;
                 let mut stmts = Vec::new();
                 loop {
-                    while s.eat_op(";") {}
+                    while s.eat_op(";") {
+                        s.passed_free();
+                    }
                     if s.done() {
                         return Ok(Block { attrs, stmts });
                     }
@@ -77,8 +79,11 @@ impl<'t, 'a> Reader<'t, 'a> {
         let pat = self.pat()?;
         let guard = if self.eat_kw("if") { Some(self.expr(0, false, false)?) } else { None };
         self.need_op("=>")?;
+        let from = self.pos;
         let mut body = self.expr(0, false, true)?;
-        if !self.eat_op(",") && !self.done() && !block_like(&body) {
+        if self.eat_op(",") {
+            self.passed_free();
+        } else if !self.done() && !block_like(&body) {
             return Err(());
         }
         let mut n = 0;
@@ -94,6 +99,7 @@ impl<'t, 'a> Reader<'t, 'a> {
                 }
             }
         }
+        self.free_braces(from, n);
         Ok(Arm { attrs, pat, guard, body, braces: Aside(n) })
     }
 }

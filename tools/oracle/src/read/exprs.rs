@@ -251,6 +251,9 @@ impl<'t, 'a> Reader<'t, 'a> {
                 if l.len() == 1 && !comma {
                     return Ok(Expr::Paren(Box::new(l.pop().unwrap())));
                 }
+                if l.len() == 1 {
+                    self.keep_comma();
+                }
                 return Ok(Expr::Tuple(l));
             }
             Kind::Opener(Delim::Bracket) => {
@@ -265,6 +268,9 @@ impl<'t, 'a> Reader<'t, 'a> {
                     let mut out = vec![first];
                     if !s.done() {
                         s.need_op(",")?;
+                        if s.done() {
+                            s.passed_free();
+                        }
                         out.extend(s.list(|s| s.expr(0, false, false))?.0);
                     }
                     Ok(Expr::Array(out))
@@ -359,6 +365,9 @@ impl<'t, 'a> Reader<'t, 'a> {
                 }
                 if !s.done() {
                     s.need_op(",")?;
+                    if s.done() {
+                        s.passed_free();
+                    }
                 }
             }
             Ok(out)
@@ -440,7 +449,11 @@ impl<'t, 'a> Reader<'t, 'a> {
         self.need_char('|')?;
         let mut params = Vec::new();
         loop {
-            if self.eat_char('|') {
+            if self.char_at(self.pos, '|') {
+                if !params.is_empty() {
+                    self.passed_free();
+                }
+                self.pos += 1;
                 break;
             }
             let attrs = self.outer_attrs()?;
@@ -456,6 +469,7 @@ impl<'t, 'a> Reader<'t, 'a> {
             let ty = self.ty(false)?;
             ClosureBody::Ret(ty, self.block()?)
         } else {
+            let from = self.pos;
             let mut e = self.expr(0, ns, false)?;
             let mut n = 0;
             let place = Place { no_struct: ns, ..Place::FREE };
@@ -471,6 +485,7 @@ impl<'t, 'a> Reader<'t, 'a> {
                     }
                 }
             }
+            self.free_braces(from, n);
             ClosureBody::Expr(e, Aside(n))
         };
         Ok(Expr::Closure(Box::new(Closure { is_async, is_move, params, body })))

@@ -306,21 +306,21 @@ impl<'t, 'a> Reader<'t, 'a> {
             return Err(());
         }
         let mut of = None;
-        let from = self.pos;
+        let from = self.mark();
         if self.eat_char('!') {
             if self.path_ahead() {
                 let p = self.path(Style::Kind)?;
                 self.need_kw("for")?;
                 of = Some((true, p));
             } else {
-                self.pos = from;
+                self.back(from);
             }
         } else if self.path_ahead() && !self.call_ahead() {
             let p = self.path(Style::Kind)?;
             if self.eat_kw("for") {
                 of = Some((false, p));
             } else {
-                self.pos = from;
+                self.back(from);
             }
         }
         let ty = self.ty(true)?;
@@ -356,6 +356,9 @@ impl<'t, 'a> Reader<'t, 'a> {
                 }
                 if !s.done() {
                     s.need_op(",")?;
+                    if s.done() {
+                        s.passed_free();
+                    }
                 }
             }
             Ok(out)

@@ -25,11 +25,76 @@ pub struct Reader<'t, 'a> {
     pub pos: usize,
     end: usize,
     turns: u32,
+    /// The tokens that say nothing of the tree, in the order in which that was seen.
+    free: Vec<usize>,
+    /// The attributes that are documentation, each by its first token and the one behind it.
+    docs: Vec<(usize, usize)>,
+}
+
+/// Where a reader stands, to go back to.
+struct Mark {
+    pos: usize,
+    free: usize,
+    docs: usize,
 }
 
 impl<'t, 'a> Reader<'t, 'a> {
     pub fn new(toks: &'t [Token<'a>], partner: &'t [u32]) -> Self {
-        Reader { toks, partner, pos: 0, end: toks.len(), turns: 0 }
+        Reader { toks, partner, pos: 0, end: toks.len(), turns: 0, free: vec![], docs: vec![] }
+    }
+
+    fn mark(&self) -> Mark {
+        Mark { pos: self.pos, free: self.free.len(), docs: self.docs.len() }
+    }
+
+    fn back(&mut self, mark: Mark) {
+        self.pos = mark.pos;
+        self.free.truncate(mark.free);
+        self.docs.truncate(mark.docs);
+    }
+
+    /// The token that was read last says nothing of the tree.
+    fn passed_free(&mut self) {
+        self.free.push(self.pos - 1);
+    }
+
+    /// The last comma, of the list of one element that was read last, makes it a tuple.
+    fn keep_comma(&mut self) {
+        self.free.pop();
+    }
+
+    /// The pairs of braces that aren't in the tree, of the body that was read from a token on: each begins with the first token behind
+    /// the one before and the `;` behind that.
+    fn free_braces(&mut self, from: usize, count: u32) {
+        let mut at = from;
+        for _ in 0..count {
+            while self.toks[at].kind != Kind::Opener(Delim::Brace) {
+                at += 1;
+            }
+            self.free.extend([at, self.partner[at] as usize]);
+            at += 1;
+        }
+    }
+
+    /// Where the tokens that say something of the tree stand, each with its length, and each attribute that is documentation as one.
+    pub fn units(&self) -> Vec<(usize, usize)> {
+        let mut is_free = vec![false; self.pos];
+        for &at in &self.free {
+            is_free[at] = true;
+        }
+        let mut docs = self.docs.clone();
+        docs.sort_unstable();
+        let mut units = Vec::new();
+        let mut at = 0;
+        for (from, to) in docs.into_iter().chain([(self.pos, self.pos)]) {
+            units.extend(self.toks[at..from].iter().zip(&is_free[at..from]).filter(|it| !it.1).map(|it| (it.0.at, it.0.len)));
+            if from < to {
+                let (first, last) = (&self.toks[from], &self.toks[to - 1]);
+                units.push((first.at, last.at + last.len - first.at));
+            }
+            at = to;
+        }
+        units
     }
 
     fn tok(&self, p: usize) -> Option<Token<'a>> {
@@ -293,7 +358,7 @@ impl<'t, 'a> Reader<'t, 'a> {
         r
     }
 
-    /// Elements up to the end of the group, and whether a last comma was spelled.
+    /// Elements up to the end of the group, and whether a last comma was spelled, which is taken as one that says nothing.
     fn list<T>(&mut self, mut f: impl FnMut(&mut Self) -> R<T>) -> R<(Vec<T>, bool)> {
         let mut out = Vec::new();
         while !self.done() {
@@ -304,6 +369,9 @@ impl<'t, 'a> Reader<'t, 'a> {
             self.need_op(",")?;
         }
         let comma = !out.is_empty();
+        if comma {
+            self.passed_free();
+        }
         Ok((out, comma))
     }
 
@@ -312,7 +380,11 @@ impl<'t, 'a> Reader<'t, 'a> {
         self.need_char('<')?;
         let mut out = Vec::new();
         loop {
-            if self.eat_char('>') {
+            if self.char_at(self.pos, '>') {
+                if !out.is_empty() {
+                    self.passed_free();
+                }
+                self.pos += 1;
                 return Ok(out);
             }
             out.push(f(self)?);

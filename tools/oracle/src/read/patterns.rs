@@ -6,7 +6,9 @@ use crate::tree::*;
 
 impl<'t, 'a> Reader<'t, 'a> {
     pub fn pat(&mut self) -> R<Pat<'a>> {
-        self.eat_op("|");
+        if self.eat_op("|") {
+            self.passed_free();
+        }
         let first = self.pat_no_alt()?;
         if self.op() != "|" {
             return Ok(first);
@@ -102,6 +104,9 @@ impl<'t, 'a> Reader<'t, 'a> {
                 if !rest && !comma {
                     return Ok(Pat::Paren(Box::new(l.pop().unwrap())));
                 }
+                if comma {
+                    self.keep_comma();
+                }
             }
             return Ok(Pat::Tuple(l));
         }
@@ -166,6 +171,9 @@ impl<'t, 'a> Reader<'t, 'a> {
                 }
                 if !s.done() {
                     s.need_op(",")?;
+                    if s.done() {
+                        s.passed_free();
+                    }
                 }
             }
             Ok(out)

@@ -44,6 +44,9 @@ impl<'t, 'a> Reader<'t, 'a> {
                     if args != Args::None {
                         return Err(());
                     }
+                    if style == Style::Kind {
+                        self.free.extend([self.pos - 2, self.pos - 1]);
+                    }
                     args = Args::Angle(self.angle(|s| s.arg())?);
                     if self.eat_op("::") {
                         more = true;
@@ -138,6 +141,7 @@ impl<'t, 'a> Reader<'t, 'a> {
         if self.bound_ahead() {
             self.bounds(false)
         } else {
+            self.passed_free();
             Ok(vec![])
         }
     }
@@ -182,6 +186,9 @@ impl<'t, 'a> Reader<'t, 'a> {
     pub(super) fn life_param(&mut self, attrs: Vec<Attr<'a>>) -> R<LifeParam<'a>> {
         let name = self.lifetime().ok_or(())?;
         let bounds = if self.eat_op(":") { self.life_bounds()? } else { vec![] };
+        if bounds.is_empty() && self.char_at(self.pos - 1, ':') {
+            self.passed_free();
+        }
         Ok(LifeParam { attrs, name, bounds })
     }
 
@@ -209,6 +216,9 @@ impl<'t, 'a> Reader<'t, 'a> {
             let (mut l, comma) = self.group(Delim::Paren, |s| s.list(|s| s.ty(true)))?;
             if l.len() == 1 && !comma {
                 return Ok(Ty::Paren(Box::new(l.pop().unwrap())));
+            }
+            if l.len() == 1 {
+                self.keep_comma();
             }
             return Ok(Ty::Tuple(l));
         }
@@ -295,6 +305,9 @@ impl<'t, 'a> Reader<'t, 'a> {
                 out.push(FuncParam { attrs, name, ty: s.ty(true)? });
                 if !s.done() {
                     s.need_op(",")?;
+                    if s.done() {
+                        s.passed_free();
+                    }
                 }
             }
             Ok(out)
@@ -307,7 +320,11 @@ impl<'t, 'a> Reader<'t, 'a> {
         if !self.char_at(self.pos, '<') {
             return Ok(Generics::default());
         }
-        Ok(Generics { params: self.angle(|s| s.param())? })
+        let params = self.angle(|s| s.param())?;
+        if params.is_empty() {
+            self.free.extend([self.pos - 2, self.pos - 1]);
+        }
+        Ok(Generics { params })
     }
 
     pub(super) fn param(&mut self) -> R<Param<'a>> {
@@ -342,7 +359,11 @@ impl<'t, 'a> Reader<'t, 'a> {
         if !self.eat_kw("where") {
             return Ok(out);
         }
-        while !self.done() && !self.opens(self.pos, Delim::Brace) && self.op() != ";" {
+        let end = |s: &Self| s.done() || s.opens(s.pos, Delim::Brace) || s.op() == ";";
+        if end(self) {
+            self.passed_free();
+        }
+        while !end(self) {
             if let Some(l) = self.lifetime() {
                 self.need_op(":")?;
                 out.push(Pred::Life(l, self.life_bounds()?));
@@ -350,10 +371,14 @@ impl<'t, 'a> Reader<'t, 'a> {
                 let binder = if self.kw("for") { Some(self.binder()?) } else { None };
                 let ty = self.ty(true)?;
                 self.need_op(":")?;
-                out.push(Pred::Type(binder, ty, self.maybe_bounds()?));
+                let bounds = if self.bound_ahead() { self.bounds(false)? } else { vec![] };
+                out.push(Pred::Type(binder, ty, bounds));
             }
             if !self.eat_op(",") {
                 break;
+            }
+            if end(self) {
+                self.passed_free();
             }
         }
         Ok(out)
