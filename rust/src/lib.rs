@@ -25,15 +25,21 @@
 //!
 //! # What is trusted
 //!
-//! The module `generated` is translated by a program from sources that are proved, which leaves their contracts out. It isn't proved itself:
-//! here that program and a Rust compiler are trusted, and so is what is written by hand, above all the module `shims`. What the crate answers is
-//! compared with what the proved command answers, byte for byte, whenever the repository is tested; its README says over which files.
+//! The module `generated` is translated by a program from sources that are proved, which leaves
+//! their contracts out. It isn't proved itself: here that program and a Rust compiler are trusted,
+//! and so is what is written by hand, above all the module `shims`. The texts, refusals and maps
+//! that it gives are compared with those of the proved command, byte for byte, whenever the
+//! repository is tested: of this crate's own sources and tests, and of 1,000 sources that are drawn
+//! from them with small changes.
 //!
 //! # Stack
 //!
-//! With the feature `std`, which is on by default, each call runs on a thread of its own with 16 MiB of stack, so a caller's thread may
-//! have as little as it likes. Without it a call takes the caller's stack. Of the kinds of nesting that were measured, each at its deepest, the
-//! greatest takes 0.6 MiB where the crate is optimised, and 2.7 where it isn't (in [`is_loose`] 0.8 and 2.9): more than the 2 MiB of a thread
+//! With the feature `std`, which is on by default, each call that reads a source, prints a tree or
+//! goes through one runs on a thread of its own with 16 MiB of stack, so a caller's thread may have
+//! as little as it likes. The calls of [`build`], which go through none, have the caller's stack,
+//! and so have clones and comparisons of trees, and without the feature all calls. Of the kinds of
+//! nesting that were measured, each at its deepest, the greatest takes 0.6 MiB where the crate is
+//! optimised, and 2.7 where it isn't (in [`is_loose`] 0.8 and 2.9): more than the 2 MiB of a thread
 //! that Rust makes.
 //!
 //! # Speed
