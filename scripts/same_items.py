@@ -1,8 +1,10 @@
 #!/usr/bin/env python3
-"""Formats files of Rust with a built command, and shows that nothing in them changed: the output is given back by a second
-run byte for byte, and `rustc` makes the same of it as of the input. What rustc makes is its high-level representation, as it
-prints that without places (`-Zunpretty=hir`), with names resolved and macros expanded; and where the input compiles, the
-output compiles as well. Comments aren't compared, nor braces around the body of an arm or a closure, which the layout puts and takes away.
+"""Formats files of Rust with a built command, and shows that nothing in them changed: the output is
+given back by a second run byte for byte, and `rustc` makes the same of it as of the input. What rustc
+makes is its high-level representation, as it prints that (`-Zunpretty=hir`), with names resolved and
+macros expanded; and where the input compiles, the output compiles as well. Comments and places in the
+file aren't compared, nor braces around the body of an arm or a closure, which the layout puts and
+takes away.
 
 usage: same_items.py COMMAND FILE..
 
@@ -25,7 +27,12 @@ def formatted(command, data):
     return ran.stdout
 
 
-TOKEN = re.compile(rb'''"(?:\\.|[^"\\])*"|'(?:\\[^']*|[^'\\])'|//(?![/!])[^\n]*|/\*(?![*!]).*?\*/|\w+|=>|[^\s\w]''', re.S)
+# A comment that isn't documentation: with four slashes or three stars it is none.
+COMMENT = rb'//(?:(?![/!])|//)[^\n]*|/\*\*/|/\*(?:(?![*!])|\*\*).*?\*/'
+TOKEN = re.compile(rb'''"(?:\\.|[^"\\])*"|'(?:\\[^']*|[^'\\])'|''' + COMMENT + rb'|\w+|=>|[^\s\w]', re.S)
+# What rustc makes of an attribute, and in it a place in the file.
+ATTRIBUTE = re.compile(rb'^[ \t]*#!?\[attr = .*$', re.M)
+SPAN = re.compile(rb'[^\s,()\[\]]*:\d+:\d+: \d+:\d+ \(#\d+\)')
 LINE_OF_DOCUMENTATION = re.compile(rb'^([ \t]*)//([/!])(?!/)(.*)$', re.M)
 
 
@@ -57,7 +64,8 @@ def representation(path):
     """What rustc makes of a file, token by token, and how many errors it names."""
     ran = subprocess.run([*RUSTC, '-Zunpretty=hir', path], capture_output=True, env={**os.environ, 'RUSTC_BOOTSTRAP': '1'})
     printed = LINE_OF_DOCUMENTATION.sub(as_attribute, ran.stdout)
-    tokens = [token for token in TOKEN.findall(printed) if not re.match(rb'//(?![/!])|/\*(?![*!])', token)]
+    printed = ATTRIBUTE.sub(lambda line: SPAN.sub(b'span', line[0]), printed)
+    tokens = [token for token in TOKEN.findall(printed) if not re.match(COMMENT, token)]
     return without_braces(tokens), len(re.findall(rb'^error', ran.stderr, flags=re.M))
 
 
