@@ -9,9 +9,11 @@ A PATH is a file, or a folder whose files named `.rs` are taken, or a file of ca
 
 With --beside each answer to `--map` has to be that of ORACLE, the program of tools/oracle, too.
 
-What a map leaves out on both sides is noticed in the text, where it is known which tokens the layout puts in: commas before the end of a
-line, and braces in pairs around bodies of arms and closures. So that this look doesn't grow lax, of each map one line of each
-kind in `NOTICED` is left out in turn, and has to be missed."""
+A token that a map leaves out on both sides is noticed in the text: there it is known which tokens the
+layout puts in, commas at the end of a line and pairs of braces around bodies of arms and closures. So
+that this doesn't grow lax, of each map one line of each kind in `NOTICED` is left out in turn, and
+that has to be noticed. Only ORACLE notices a comma of a token list or of a tuple of one element that
+stands where a last comma might, and both braces around one macro call or item."""
 import concurrent.futures
 import json
 import os

@@ -12,7 +12,7 @@ panic or an answer in place of the error is seen. The sweep over a test ends wit
 refused, which must pass. For each test the script prints how many calls were refused, how many of these runs ended for
 want of memory, and how many printed which line. Where bytes have to be written before memory was wanting (`PARTLY`), at
 least one run must have done so."""
-import collections, os, re, subprocess, sys, tempfile
+import collections, concurrent.futures, itertools, os, re, subprocess, sys, tempfile
 import usage
 
 # What a test writes that ends for want of memory.
@@ -27,6 +27,9 @@ TOLD = re.compile(r"(\w+) (\d+)")
 # Tests of which a run must answer NoMemory behind so many bytes, and how many these may be: a command that lays out all of its text
 # before it writes any has none.
 PARTLY = {"memory::run_over_a_long_last_name": range(801, 1049), "memory::run_over_a_last_list": range(801, 1015)}
+
+# How many runs are begun before it is seen whether in one of them nothing was refused.
+AT_ONCE = 64
 
 # A refusal is told on the descriptor TELL.
 ALLOCATOR = """
@@ -67,16 +70,19 @@ def sweep(program, test, library):
     """The number of calls, the lines that were printed with how often each was, and the number of runs that ended otherwise than they
     must."""
     lines, wrong = collections.Counter(), 0
-    for number in range(1, 10**9):
-        was_refused, status, said = run(program, test, library, number)
-        told = TOLD.fullmatch(said)
-        if was_refused and status == 0 and told:
-            lines[said] += 1
-        elif not (said.startswith(ERRORS) and status == 101 if was_refused else status == 0):
-            wrong += 1
-            print(f"{test}: call {number}: status {status}: {said}")
-        if not was_refused:
-            return number - 1, lines, wrong
+    with concurrent.futures.ThreadPoolExecutor(os.cpu_count()) as pool:
+        for first in itertools.count(1, AT_ONCE):
+            numbers = range(first, first + AT_ONCE)
+            runs = pool.map(lambda number: run(program, test, library, number), numbers)
+            for number, (was_refused, status, said) in zip(numbers, runs):
+                told = TOLD.fullmatch(said)
+                if was_refused and status == 0 and told:
+                    lines[said] += 1
+                elif not (said.startswith(ERRORS) and status == 101 if was_refused else status == 0):
+                    wrong += 1
+                    print(f"{test}: call {number}: status {status}: {said}")
+                if not was_refused:
+                    return number - 1, lines, wrong
 
 
 def is_partly_written(test, lines):
