@@ -6,8 +6,12 @@ usage: documents.py COMMAND
 - The samples of README.md: what stands in each block `rust output` is what COMMAND gives of the block `rust input` before it. Each block of docs/STYLE.md is its own
   text. Each example in "Left out" of docs/GRAMMAR.md is refused, and tests/cases/left_out.jsonl has just these.
 - What the commands of docs/COMMAND.md print, over the source before it, is what stands there, and the text between them is the source's.
-- The clauses that README.md shows stand in crates/lay_front/src/command.rt, its blocks `rust generator` in the generator's source under examples/generator, and
-  those `rust generated` in what that prints, output.rs.
+- The clauses that README.md shows stand in crates/lay_front/src/command.rt, word for word; lines may
+  be broken otherwise. The blocks `rust generator` of docs/BUILDING.md stand in the generator's source
+  under examples/generator, and its blocks `rust generated` in what that prints, output.rs.
+- No line of a document is longer than 100 columns, but a row of a table, which can't be broken.
+  README.md has no row longer either, and at most 150 lines.
+- The figures of README.md beside other formatters are those of docs/MOVING.md.
 - The numbers of crates, of cases, of kinds of nesting and of lines of definitions are what is there.
 - Each file that a document names between backquotes, or by its path in docs/, is there. The contents of docs/DECISIONS.md are its sections.
 - Each page of docs/ is named in README.md. What docs/MOVING.md shows of examples/tokens stands there,
@@ -91,19 +95,37 @@ def wrong_commands(command):
 
 
 def wrong_clauses():
-    source = (TOP / "crates/lay_front/src/command.rt").read_text()
-    for _, kind, text in BLOCK.findall((TOP / "README.md").read_text()):
-        if kind == "contract":
-            for clause in re.split(r"(?m)^(?=    ensures )", text):
-                if clause not in source:
-                    yield f"README.md: not in command.rt: {clause[:60]!r}"
+    source = " ".join((TOP / "crates/lay_front/src/command.rt").read_text().split())
+    shown = [text for _, kind, text in BLOCK.findall((TOP / "README.md").read_text()) if kind == "contract"]
+    clauses = [" ".join(clause.split()) for text in shown for clause in re.split(r"(?m)^(?=ensures )", text) if clause]
+    if not clauses:
+        yield "README.md: no clause"
+    for clause in clauses:
+        if not re.fullmatch(r"ensures \w+ \{ .* \}", clause) or clause not in source:
+            yield f"README.md: not in command.rt: {clause[:60]!r}"
 
 
 def wrong_generator():
     files = {"generator": "examples/generator/src/main.rs", "generated": "examples/generator/output.rs"}
-    for _, kind, text in BLOCK.findall((TOP / "README.md").read_text()):
-        if kind in files and text not in (TOP / files[kind]).read_text():
-            yield f"README.md: not in {files[kind]}: {text[:60]!r}"
+    blocks = [(kind, text) for _, kind, text in BLOCK.findall((TOP / "docs/BUILDING.md").read_text()) if kind in files]
+    for kind in files.keys() - {kind for kind, _ in blocks}:
+        yield f"docs/BUILDING.md: no block of {files[kind]}"
+    for kind, text in blocks:
+        if text not in (TOP / files[kind]).read_text():
+            yield f"docs/BUILDING.md: not in {files[kind]}: {text[:60]!r}"
+
+
+def wrong_widths():
+    """Lines that are too long, in columns. A row of a table can't be broken."""
+    pages = [*DOCUMENTS, *sorted((TOP / "docs").glob("*.1"))]
+    for page in pages:
+        lines = page.read_text().splitlines()
+        readme = page == TOP / "README.md"
+        if readme and len(lines) > 150:
+            yield f"README.md: {len(lines)} lines"
+        for number, line in enumerate(lines, 1):
+            if len(line) > 100 and (readme or not line.startswith("|")):
+                yield f"{page.relative_to(TOP)}:{number}: {len(line)} columns"
 
 
 def wrong_numbers():
@@ -125,6 +147,31 @@ def wrong_numbers():
             for number in re.findall(pattern, document.read_text()):
                 if int(number.replace(",", "")) not in right:
                     yield f"{document.relative_to(TOP)}: {number} in {pattern!r} and not {' or '.join(map(str, right))}"
+
+
+def wrong_figures():
+    """What README.md has of a table of docs/MOVING.md has the same figures there."""
+    readme, moving = ((TOP / page).read_text() for page in ("README.md", "docs/MOVING.md"))
+
+    def cells(text, name):
+        row = re.search(rf"^\| {name} \| (.*) \|$", text, re.M)
+        return row[1].split(" | ") if row else []
+
+    rows = {
+        r"of [\d,]+ real files: refused": "refused",
+        "panics": "panicked",
+        "outputs that rustc can't parse": "the text isn't parsed by rustc",
+        "outputs that a second run changes": "a second run changes the text",
+    }
+    for name, measured in rows.items():
+        if not cells(readme, name) or cells(readme, name) != cells(moving, measured):
+            yield f"README.md: not the figures of docs/MOVING.md: {name}"
+    counts = [re.findall(pattern, text) for pattern, text in [(r"of ([\d,]+) real files", readme), (r"of ([\d,]+) files \|", moving)]]
+    if counts[0] != counts[1]:
+        yield f"README.md: not the count of files of docs/MOVING.md: {counts}"
+    seconds, memory = cells(moving, "seconds of a core"), cells(moving, "peak memory, MiB")
+    if cells(readme, "4 MB: seconds, peak MiB") != [f"{float(s):.2f}, {float(m):.0f}" for s, m in zip(seconds, memory)]:
+        yield "README.md: not the seconds and MiB of docs/MOVING.md"
 
 
 def wrong_names():
@@ -239,7 +286,7 @@ def main():
         usage.refuse(__doc__, f"not there: {command}")
     command = os.path.abspath(command)
     checks = [
-        wrong_samples(command), wrong_refusals(command), wrong_commands(command), wrong_clauses(),
+        wrong_widths(), wrong_figures(), wrong_samples(command), wrong_refusals(command), wrong_commands(command), wrong_clauses(),
         wrong_generator(), wrong_numbers(), wrong_names(), wrong_node(), wrong_rows(), wrong_contents(),
         wrong_claims(), wrong_pages(), wrong_moving(command), wrong_versions(),
     ]
