@@ -9,7 +9,7 @@ cd "$(dirname "$0")"
 failed=0
 for script in *.py *.sh measure/*.py measure/*.sh ../tools/to_rust/*.py ../tools/oracle/xid.py ../tools/oracle/compare; do
     case $script in
-        usage.* | usage_test.sh | crates.py | */passed.py) continue ;;
+        usage.* | usage_test.sh | crates.py | programs.py | rustc_tree.py | */passed.py) continue ;;
         *.py) runs=python3 ;;
         *) runs=sh ;;
     esac
