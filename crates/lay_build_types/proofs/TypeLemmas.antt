@@ -41,7 +41,7 @@ KeptType t = IsKept form_of_type IsType t
 abbrev pub KeptTypes : List Ty → Type 0
 KeptTypes ts = AllByRecursion KeptType ts
 
--- ---- what is told of one, and of several
+-- ---- the facts about one and about several
 
 -- It stands where one bound alone may, and so where several may.
 pub bounded : (x : TypeFacts) → good_at NoBounds x ≡ true → good_at Bounds x ≡ true

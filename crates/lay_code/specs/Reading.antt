@@ -21,7 +21,7 @@ top = 256
 abbrev pub SpellsFile : ℕ → File → List Token → Type 0
 SpellsFile depth file tokens = Written file × Spells (form_of_file file) depth tokens []
 
--- The first tokens, so many, spell the inner attributes and the items of a file that can be written. What follows
+-- The first `count` tokens spell the inner attributes and the items of a file that can be written. What follows
 -- them doesn't matter: an attribute and an item end in a `;`, in a delimiter, or with a comment.
 abbrev pub SpellsFront : ℕ → ℕ → List Token → Type 0
 SpellsFront depth count tokens =

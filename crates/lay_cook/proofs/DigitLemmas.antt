@@ -71,7 +71,7 @@ byte_value text tail rest high low h e f =
       };
     }
 
--- the digits after \u{, so many of them so far
+-- the digits after \u{, this many of them so far
 pub record InDigits (v : ℕ) (cs : List ℕ) (whole : List ℕ) : Type 0 where
   pub count : ℕ
   pub few : count ≤ 6

@@ -17,7 +17,7 @@ use Rattle.lay_piece.proofs.Runs.{next, run-nil, run-cons}
 use Rattle.lay_piece.proofs.Fronts.{front-append, after-append}
 use Rattle.lay_cook.specs.Steps.{ClosesRaw}
 
--- so many hashes
+-- this many hashes
 abbrev pub hashes : ℕ → List ℕ
 hashes zero = []
 hashes (suc n) = 35 ∷ hashes n
@@ -39,7 +39,7 @@ unfolding encode
 encode-hashes zero = refl
 encode-hashes (suc n) = ap (λ l. 35 ∷ l) (encode-hashes n)
 
--- within so many hashes, and maybe after a quote and so many hashes
+-- within this many hashes, and maybe after a quote and this many hashes
 abbrev within : ℕ → Option ℕ → InRaw
 within n None = Inside n
 within n (Some k) = Closing n k
@@ -48,7 +48,7 @@ abbrev begun : Option ℕ → List ℕ
 begun None = []
 begun (Some k) = 34 ∷ hashes k
 
--- The text ends in the closing quote and so many hashes.
+-- The text ends in the closing quote and this many hashes.
 abbrev EndsIn : ℕ → List ℕ → Type 0
 EndsIn n cs = (body : List ℕ) × (cs ≡ body ++ 34 ∷ hashes n)
 

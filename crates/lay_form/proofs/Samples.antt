@@ -26,7 +26,7 @@ a = word (codes "a")
 abbrev b : Form
 b = word (codes "b")
 
--- a word of so many letters
+-- a word of this many letters
 abbrev long : ℕ → Form
 long n = word (replicate n 99)
 

@@ -19,7 +19,7 @@ pub data Bit : Type 0 where
 
 -- a place where a line may end; the flag takes the new line one step of four columns back
 pub data Space : Type 0 where
-  -- of so many blanks
+  -- of this many blanks
   Soft : Bool → ℕ → Space
   -- always a newline
   Hard : Bool → Space
@@ -54,7 +54,7 @@ pub data Form : Type 0 where
   ListedDoc : Bool → List ℕ → Form → Form
   -- a break
   Brk : Space → Form → Form
-  -- an optional comma, laid out as the mark before the newline of a break of so many blanks
+  -- an optional comma, laid out as the mark before the newline of a break of this many blanks
   LastComma : ℕ → Form → Form
   -- a group, consistent or not, with its offset
   Group : Bool → ℕ → Form → Form → Form

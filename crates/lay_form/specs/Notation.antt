@@ -53,7 +53,7 @@ each lead (e ∷ es) = lead (Part e (each lead es))
 abbrev pub comma_gap : Form → Form
 comma_gap f = Piece comma (B f)
 
--- the break of so many blanks after the last element, where a comma may stand or not
+-- the break of this many blanks after the last element, where a comma may stand or not
 abbrev pub last_break : Bool → ℕ → Form → Form
 last_break true blanks f = LastComma blanks f
 last_break false blanks f = Brk (Soft true blanks) f

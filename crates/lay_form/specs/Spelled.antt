@@ -86,7 +86,7 @@ abbrev pub Closes : ℕ → List Token → List Token → Type 0
 Closes zero ts rest = ts ≡ rest
 Closes (suc n) ts rest = Then (AreBits (closer Brace ∷ [])) (Closes n) ts rest
 
--- within so many pairs of braces that aren't in the tree
+-- within this many pairs of braces that aren't in the tree
 abbrev pub Braced : ℕ → (List Token → List Token → Type 0) → List Token → List Token → Type 0
 Braced n R = Then (Opens n) (Then R (Closes n))
 
@@ -94,13 +94,13 @@ abbrev pub is_braced : ℕ → Bool
 is_braced zero = false
 is_braced (suc n) = true
 
--- so many pairs may stand there
+-- this many pairs may stand there
 abbrev pub MayBrace : Braces → ℕ → Type 0
 MayBrace Bare n = n ≡ 0
 MayBrace Unseen n = Unit {0}
 MayBrace Marked n = Unit {0}
 
--- what a body within so many pairs costs of the depth
+-- what a body within this many pairs costs of the depth
 abbrev pub cost : ℕ → ℕ
 cost zero = 1
 cost (suc n) = suc n
@@ -109,7 +109,7 @@ cost (suc n) = suc n
 abbrev pub may_lack : Bool → Bool → ℕ → Bool
 may_lack last block_like n = last || (block_like || is_braced n)
 
--- what follows a body within so many pairs
+-- what follows a body within this many pairs
 abbrev pub IsBehind : Behind → ℕ → List Token → List Token → Type 0
 IsBehind Nothing n ts rest = ts ≡ rest
 IsBehind (ArmComma last block_like) n ts rest = (IsTrue (may_lack last block_like n) × (ts ≡ rest)) ⊎ AreBits comma ts rest

@@ -138,7 +138,7 @@ pub record SummedUpInPart (items : ℕ) (bytes : List ℕ) (before now : Option 
   pub grew : GrewByPrefix before now (summary items bytes (out file))
 
 module _ {K : Type 0} (written : K → Option (List ℕ)) (writes : K → ℕ) where
-  -- A run that sums up the sample of a seed and so many items, which are these bytes: a case for each status. The sink
+  -- A run that sums up the sample of a seed with this many items, which are these bytes: a case for each status. The sink
   -- goes from k to l.
   abbrev pub SampleRun : ℕ → List ℕ → K → K → Status → Type 0
   SampleRun items bytes k l Done = SummedUp items bytes (written k) (written l)

@@ -3,7 +3,7 @@ use Rattle.std.specs.Prelude.{ℕ, List, ◌++◌, length, codes}
 use Rattle.std.specs.Fmt.{decimal}
 use Rattle.lay_sample.specs.counting.Counting.{lines_of, longest_line}
 
--- So many items were asked for, these bytes are the sample of them, and this is its text.
+-- This many items were asked for, these bytes are the sample of them, and this is its text.
 abbrev pub summary : ℕ → List ℕ → List ℕ → List ℕ
 summary items bytes text =
     codes "items " ++ (decimal items

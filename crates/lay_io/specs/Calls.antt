@@ -3,7 +3,7 @@ use Rattle.std.specs.Prelude.{ℕ, ◌≡◌, ◌<◌, List, [], length, take, O
 use Rattle.lay_io.specs.Told.{put_before, TellsAs, GrewBy, GrewByPrefix}
 use Rattle.lay_io.specs.declared.outside.Which.{Which}
 
--- what is told of the chosen input
+-- what is shown of the chosen input
 abbrev pub left_of : Option Which → (Which → Option (List ℕ)) → Option (List ℕ)
 left_of None left = None
 left_of (Some which) left = left which

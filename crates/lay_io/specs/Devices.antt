@@ -23,7 +23,7 @@ pub record Device : Type 0 where
 pub record DeviceWrite (before : Device) (piece : List ℕ) (result : Result (Unit {0}) Failed) (now : Device) : Type 0 where
   -- It fails exactly where its number is among those that fail.
   pub failed : IsErr result ↔ Contains before.fail before.writes
-  -- Otherwise it keeps a piece that fits, and after one that doesn't fit nothing is told.
+  -- Otherwise it keeps a piece that fits, and after one that doesn't fit the content is unknown.
   pub fits : OnOk result (length piece ≤ before.kept.spare → now.kept ≡ kept_behind before.kept piece)
   pub too_much : OnOk result (before.kept.spare < length piece → now.kept ≡ untold before.kept)
   -- Where it fails it keeps a prefix of its piece, no more than such a write keeps and no more than fits.

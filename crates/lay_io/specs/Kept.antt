@@ -8,7 +8,7 @@ pub record Kept : Type 0 where
   pub bytes : Option (List ℕ)
   pub spare : ℕ
 
--- nothing yet, in room for so many bytes
+-- nothing yet, in room for this many bytes
 abbrev pub empty : ℕ → Kept
 empty room = record { bytes = Some []; spare = room }
 
@@ -16,7 +16,7 @@ empty room = record { bytes = Some []; spare = room }
 abbrev pub kept_behind : Kept → List ℕ → Kept
 kept_behind kept piece = record { bytes = put_behind kept.bytes piece; spare = kept.spare - length piece }
 
--- after a piece that doesn't fit nothing is told, and the room is as it was: no memory was taken
+-- after a piece that doesn't fit the content is unknown, and the room is as it was: no memory was taken
 abbrev pub untold : Kept → Kept
 untold kept = record { bytes = None; spare = kept.spare }
 

@@ -23,6 +23,6 @@ abbrev pub content_of : List ℕ → List NamedFile → Which → Option (List �
 content_of stdin files Stdin = Some stdin
 content_of stdin files (File name) = file_of files name
 
--- what is left of an input, of which so many bytes were taken if it is the chosen one
+-- what is left of an input, of which this many bytes were taken if it is the chosen one
 abbrev pub left_after : Option Which → ℕ → Option (List ℕ) → Which → Option (List ℕ)
 left_after chosen taken content which = option_map (drop (if is_chosen chosen which then taken else 0)) content

@@ -17,6 +17,6 @@ greatest_indent = 240
 abbrev pub greatest_blanks : ℕ
 greatest_blanks = 1000000
 
--- The greatest width that a printer keeps, 2^62: no line has so many columns, so that no comparison sees more.
+-- The greatest width that a printer keeps, 2^62: no line has that many columns, so that no comparison sees more.
 abbrev pub greatest_width : ℕ
 greatest_width = 0x4000_0000_0000_0000

@@ -1,4 +1,4 @@
--- A token of a tree is told by its text: by the first character what it is, and that it opens no documentation.
+-- A token of a tree is decided by its text: by the first character what it is, and that it opens no documentation.
 use Rattle.std.proofs.Common.{◌≡◌, ℕ, zero, suc, ◌<◌, Bool, true, false, cond, not, ◌&&◌, ◌||◌, List, [], ◌∷◌, ◌++◌, codes, refl, sym, ap, ◌∙◌, subst, append-nil, arith, eq-eqb, get_or, Some, None}
 use Rattle.std.specs.Prelude.{◌==◌}
 use Rattle.std.specs.Str.{bytes_eq, chars, encode_utf8_all, is_utf8}

@@ -24,7 +24,7 @@ pub record Levels (ws : List Word) (before behind : List Bool) : Type 0 where
   pub shut_is : shuts ws before ≡ true
   pub leaves : behind_words ws before ≡ behind
 
--- so many kept braces within those that are open
+-- this many kept braces within those that are open
 abbrev pub kept_in : ℕ → List Bool → List Bool
 kept_in zero stack = stack
 kept_in (suc n) stack = true ∷ kept_in n stack
@@ -73,7 +73,7 @@ pub record Telling (Next : List Word → Type 0) (n : ℕ) (f : Form) : Type 0 w
   pub clears : (ws : List Word) (b : Bool) → Next ws → clear f ws b ≡ true
   pub levels : (stack : List Bool) → Levels (words f) (kept_in n stack) stack
 
--- The layout of the form tells its units, before such words. It closes so many braces that were opened before it.
+-- The layout of the form tells its units, before such words. It closes this many braces that were opened before it.
 pub record Closing (Next : List Word → Type 0) (n : ℕ) (f : Form) : Type 0 where
   pub go : are_pieces f ≡ true → Telling Next n f
 

@@ -104,7 +104,7 @@ place_taken (Documented inner text) t ts = ap (unit_from t) (last_taken (more_do
 abbrev pub brace : Word
 brace = Told (Opener Brace) (codes "{")
 
--- so many opening braces and then these words
+-- this many opening braces and then these words
 abbrev pub braces : ℕ → List Word → List Word
 braces zero ws = ws
 braces (suc k) ws = brace ∷ braces k ws

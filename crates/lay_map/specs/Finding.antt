@@ -12,7 +12,7 @@ use Rattle.lay_map.specs.declared.walk.Sought.TheVariants.{Docs}
 abbrev pub documented_from : Bool → Place → Place
 documented_from inner p = let q = sought_from Docs p in taken_from (more_of inner q.ahead) q
 
--- What is looked for is told, if it is there, and these tokens are after it; or there is none.
+-- The token that is searched, if it is there, and these tokens are after it; or there is none.
 pub record Finds (sought : Sought) (ts : List Token) (old : List Bool) (result : Option Lexeme) (behind : List Token) (new : List Bool) : Type 0 where
   pub there : List Token
   pub next : IsNext there result behind

@@ -22,7 +22,7 @@ abbrev pub same : Bool → Bool → Bool
 same true b = b
 same false b = not b
 
--- What a word is is told by its first character.
+-- The first character of a word decides what it is.
 abbrev pub is_told : Kind → ℕ → List ℕ → Bool
 is_told kind c cs =
     same (opens kind) (c == char.open_brace) && (same (closes kind) (c == char.close_brace)

@@ -65,7 +65,7 @@ words_of zero (c ∷ cs) s =
     cond (c == char.open_brace) (words_of 0 cs (raised s))
     (cond (c == char.blank) (words_of 0 cs s) (words_of (first_ahead c s - 1) cs (worded c s)))
 
--- A word may begin with this character: it goes on with so many more.
+-- A word may begin with this character: it goes on with this many more.
 abbrev pub BeginsWord : ℕ → State → ℕ → State → Type 0
 BeginsWord c old n new = (cs : List ℕ) → words_of 0 (c ∷ cs) old ≡ words_of n cs new
 

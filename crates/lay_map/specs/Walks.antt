@@ -43,7 +43,7 @@ sought_in sought (t ∷ ts) braces units =
 abbrev pub sought_from : Sought → Place → Place
 sought_from sought p = sought_in sought p.ahead p.braces p.units
 
--- the token so many places after the first, or else the last
+-- the token this many places after the first, or else the last
 abbrev pub last_of : ℕ → Token → List Token → Token
 last_of zero t ts = t
 last_of (suc n) t [] = t
@@ -58,7 +58,7 @@ taken_in n [] braces units = record { ahead = []; braces = braces; units = units
 taken_in n (t ∷ ts) braces units =
     record { ahead = drop n ts; braces = behind_token true t.kind braces; units = units ++ unit_from t (last_of n t ts) ∷ [] }
 
--- The next token, with so many after it, is a unit.
+-- The next token, with this many after it, is a unit.
 abbrev pub taken_from : ℕ → Place → Place
 taken_from n p = taken_in n p.ahead p.braces p.units
 
@@ -73,11 +73,11 @@ more_of inner (t ∷ ts) = more_doc inner t.kind
 
 -- ---- rows of opening braces
 
--- So many opening braces stand in a row ahead, or none is counted yet.
+-- This many opening braces stand in a row ahead, or none is counted yet.
 abbrev pub IsCount : Bool → ℕ → List Token → Type 0
 IsCount loose count ts = (count ≡ 0) ⊎ (count ≡ openers loose ts)
 
--- Of the braces that stand in a row so many are units, the last of them; the flag says that `;` may stand between.
+-- Of the braces that stand in a row this many are units, the last of them; the flag says that `;` may stand between.
 abbrev pub placed_in : Bool → ℕ → List Token → List Bool → List Unit → Place
 placed_in loose zero ts braces units = record { ahead = ts; braces = braces; units = units }
 placed_in loose (suc k) [] braces units = record { ahead = []; braces = braces; units = units }

@@ -1,4 +1,4 @@
--- What the tokens ahead begin, told by the first of them.
+-- What the tokens ahead begin, decided by the first of them.
 use Rattle.std.specs.Prelude.{ℕ, ◌||◌, Bool, true, false, if◌then◌else◌, List, [], ◌∷◌, codes, Option, Some, None, is_some}
 use Rattle.std.specs.Str.{bytes_eq}
 use Rattle.lay_token.specs.Operators.{is_op}

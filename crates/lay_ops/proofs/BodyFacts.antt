@@ -1,4 +1,4 @@
--- What is told of the bodies of arms, of statements, blocks and items by their roots, kind by kind.
+-- The facts about the bodies of arms, statements, blocks and items by their roots, kind by kind.
 use Rattle.std.proofs.Common.{◌≡◌, ◌&&◌, ◌||◌, Bool, true, false, not, List, [], ◌∷◌, map, Option, Some, None, is_some, refl, sym, ap, ◌∙◌}
 use Rattle.lay_node.specs.declared.attr.Attr.{Attr}
 use Rattle.lay_node.specs.declared.token.Lifetime.{Lifetime}

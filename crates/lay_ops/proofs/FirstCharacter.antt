@@ -1,4 +1,4 @@
--- What comes next, and the operator there, told from the first character.
+-- What comes next, and the operator there, decided by the first character.
 use Rattle.std.proofs.Common.{◌≡◌, ◌⊎◌, inl, inr, ℕ, zero, suc, Bool, true, false, ◌&&◌, ◌||◌, cond, List, [], ◌∷◌, ◌<◌, ◌≤◌, drop, get_or, length, Option, Some, None, refl, sym, ap, ◌∙◌, arith}
 use Rattle.std.specs.Prelude.{◌==◌, slice_get, option_and_then}
 use Rattle.std.specs.List.{filter, list_all}

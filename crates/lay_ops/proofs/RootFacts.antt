@@ -1,4 +1,4 @@
--- What is told of an expression by its root, kind by kind.
+-- The facts about an expression by its root, kind by kind.
 use Rattle.std.proofs.Common.{◌≡◌, ℕ, Bool, true, false, not, List, [], ◌∷◌, map, Some, None, is_some, length, ◌-◌, refl, sym, ap, ◌∙◌}
 use Rattle.std.specs.Prelude.{slice_get}
 use Rattle.lay_node.specs.nodes.Types.{about_type}

@@ -1,4 +1,4 @@
--- What is told of an expression by its root, in code.
+-- The facts about an expression by its root, in code.
 use Rattle.std.specs.Prelude.{ℕ, ◌&&◌, not, Bool, false, List, [], ◌∷◌}
 use Rattle.std.specs.List.{list_all}
 use Rattle.lay_code.specs.Operators.{op_level}

@@ -12,7 +12,7 @@ use Rattle.lay_code.specs.declared.exprs.Expr.TheVariants as expr
 abbrev pub IsAround : Expr → Option Expr → Type 0
 IsAround x y = (inner : Expr) × (x ≡ expr.Block None (record { attrs = []; stmts = stmt.Expr [] inner false ∷ [] })) × (y ≡ Some inner)
 
--- Its outer braces are those of so many pairs that aren't in the tree, and the last of these holds this.
+-- Its outer braces are those of this many pairs that aren't in the tree, and the last of these holds this.
 abbrev pub IsBare : ℕ → Expr → Expr → Type 0
 IsBare turns x y = (undressed turns x ≡ y) × (is_lone_body (about_expr y).kind ≡ false)
 

@@ -113,7 +113,7 @@ paren_expr q x inner put is e =
     rw e (ap (λ (s : List Tok). tok.Text (codes "(") ∷ s) (part_at false (expr_told inner) (piece (closer Paren ∷ [])) (both refl))
     ∙ told_any q x (expr.Paren inner) _ is (expr_paren_is inner) (both refl))
 
--- what is told of each, and then its form
+-- the facts about each, and then its form
 forms_are : (xs : List Expr) → map expr_told xs ≡ expr_forms (map about_expr xs)
 forms_are [] = refl
 forms_are (x ∷ xs) = ap (λ (es : List Form). expr_told x ∷ es) (forms_are xs)

@@ -119,7 +119,7 @@ may_close_base {m} {a} {b} {p} {q} fields bare x none h =
 
 -- ---- struct literals
 
--- what is told of each, and then its form
+-- the facts about each, and then its form
 forms_are : (xs : List FieldExpr) → map field_told xs ≡ map (λ (x : Facts). x.form) (map about_field_expr xs)
 forms_are [] = refl
 forms_are (x ∷ xs) = ap (λ (es : List Form). field_told x ∷ es) (forms_are xs)

@@ -208,7 +208,7 @@ path_layer y = type_fold.map-Path KeptArg KeptArgs KeptBound KeptConstraint Kept
     Arg Args Bound Constraint PathStart Ty FuncParam Path
     (λ y. y.0) (λ y. y.0) (λ y. y.0) (λ y. y.0) (λ y. y.0) (λ y. y.0) (λ y. y.0) (λ y. y.0) y
 
--- from what is told of a node to the node
+-- from the facts about a node to the node
 told : {A B : Type 0} (P : B → Type 0) (about : A → B) {x y : A} {f : B} → y ≡ x → about x ≡ f → P f → P (about y)
 told P about same is k = subst (λ z. P (about z)) (sym same) (subst P (sym is) k)
 

@@ -1,4 +1,4 @@
--- What the neighbours of the code stand for, and what is told of them at once.
+-- What the neighbours of the code stand for, and the facts about them that are computed at once.
 use Rattle.std.specs.Prelude.{ℕ, List, [], ◌∷◌, cond}
 use Rattle.lay_token.specs.Lexes.{is_punct}
 use Rattle.lay_node.specs.tokens.Listing.{kind_of, text_of}

@@ -62,7 +62,7 @@ use Rattle.lay_out_types.proofs.FormRows.{are_none, bounds_are, list_is, one_the
 use Rattle.lay_out_types.proofs.PartLemmas.{abi_more, angles_are, attrs_more, binder_more, param_name_more}
 use Rattle.lay_out_types.proofs.PartLemmas.{reference_more}
 
--- the form of a node of which this is told
+-- the form of a node with these facts
 abbrev pub form_of : {A : Type 0} → (A → Facts) → A → Form
 form_of about x = (about x).form
 
@@ -96,7 +96,7 @@ parens_are may es bare is =
     closes true more = refl
     closes false more = refl
 
--- what is told of each, and then its form
+-- the facts about each, and then its form
 pub forms_are : {A : Type 0} (about : A → Facts) (xs : List A) → map (form_of about) xs ≡ forms (map about xs)
 forms_are about [] = refl
 forms_are about (x ∷ xs) = ap (λ (es : List Form). (about x).form ∷ es) (forms_are about xs)

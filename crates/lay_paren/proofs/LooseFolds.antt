@@ -1,4 +1,4 @@
--- What is told of shielded nodes, by their layers.
+-- The facts about shielded nodes, by their layers.
 use Rattle.std.proofs.Common.{◌≡◌}
 use Rattle.lay_node.specs.nodes.Facts.{Facts}
 use Rattle.lay_code.specs.nodes.Blocks.{arm_facts, block_facts, branch_facts, stmt_facts}

@@ -136,7 +136,7 @@ raw-hashes y (suc m) n (c ∷ cs) e = elim (cases_Bool (c == 35)) [
       ∙ sym to
 ]
 
--- the hashes that close a raw string, where so many are still to come
+-- the hashes that close a raw string, where this many are still to come
 abbrev pub closed : Contents → ℕ → ℕ → List ℕ → Option (List ℕ)
 closed y n m cs = cond (hashes m cs == m) (Some (behind_hashes m cs))
     (run (raw_step y) (Inside n) (behind_hashes m cs))

@@ -44,7 +44,7 @@ pub data InEscape : Type 0 where
   HexTwo : ℕ → InEscape
   -- after \u
   Open : InEscape
-  -- after \u{ and so many digits, which have this value
+  -- after \u{ and this many digits, which have this value
   Digits : ℕ → ℕ → InEscape
 
 -- Up to six digits; an underscore may follow a digit, and at least one digit stands before the closing brace.
@@ -110,11 +110,11 @@ char_step y Last c = cond (c == char.apostrophe) End Bad
 
 -- a raw string, after its r (Rust Reference, "Raw string literals")
 pub data InRaw : Type 0 where
-  -- so many hashes so far
+  -- this many hashes so far
   Hashes : ℕ → InRaw
-  -- within so many hashes
+  -- within this many hashes
   Inside : ℕ → InRaw
-  -- within so many hashes, after a quote and so many hashes
+  -- within this many hashes, after a quote and this many hashes
   Closing : ℕ → ℕ → InRaw
 
 abbrev pub inside_step : Contents → ℕ → ℕ → Next InRaw
@@ -127,7 +127,7 @@ raw_step y (Closing n k) c = cond (c == char.hash) (cond (k + 1 == n) End (Go (C
 
 -- a block comment, after its opening (Rust Reference, "Comments")
 pub data InBlock : Type 0 where
-  -- within so many more comments
+  -- within this many more comments
   Deep : ℕ → InBlock
   -- after a star
   Star : ℕ → InBlock

@@ -36,7 +36,7 @@ space_left s = s.room - s.used
 abbrev pub least_space : State → ℤ
 least_space s = pos s.room -ℤ pos (min s.used (s.room + cap))
 
--- so many bytes fit in the space
+-- this many bytes fit in the space
 abbrev pub FitSpace : Printing → ℕ → Type 0
 FitSpace c bytes = (written : Option (List ℕ)) (content : List ℕ) (s : List Tok)
     → Runs c written content s → (r : List Tok) → bytes ≤ space_left (state_of c s r)

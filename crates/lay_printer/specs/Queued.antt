@@ -29,7 +29,7 @@ pub record Holds (ended : Bool) (s : List Tok) (entries : List Entry) (layout : 
   pub small : layout.state.room ≤ margin
   pub shown : (r : List Tok) → MayFollow ended r → play printed (waits ++ r) begun ≡ layout
 
--- Is the oldest entry too big, where it has so many columns at the least and the text that waits? None: undecided.
+-- Is the oldest entry too big, where it has this many columns at the least and the text that waits? None: undecided.
 abbrev pub Says : Size → (least wait : ℕ) → Line → Option Bool → Type 0
 Says Unknown least wait line None = line.used + (least + wait) ≤ line.room
 Says Unknown least wait line (Some big) = (big ≡ true) × (line.room < line.used + (least + wait))

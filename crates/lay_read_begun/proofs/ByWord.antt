@@ -1,4 +1,4 @@
--- What leads an item, told by the word at the beginning.
+-- What leads an item, decided by the word at the beginning.
 use Rattle.std.proofs.Common.{◌≡◌, ℕ, Bool, true, false, List, [], ◌∷◌, Some, None, codes, refl, sym, ap, subst, if◌then◌else◌, slice_get}
 use Rattle.std.proofs.lemmas.Bool.{or_parts}
 use Rattle.std.specs.Str.{bytes_eq}

@@ -1,5 +1,5 @@
 -- Bodies of arms and of closures: what is read of one is within no more pairs of braces that aren't in the tree than there are
--- tokens, so that a loop which takes them off until none goes ends as so many turns do.
+-- tokens, so that a loop which takes them off until none goes ends as this many turns do.
 use Rattle.std.proofs.Common.{◌≡◌, ℕ, zero, suc, ◌-◌, ◌≤◌, Bool, true, false, not, ◌&&◌, ◌||◌, List, [], ◌∷◌, ◌++◌, length, drop, inl, inr, codes, Option, Some, None, is_some, refl, sym, ap, subst, ◌∙◌, arith}
 use Rattle.std.specs.Prelude.{max, nat_le, ◌==◌}
 use Rattle.lay_token.specs.Operators.{is_op}
@@ -70,7 +70,7 @@ bare_more (suc m) (suc n) x le b =
 
 -- ---- what a block holds
 
--- So many turns suffice for the expression that a statement is.
+-- This many turns suffice for the expression that a statement is.
 abbrev stmt_in : ℕ → StmtNode → Type 0
 stmt_in n (Stmt-F.Stmt::Expr attrs y ended) = Bare (undressed n y)
 stmt_in n _ = Unit {0}
@@ -106,14 +106,14 @@ alone_bare n _ (IsAlone y macro) h held =
 
 -- ---- reading
 
--- What was read leaves so many tokens fewer.
+-- What was read leaves that many fewer tokens.
 left_of : {A : Type 0} (n : ℕ) (ts : Tokens) (o : Got A) (x : A × Tokens) → o ≡ Some x → Leaves n ts o → Left n ts x.1
 left_of n ts o x e l = subst (Leaves n ts) e l
 
 passes_of : (n : ℕ) (ts : Tokens) (o : Option Tokens) (rest : Tokens) → o ≡ Some rest → Passes n ts o → Left n ts rest
 passes_of n ts o rest e l = subst (Passes n ts) e l
 
--- For what is read so many turns suffice as there are tokens.
+-- For what is read as many turns suffice as there are tokens.
 abbrev Shallow : ExprWithin → Type 0
 Shallow within = (place : Place) (ts : Tokens) (r : (Expr × ℕ) × Tokens) → within.exprs place ts ≡ Some r → Bare (undressed (length ts) r.0.0)
 
@@ -311,7 +311,7 @@ module _ (within : ExprWithin) (shallow : Shallow within) (left : LeftCode withi
 
   -- ---- what begins with a `{`
 
-  -- So many turns suffice, where it is a block of one expression.
+  -- This many turns suffice, where it is a block of one expression.
   abbrev HeldRead : Tokens → (Expr × ℕ) × Tokens → Type 0
   HeldRead ts r = is_lone_body (about_expr r.0.0).kind ≡ true → (n : ℕ) × (length ts ≡ suc n) × OfExpr n r.0.0
 
@@ -376,7 +376,7 @@ module _ (within : ExprWithin) (shallow : Shallow within) (left : LeftCode withi
         | inr g ↦ absurd (cc g.1)
       ]
 
-  -- Where the tokens begin with the lead of what is read, so many turns suffice as there are tokens.
+  -- Where the tokens begin with the lead of what is read, as many turns suffice as there are tokens.
   expr_shallow : (budget : ℕ) (place : Place) (ts : Tokens) (r : (Expr × ℕ) × Tokens) → expr_lead_at ts ≡ Some (about_expr r.0.0).lead
       → expr_by within budget place ts ≡ Some r → Bare (undressed (length ts) r.0.0)
   expr_shallow budget place ts r lead h = by (is_lone_body (about_expr r.0.0).kind) refl
@@ -394,7 +394,7 @@ shallow_in zero place ts r h = absurd (cc h)
 shallow_in (suc depth) place ts r h =
     expr_shallow (code_in depth) (shallow_in depth) (in_left depth) (suc depth) place ts r (code_led (suc depth) place ts r h) h
 
--- What is left of an arm's body that is read, when all such braces are off, is what so many turns leave as there are tokens.
+-- What is left of an arm's body that is read, when all such braces are off, is what as many turns leave as there are tokens.
 pub undressed_read : (depth : ℕ) (place : Place) (ts rest : Tokens) (x y : Expr) (need turns : ℕ)
     → expr_at place depth ts ≡ Some ((x, need), rest) → IsBare turns x y → undressed (length ts) x ≡ y
 undressed_read depth place ts rest x y need turns h b =

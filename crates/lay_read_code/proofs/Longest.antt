@@ -14,7 +14,7 @@ use Rattle.lay_read_tokens.proofs.Left.{shorter}
 use Rattle.lay_read_code.specs.Answers.{IsNext}
 use Rattle.lay_read_shared.proofs.Left.{item_left}
 
--- So many turns suffice, and make this of what is found.
+-- This many turns suffice, and make this of what is found.
 pub record Turn {A : Type 0} (one : Tokens → Got A) (whole : List A × Tokens) (found : List A) (ts : Tokens) : Type 0 where
   pub turns : ℕ
   pub enough : length ts ≤ turns

@@ -9,7 +9,7 @@ use Rattle.lay_read_tokens.proofs.Turns.{Turn, Held, repeat-start, repeat-end, r
 
 -- ---- parts with an operator between them
 
--- The first part was read, and so many others after it.
+-- The first part was read, and this many others after it.
 pub record Chained {A : Type 0} (op : List ℕ) (one : Tokens → Read A) (whole : Tokens) (held : List A) (need : ℕ)
     (ts : Tokens) : Type 0 where
   pub head : A × ℕ
@@ -65,7 +65,7 @@ module _ {A : Type 0} (op : List ℕ) (one : Tokens → Read A) where
 
 -- ---- elements as long as one begins
 
--- So many turns after this one suffice, and make this of what is found.
+-- This many turns after this one suffice, and make this of what is found.
 pub record Turning {A : Type 0} (turns_make : ℕ → List A → Tokens → Got (List A × Bool)) (whole : Got (List A × Bool))
     (found : List A) (ts : Tokens) : Type 0 where
   pub turns : ℕ

@@ -73,7 +73,7 @@ tuple_is x [] ts =
     ap (λ (n : ℕ). let got : Read Pat = if (about_pat x.0).rest then None else Some ((pat.Tuple (x.0 ∷ []), suc n), ts) in got) e
 tuple_is x (y ∷ more) ts = refl
 
--- ---- what is told of a pattern
+-- ---- the facts about a pattern
 
 -- whether it is a name that is bound with nothing after it, a span, and `..` alone
 abbrev shape_of : PatFacts → Bool × Bool × Bool

@@ -5,7 +5,7 @@ use Rattle.lay_token.specs.declared.token.Token.{Token}
 use Rattle.lay_node.specs.Ahead.{Tokens, first, tail}
 use Rattle.lay_node.specs.reader.Loops.{Got, element_end, repeat_from, repeat, elements_from, elements}
 
--- So many turns after this one suffice, and make this of what is found.
+-- This many turns after this one suffice, and make this of what is found.
 pub record Turn {A : Type 0} (turns_make : ℕ → List A → Tokens → Got (List A)) (whole : Got (List A))
     (found : List A) (ts : Tokens) : Type 0 where
   pub turns : ℕ

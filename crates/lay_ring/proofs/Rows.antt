@@ -103,7 +103,7 @@ text_is [] place n s h e = cc
 text_is (x ∷ ss) zero n s h e = let k : s ≡ x = cc in sym (ap (λ (y : SmallEntry). y.kind) k) ∙ e
 text_is (x ∷ ss) (suc place) n s h e = text_is ss place n s h e
 
--- The first so many are texts, which take so many bytes.
+-- The first this many are texts, which take this many bytes.
 abbrev pub TextsAt : ℕ → List SmallEntry → ℕ → Type 0
 TextsAt zero ss len = len ≡ 0
 TextsAt (suc n) [] len = ⊥

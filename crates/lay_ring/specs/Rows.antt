@@ -66,7 +66,7 @@ abbrev pub room_in : Bool → ℕ
 room_in false = bytes_first
 room_in true = bytes_kept
 
--- How many of so many texts there is surely room for: all in the full room, and in the first one at the most, where
+-- How many of this many texts there is surely room for: all in the full room, and in the first one at the most, where
 -- the longest fits after what waits.
 abbrev pub texts_beside : Bool → (wait count : ℕ) → ℕ
 texts_beside true wait count = count
@@ -81,14 +81,14 @@ IsFirst [] r = r ≡ None
 IsFirst (e ∷ es) None = ⊥
 IsFirst (e ∷ es) (Some w) = (tok_of w.tok ≡ e.tok) × (size_of w.size ≡ e.size)
 
--- the first so many entries are texts, and these are their bytes, one text after the other
+-- the first `count` entries are texts, and these are their bytes, one text after the other
 abbrev pub IsRun : ℕ → List Entry → List ℕ → Type 0
 IsRun zero es bytes = bytes ≡ []
 IsRun (suc n) [] bytes = ⊥
 IsRun (suc n) (e ∷ es) bytes =
     (text : List ℕ) × (rest : List ℕ) × (e.tok ≡ tok.Text text) × (bytes ≡ text ++ rest) × IsRun n es rest
 
--- the first so many entries are texts, of so many bytes in all
+-- the first `count` entries are texts, which have this many bytes together
 abbrev pub AreTexts : ℕ → ℕ → List Entry → Type 0
 AreTexts count len es = (bytes : List ℕ) × IsRun count es bytes × (length bytes ≡ len)
 

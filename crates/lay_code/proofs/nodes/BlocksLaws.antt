@@ -1,4 +1,4 @@
--- What is told of blocks, statements, conditions, branches and arms.
+-- The facts about blocks, statements, conditions, branches and arms.
 use Rattle.std.proofs.Common.{◌≡◌, Bool, List, map, Option, option_map, Some, None, sym, ap, ◌∙◌, subst}
 use Rattle.lay_node.specs.nodes.Facts.{Facts}
 use Rattle.lay_node.specs.declared.attr.Attr.{Attr}

@@ -1,4 +1,4 @@
--- What is told of expressions, of the fields of struct literals and of steps, kind by kind.
+-- The facts about expressions, the fields of struct literals and steps, kind by kind.
 use Rattle.std.proofs.Common.{◌≡◌, ℕ, Bool, List, map, Option, option_map, Some, None, sym, ap, ◌∙◌, subst}
 use Rattle.lay_node.specs.declared.attr.Attr.{Attr}
 use Rattle.lay_node.specs.declared.patterns.Pat.{Pat}
@@ -131,7 +131,7 @@ field_expr_view x = subst FieldExprView (views.roll-out-FieldExpr x) (field_laye
 pub step_view : (x : Step) → StepView x
 step_view x = subst StepView (views.roll-out-Step x) (step_layer (views.out-Step x))
 
--- ---- what is told of it
+-- ---- the facts about it
 
 -- an operator and the operand after it, and an operand and the operator after it
 abbrev pub behind_op : Op × Expr → Op × ExprFacts

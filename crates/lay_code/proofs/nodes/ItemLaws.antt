@@ -1,4 +1,4 @@
--- What is told of an item and of what it is, kind by kind.
+-- The facts about an item and about what it is, kind by kind.
 use Rattle.std.proofs.Common.{◌≡◌, Bool, List, Option, map, sym, ap, ◌∙◌, subst, option_map, Some, None}
 use Rattle.lay_node.specs.declared.attr.Attr.{Attr}
 use Rattle.lay_node.specs.declared.functions.FnHead.{FnHead}

@@ -1,4 +1,4 @@
--- What is told of a node whose nodes within it are trees, by its layer.
+-- The facts about a node whose nodes within it are trees, by its layer.
 use Rattle.std.proofs.Common.{◌≡◌}
 use Rattle.lay_node.specs.nodes.Facts.{Facts}
 use Rattle.lay_code.specs.nodes.Blocks.{arm_facts, block_facts, branch_facts, stmt_facts}

@@ -44,7 +44,7 @@ use Rattle.lay_code.proofs.reader.StmtsComplete.{block_tail}
 
 -- ---- the braces of a body
 
--- Read within so many pairs of braces as blocks, a body loses them.
+-- Read within this many pairs of braces as blocks, a body loses them.
 pub undress_dressed : (k n : ℕ) (y : Expr) → k ≤ n → is_lone_body (about_expr y).kind ≡ false → (1 ≤ k → is_macro (about_expr y).kind ≡ false)
     → undressed n (dress k y) ≡ y
 undress_dressed k n y le bare macro =

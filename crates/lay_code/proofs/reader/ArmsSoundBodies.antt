@@ -1,4 +1,4 @@
--- Bodies of arms: what is read of one, without the braces that aren't in the tree, stands there within so many pairs.
+-- Bodies of arms: what is read of one, without the braces that aren't in the tree, stands there within this many pairs.
 use Rattle.std.proofs.Common.{◌≡◌, ℕ, zero, suc, ◌-◌, ◌≤◌, true, false, [], length, None, refl, sym, subst, ◌∙◌, arith}
 use Rattle.lay_form.specs.Spelled.{Closes, MayBrace, Opens, Spells}
 use Rattle.lay_node.specs.Ahead.{Tokens}
@@ -28,7 +28,7 @@ undressed_strips = record { lone = λ kind h. h; none = λ x. refl; other = undr
 
 -- ---- what is read stands there
 
--- What is left of a body without its braces stands within so many pairs of them.
+-- What is left of a body without its braces stands within this many pairs of them.
 pub record Peeled (x y : Expr) (m : ℕ) (ts mid : Tokens) : Type 0 where
   pub pairs : ℕ
   pub le : pairs ≤ m
@@ -43,7 +43,7 @@ pub record Peeled (x y : Expr) (m : ℕ) (ts mid : Tokens) : Type 0 where
   pub some : is_lone_body (about_expr x).kind ≡ true → 1 ≤ pairs
   pub none : is_lone_body (about_expr x).kind ≡ false → (pairs ≡ 0) × (y ≡ x)
 
--- So many turns as there are tokens take off all braces.
+-- As many turns as there are tokens take off all braces.
 pub peel : (n m : ℕ) (x : Expr) (ts mid : Tokens) → length ts ≤ n → Spells (about_expr x).form m ts mid
     → placed (about_expr x) statement ≡ true → Peeled x (undressed n x) m ts mid
 peel n m x ts mid le s w =

@@ -107,7 +107,7 @@ AllClear depth = (x : Expr) (no_struct first_flag : Bool) (ts rest : Tokens) →
     → (about_expr x).within no_struct first_flag ≡ true → is_op (codes "->") ts ≡ false
 
 module _ (depth : ℕ) (ih : AllClear depth) (no_struct first_flag : Bool) (ts rest : Tokens) where
-  -- an expression of which this is told
+  -- an expression with these facts
   abbrev Clear : ExprFacts → Type 0
   Clear F = Spells F.form (suc depth) ts rest → F.within no_struct first_flag ≡ true → is_op (codes "->") ts ≡ false
 

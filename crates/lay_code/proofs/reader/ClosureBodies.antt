@@ -1,5 +1,6 @@
--- Bodies of closures: what is left of one that is read, without the braces that aren't in the tree, stands there within so many
--- pairs of them; and what stands there is read as so many blocks, which are taken off again.
+-- Bodies of closures: what is left of one that is read, without the braces that aren't in the tree,
+-- stands there within this many pairs of them; and what stands there is read as that many blocks,
+-- which are taken off again.
 use Rattle.std.proofs.Common.{◌≡◌, ℕ, zero, suc, ◌+◌, ◌-◌, ◌≤◌, ◌<◌, nat_le, Bool, true, false, not, ◌&&◌, ◌||◌, length, [], inl, inr, None, if◌then◌else◌, refl, sym, ap, subst, ◌∙◌, arith, le-leb}
 use Rattle.std.proofs.lemmas.Bool.{and_from, and_parts, eq-eqb, not-true}
 use Rattle.lay_form.specs.BracedEnds.{EndsBraced}
@@ -46,7 +47,7 @@ unfolding shed
 shed_strips no_struct =
     record { lone = lone_sheds no_struct; none = λ x. refl; other = shed_other no_struct; one = shed_alone no_struct }
 
--- So many turns as leave no pair round the body of an arm leave none that goes round that of a closure.
+-- As many turns as leave no pair round the body of an arm leave none that goes round that of a closure.
 pub shed_bare : (no_struct : Bool) (n : ℕ) (x : Expr) → is_lone_body (about_expr (undressed n x)).kind ≡ false
     → sheds (about_expr (shed no_struct n x)).kind no_struct ≡ false
 shed_bare no_struct =

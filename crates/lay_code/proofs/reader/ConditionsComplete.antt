@@ -54,7 +54,7 @@ abbrev link_layer : ReadLink → LinkLayer
 link_layer (None, x) = Link-F.Link::Expr (about_expr x)
 link_layer (Some pat, x) = Link-F.Link::Let pat (about_expr x)
 
--- what is told of one
+-- the facts about one
 abbrev told : ReadLink → LinkFacts
 told r = link_facts (link_layer r)
 

@@ -38,7 +38,7 @@ use Rattle.lay_code.proofs.reader.ExprSoundLevel.{ExprHeld, LeftHeld, SoundExprW
 use Rattle.lay_code.proofs.reader.ExprSoundOperands.{OperandRow, chain_stands}
 use Rattle.lay_code.proofs.reader.ExprSoundOperators.{binary_op, goes_op}
 
--- ---- what is told of a link as it is read
+-- ---- the facts about a link as it is read
 
 abbrev read_facts : ReadLink → LinkFacts
 read_facts (None, x) = link_facts (Link-F.Link::Expr (about_expr x))

@@ -37,7 +37,7 @@ alone_block y = record { attrs = []; stmts = stmt.Expr [] y false ∷ [] }
 abbrev pub alone : Expr → Expr
 alone y = expr.Block None (alone_block y)
 
--- what is told of it
+-- the facts about it
 abbrev pub alone_facts : Expr → ExprFacts
 alone_facts y =
     expr_facts (Expr-F.Block None (block_facts (record { attrs = []; stmts = stmt_facts (Stmt-F.Stmt::Expr [] (about_expr y) false) ∷ [] })))
@@ -50,7 +50,7 @@ about_alone y =
 pub data Lone : Expr → Type 0 where
   IsAlone : (y : Expr) → is_macro (about_expr y).kind ≡ false → Lone (alone y)
 
--- What is told of a lone statement: it is an expression, and no macro call.
+-- The facts about a lone statement: it is an expression, and no macro call.
 lone_stmt : (s : Stmt) → StmtView s → ((about_stmt s).bare && not (about_stmt s).call) ≡ true → Lone (expr.Block None (record { attrs = []; stmts = s ∷ [] }))
 lone_stmt _ (IsLet attrs pat ty x o) h =
     absurd (cc (subst (λ (z : StmtFacts). (z.bare && not z.call) ≡ true) (stmt_let_is attrs pat ty x o) h))
@@ -220,7 +220,7 @@ braced_no_macro k MacroBody b le = absurd (omega (arith, b, le))
 braced_no_macro k (BlockBody lone structless) b le = refl
 braced_no_macro k OtherBody b le = refl
 
--- ---- an expression within so many blocks
+-- ---- an expression within this many blocks
 
 abbrev pub dress : ℕ → Expr → Expr
 dress zero y = y
@@ -234,7 +234,7 @@ pub dressed_no_macro : (k : ℕ) (y : Expr) → is_macro (about_expr y).kind ≡
 dressed_no_macro zero y h = h
 dressed_no_macro (suc k) y h = subst (λ (F : ExprFacts). is_macro F.kind ≡ false) (sym (about_alone (dress k y))) refl
 
--- Within so many pairs of braces it is spelled as blocks, each of them one level deeper.
+-- Within this many pairs of braces it is spelled as blocks, each of them one level deeper.
 pub dressed : (k depth : ℕ) (y : Expr) (ts a b rest : Tokens) → Opens k ts a → Spells (about_expr y).form depth a b → Closes k b rest
     → Spells (about_expr (dress k y)).form (depth + k) ts rest
 dressed zero depth y ts a b rest o s c =
@@ -250,7 +250,7 @@ dressed (suc k) depth y ts a b rest o s c =
     subst (λ n. Spells (about_expr (alone (dress k y))).form n ts rest) same
     (alone_spelled (dress k y) (depth + k) ts bits.0 o.0 last.0 rest bits.1 (bit_alone Semicolons bits.0 o.0 bits.2) inside_is last.2)
 
--- So the expression stands within so many pairs of braces where it is spelled within so many blocks.
+-- So the expression stands within this many pairs of braces where it is spelled within this many blocks.
 record DressParts (k : ℕ) (y : Expr) (m : ℕ) (ts mid : Tokens) : Type 0 where
   le : k ≤ m
   at : Tokens
@@ -289,7 +289,7 @@ pub record Strips (drops : BodyKind → Bool) (strip : ℕ → Expr → Expr) : 
   pub other : (n : ℕ) (x : Expr) → Stays drops x → strip n x ≡ x
   pub one : (n : ℕ) (y : Expr) → drops (about_expr (alone y)).kind ≡ true → strip (suc n) (alone y) ≡ strip n y
 
--- how many of them so many turns have taken off
+-- how many of them this many turns have taken off
 record Turned (drops : BodyKind → Bool) (n : ℕ) (x y : Expr) : Type 0 where
   pairs : ℕ
   around : x ≡ dress pairs y
@@ -297,7 +297,7 @@ record Turned (drops : BodyKind → Bool) (n : ℕ) (x y : Expr) : Type 0 where
   outer : 1 ≤ pairs → drops (about_expr x).kind ≡ true
   inner : 1 ≤ pairs → drops (about_expr (alone y)).kind ≡ true
 
--- What is left without any of them stands within so many pairs.
+-- What is left without any of them stands within this many pairs.
 pub record Stripped (drops : BodyKind → Bool) (x y : Expr) (m : ℕ) (ts mid : Tokens) : Type 0 where
   pub pairs : ℕ
   pub le : pairs ≤ m
@@ -356,7 +356,7 @@ module _ (drops : BodyKind → Bool) (strip : ℕ → Expr → Expr) (strips : S
   turned zero x = turned_other 0 x (inr refl) (strips.none x)
   turned (suc n) x = turned_by n (λ y. turned n y) x (drops (about_expr x).kind) refl
 
-  -- So many turns as there are tokens take off all that go.
+  -- As many turns as there are tokens take off all that go.
   pub stripped : (n m : ℕ) (x : Expr) (ts mid : Tokens) → length ts ≤ n → Spells (about_expr x).form m ts mid
       → Stripped drops x (strip n x) m ts mid
   stripped n m x ts mid le s =

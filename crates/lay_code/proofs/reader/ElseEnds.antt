@@ -131,7 +131,7 @@ steps_shut (s ∷ []) = by (is_field s.kind)
 steps_shut (s ∷ t ∷ more) = steps_shut (t ∷ more)
 
 module _ (depth : ℕ) (ih : AllBranched depth) (no_struct begun : Bool) (ts rest : Tokens) where
-  -- an expression of which this is told, one level less deep
+  -- an expression with these facts, one level less deep
   abbrev Ends : ExprFacts → Type 0
   Ends F = Spells F.form (suc depth) ts rest → F.within no_struct begun ≡ true → Branched F
 

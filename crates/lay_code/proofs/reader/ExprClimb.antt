@@ -80,7 +80,7 @@ module _ (within : ExprWithin) (place : Place) where
 
   -- ---- what is known of expressions
 
-  -- What is known of an expression of which this is told where reading has got to it. The flag says that it begins a part of
+  -- What is known of an expression with these facts where reading has got to it. The flag says that it begins a part of
   -- what begins a statement, or all of it.
   pub record Known (level depth : ℕ) (x : ExprFacts) (first : Bool) (ts mid : Tokens) : Type 0 where
     pub allowed : place.level ≤ level

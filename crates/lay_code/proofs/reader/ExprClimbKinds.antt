@@ -45,7 +45,7 @@ starts_on false true false dot n e = absurd (cc)
 
 module _ (within : ExprWithin) (place : Place) (top : ℕ) (Begun : Tokens → Expr × ℕ → Tokens → Type 0) (depth : ℕ)
     (reads : ExprReads depth within) (reaches : Reaches within place top Begun depth) where
-  -- an expression of which this is told is reached
+  -- an expression with these facts is reached
   abbrev By : Expr → ExprFacts → Type 0
   By x F =
       (level : ℕ) (first : Bool) (ts mid : Tokens) → Known within place level (suc depth) F first ts mid

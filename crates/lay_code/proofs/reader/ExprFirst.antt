@@ -175,7 +175,7 @@ path_alone p depth ts rest s g h =
         let o : IsOne _ (codes "<") ts v.0 = bit_alone less ts v.0 v.1 in
         let n : named_item ts ≡ false = rw (one_front _ (codes "<") ts v.0 o).1 refl in absurd (cc)
 
--- ---- what is told of an expression
+-- ---- the facts about an expression
 
 -- the words after `async` that make it a function
 abbrev pub fn_words : List (List ℕ)
@@ -331,7 +331,7 @@ AllPlain depth = (x : Expr) (no_struct begun : Bool) (ts rest : Tokens) → Spel
     → (about_expr x).within no_struct begun ≡ true → Plain (not (about_expr x).block_like) ts rest
 
 module _ (depth : ℕ) (ih : AllPlain depth) (no_struct begun : Bool) (ts rest : Tokens) where
-  -- an expression of which this is told, one level less deep
+  -- an expression with these facts, one level less deep
   abbrev Begins : ExprFacts → Type 0
   Begins F = Spells F.form (suc depth) ts rest → F.within no_struct begun ≡ true → Plain (not F.block_like) ts rest
 

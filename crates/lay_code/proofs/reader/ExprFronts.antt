@@ -46,7 +46,7 @@ use Rattle.lay_code.proofs.reader.AsyncFronts.{async_begins, block_no_closure, c
 use Rattle.lay_code.proofs.reader.ExprLeads.{one_lead, lone_lead, literal_lead, path_lead, range_lead}
 use Rattle.lay_code.proofs.reader.ExprSoundLevel.{within_held}
 
--- how an expression of which this is told begins
+-- how an expression with these facts begins
 pub record ExprBegun (x : ExprFacts) (ts rest : Tokens) : Type 0 where
   pub lead : expr_lead_at ts ≡ Some x.lead
   pub less : length rest < length ts
@@ -182,7 +182,7 @@ AllBegin depth = (x : Expr) (no_struct first : Bool) (ts rest : Tokens) → Spel
     → (about_expr x).within no_struct first ≡ true → Begun (about_expr x).lead ts rest
 
 module _ (depth : ℕ) (ih : AllBegin depth) (no_struct first : Bool) (ts rest : Tokens) where
-  -- an expression of which this is told, one level less deep
+  -- an expression with these facts, one level less deep
   abbrev Begins : ExprFacts → Type 0
   Begins F = Spells F.form (suc depth) ts rest → F.within no_struct first ≡ true → Begun F.lead ts rest
 

@@ -87,7 +87,7 @@ AllEnd depth =
     → EndsAsPath (about_expr x)
 
 module _ (depth : ℕ) (ih : AllEnd depth) (no_struct first : Bool) (ts rest : Tokens) where
-  -- an expression of which this is told does, one level deeper
+  -- an expression with these facts does, one level deeper
   abbrev EndsBy : ExprFacts → Type 0
   EndsBy F = Spells F.form (suc depth) ts rest → F.within no_struct first ≡ true → EndsAsPath F
 
@@ -201,7 +201,7 @@ high_refuses x no_struct first depth ts rest s w l shut =
 
 -- ---- an operand before an operator
 
--- An expression of which this is told stands before an operator of a level; the flags say that no struct literal may stand
+-- An expression with these facts stands before an operator of a level; the flags say that no struct literal may stand
 -- there, that it begins a part of what begins a statement, and that the operator is `<` or `<<`.
 pub record BeforeOp (x : ExprFacts) (level : ℕ) (no_struct first angle : Bool) : Type 0 where
   pub high : nat_le level x.level ≡ true

@@ -29,7 +29,7 @@ use Rattle.lay_code.specs.declared.exprs.Place.{Place}
 use Rattle.lay_code.proofs.nodes.ExprsLaws.{behind_op, before_op, ExprView, IsLit, IsPath, IsUnderscore, IsCall, IsParen, IsContinue, IsTuple, IsArray, IsRepeat, IsStruct, IsChain, IsCast, IsUnary, IsRange, IsAssign, IsPostfix, IsBlock, IsUnsafe, IsConstBlock, IsAsync, IsIf, IsMatch, IsLoop, IsWhile, IsFor, IsClosure, IsTypedClosure, IsReturn, IsBreak, expr_view, expr_lit_is, expr_path_is, expr_underscore_is, expr_call_is, expr_paren_is, expr_continue_is, expr_tuple_is, expr_array_is, expr_repeat_is, expr_struct_is, expr_chain_is, expr_cast_is, expr_unary_is, expr_range_is, expr_assign_is, expr_postfix_is, expr_block_is, expr_unsafe_is, expr_const_block_is, expr_async_is, expr_if_is, expr_match_is, expr_loop_is, expr_while_is, expr_for_is, expr_closure_is, expr_typed_closure_is, expr_return_is, expr_break_is}
 use Rattle.lay_code.proofs.reader.Followed.{Ended, SpelledBefore, ended_of, node_made, root_of}
 
--- An expression of which this is told stands at the place, at this depth, which is within the budget.
+-- An expression with these facts stands at the place, at this depth, which is within the budget.
 abbrev pub IsExpr : Place → ℕ → ExprFacts → ℕ → Tokens → Tokens → Type 0
 IsExpr place budget x n ts rest = (n ≤ budget) × Spells x.form n ts rest × (placed x place ≡ true) × Followed x place n ts rest
 
@@ -41,7 +41,7 @@ abbrev pub DeepBlock : ℕ → Block × ℕ → Tokens → Tokens → Type 0
 DeepBlock budget x ts rest =
     (x.1 ≤ budget) × Spells (Deeper ((about_block x.0).form true) Done) x.1 ts rest × ((about_block x.0).good ≡ true)
 
--- An expression of which this is told stands there, and operators may still go on with it. The flags say that no struct
+-- An expression with these facts stands there, and operators may still go on with it. The flags say that no struct
 -- literal may stand there, and that it begins a statement.
 abbrev pub IsLeft : Bool → Bool → ExprFacts → ℕ → Tokens → Tokens → Type 0
 IsLeft no_struct first x n ts rest =

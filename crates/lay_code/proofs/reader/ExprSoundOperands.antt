@@ -217,7 +217,7 @@ module _ (budget : ℕ) (within : ExprWithin) (sound : SoundExprWithin budget wi
   abbrev behind_targets : Expr → List ((Op × Expr) × ℕ) → Form
   behind_targets x ys = targets_form (told_targets x ys) (Part (about_expr (value_of x (nodes ys))).form Done)
 
-  -- what is told of the value
+  -- the facts about the value
   abbrev value_told : Expr → List ((Op × Expr) × ℕ) → ExprFacts
   value_told x ys = about_expr (value_of x (nodes ys))
 

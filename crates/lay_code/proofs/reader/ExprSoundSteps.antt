@@ -44,7 +44,7 @@ use Rattle.lay_code.proofs.nodes.ExprsLaws.{step_apply_is, step_await_is, step_f
 use Rattle.lay_code.proofs.reader.ExprSoundLevel.{SoundExprWithin}
 use Rattle.lay_code.proofs.reader.ExprSoundLists.{free_sound, free_spelled}
 
--- A step of which this is told stands there.
+-- A step with these facts stands there.
 pub record IsStep (s : StepFacts) (n : ℕ) (ts rest : Tokens) : Type 0 where
   pub form : Spells s.form n ts rest
   pub good : s.good ≡ true
@@ -287,7 +287,7 @@ module _ (budget : ℕ) (within : ExprWithin) (sound : SoundExprWithin budget wi
 
 -- ---- all of them
 
--- what is told of steps that were read
+-- the facts about steps that were read
 abbrev pub told_steps : List (Step × ℕ) → List StepFacts
 told_steps xs = map about_step (nodes xs)
 

@@ -55,7 +55,7 @@ use Rattle.lay_code.proofs.reader.ExprReads.{ExprReads}
 
 -- ---- how a step begins
 
--- A step of which this is told stands before what is left.
+-- A step with these facts stands before what is left.
 pub record StepBegun (x : StepFacts) (ts rest : Tokens) : Type 0 where
   pub begins : begins_step ts ≡ true
   -- what follows a `.`

@@ -1,4 +1,4 @@
--- An item that is no macro call is told by its first tokens from an expression, where statements stand.
+-- An item that is no macro call is distinguished from an expression by its first tokens, where statements stand.
 use Rattle.std.proofs.Common.{◌≡◌, ℕ, suc, Bool, true, false, not, ◌&&◌, ◌||◌, List, [], ◌∷◌, map, drop, codes, Option, Some, None, is_some, inl, inr, refl, sym, ap, subst, ◌∙◌}
 use Rattle.std.specs.List.{list_any}
 use Rattle.std.specs.Str.{bytes_eq}

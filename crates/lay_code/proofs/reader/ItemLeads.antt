@@ -183,7 +183,7 @@ fn_led h depth ts rest s = const_led h h.is_const depth ts rest s
 
 -- ---- each kind
 
--- the spelling of what an item is, by what is told of it
+-- the spelling of what an item is, by the facts about it
 pub spelled_as : (at : Site) (depth : ℕ) (k : ItemKind) (K : KindFacts) (ts rest : Tokens) → told_of_kind k ≡ K → KindAt at depth k ts rest
     → Spells (alone K) depth ts rest × (K.good at ≡ true)
 spelled_as at depth k K ts rest e g = subst (λ (F : KindFacts). Spells (alone F) depth ts rest × (F.good at ≡ true)) e g

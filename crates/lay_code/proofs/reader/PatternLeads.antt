@@ -84,7 +84,7 @@ bind_leads false false raw text f depth ts rest s g =
 
 -- ---- all kinds
 
--- a pattern of which this is told begins so
+-- a pattern with these facts begins so
 abbrev Leads : ℕ → Tokens → Tokens → PatFacts → Type 0
 Leads depth ts rest F = Spells F.told.form depth ts rest → F.told.good ≡ true → PatLead ts
 

@@ -62,7 +62,7 @@ arm_of text body = record { attrs = []; pat = name_pat text; guard = None; body 
 abbrev pub param_named : List ℕ → Option Ty → ClosureParam
 param_named text x = record { attrs = []; pat = name_pat text; ty = x }
 
--- ---- what is told of them
+-- ---- the facts about them
 
 pub alone_is : (text : List ℕ) → about_block (alone_of (name text))
     ≡ block_facts (record { attrs = []; stmts = stmt_facts (Stmt-F.Stmt::Expr [] (name_facts text) false) ∷ [] })

@@ -31,7 +31,7 @@ use Rattle.lay_code.proofs.nodes.ExprsLaws as exprs
 use Rattle.lay_code.proofs.samples.Blocks.{alone_of, laid_expr}
 use Rattle.lay_code.proofs.samples.Exprs.{called, name, name_facts, name_is}
 
--- ---- trees, and what is told of them
+-- ---- trees, and the facts about them
 
 -- `{ x }`
 abbrev pub braced : Expr → Expr

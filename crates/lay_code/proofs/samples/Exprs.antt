@@ -96,7 +96,7 @@ two_methods = method b (name c ∷ []) ∷ method (codes "d") (name (codes "e") 
 abbrev three_methods : List Step
 three_methods = method b (name c ∷ []) ∷ step.Field (named (codes "f")) ∷ method (codes "d") [] ∷ method (codes "e") [] ∷ step.Try ∷ []
 
--- ---- what is told of them
+-- ---- the facts about them
 
 -- what is told of a path, where this is told of it as a path
 abbrev path_facts : Path → PathFacts → ExprFacts

@@ -1,4 +1,4 @@
--- Small items that samples are about, and what is told of them.
+-- Small items that samples are about, and the facts about them.
 use Rattle.std.proofs.Common.{◌≡◌, true, List, [], codes, ap, ◌∙◌}
 use Rattle.lay_node.specs.nodes.Facts.{Facts}
 use Rattle.lay_node.specs.declared.attr.Attr.{Attr}
@@ -51,7 +51,7 @@ module_of attrs items = item_of [] (item.Module (named a) attrs items)
 abbrev pub import_of : UseTree → Item
 import_of tree = item_of [] (item.Import tree)
 
--- ---- what is told of them
+-- ---- the facts about them
 
 abbrev pub item_facts_of : List Attr → KindFacts → ItemFacts
 item_facts_of attrs kind = item_facts (record { attrs = attrs; vis = vis.Inherited; kind = kind })
@@ -66,6 +66,6 @@ kind_is attrs kind F e = items.item_is (item_of attrs kind) ∙ ap (item_facts_o
 pub struct_is : (attrs : List Attr) (name : Name) → told_of_item (structure attrs name) ≡ struct_facts attrs name
 struct_is attrs name = kind_is attrs _ _ (items.struct_is (unit name))
 
--- what is told of an item in a module
+-- the facts about an item in a module
 abbrev pub about : Item → Facts
 about x = about_item Module x

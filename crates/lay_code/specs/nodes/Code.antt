@@ -1,4 +1,4 @@
--- All that is told of expressions, blocks and items, which hold each other: one fold over their trees.
+-- All facts about expressions, blocks and items, which hold each other: one fold over their trees.
 use Rattle.lay_node.specs.nodes.Facts.{Facts}
 use Rattle.lay_node.specs.declared.heads.Site.{Site}
 use Rattle.lay_form.specs.Form.{Form}
@@ -54,7 +54,7 @@ told_of_item = fold.fold-Item StmtFacts LinkFacts ExprFacts Facts StepFacts Kind
 unfoldable pub told_of_kind : ItemKind → KindFacts
 told_of_kind = fold.fold-ItemKind StmtFacts LinkFacts ExprFacts Facts StepFacts KindFacts ArmFacts BlockFacts BranchFacts ConditionFacts ItemFacts stmt_facts link_facts expr_facts field_facts step_facts kind_facts arm_facts block_facts branch_facts condition_facts item_facts
 
--- what is told of an item at its site
+-- the facts about an item at its site
 abbrev pub about_item : Site → Item → Facts
 about_item site item = record { form = (told_of_item item).form; good = (told_of_item item).good site; refuses = [] }
 

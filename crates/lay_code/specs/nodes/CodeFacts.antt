@@ -1,4 +1,4 @@
--- What is told of the nodes of code that aren't expressions.
+-- The facts about the nodes of code that aren't expressions.
 use Rattle.std.specs.Prelude.{Bool, Option}
 use Rattle.lay_form.specs.Form.{Form}
 use Rattle.lay_node.specs.declared.heads.Site.{Site}

@@ -97,7 +97,7 @@ tail_follows t no_struct ts =
     && not (t.path && (not no_struct && first (opens Brace) ts)) && not (t.unlabelled && first is_lifetime ts)
     && not (t.raw && begins_pointer ts) && not (t.lacks_else && first (is_keyword (codes "else")) ts) && may_follow t.refuses ts
 
--- ---- what is told of expressions
+-- ---- the facts about expressions
 
 pub record ExprFacts : Type 0 where
   pub form : Form
@@ -160,7 +160,7 @@ expr_forms xs = map (λ (x : ExprFacts). x.form) xs
 abbrev pub all_free : List ExprFacts → Bool
 all_free xs = list_all (λ (x : ExprFacts). placed x FREE) xs
 
--- ---- what is told of steps
+-- ---- the facts about steps
 
 pub data StepKind : Type 0 where
   OfField : StepKind
@@ -178,7 +178,7 @@ pub record StepFacts : Type 0 where
 
 -- ---- layers
 
--- what stands in a node, where this is told of the nodes within it
+-- what stands in a node, given these facts about the nodes within it
 abbrev pub Layer : (Type 0 → Type 0 → Type 0 → Type 0 → Type 0 → Type 0 → Type 0 → Type 0 → Type 0 → Type 0 → Type 0 → Type 0) → Type 0
 Layer F = F StmtFacts LinkFacts ExprFacts Facts StepFacts KindFacts ArmFacts BlockFacts BranchFacts ConditionFacts ItemFacts
 
@@ -215,7 +215,7 @@ LinkLayer = Layer Link-F
 abbrev pub ItemLayer : Type 0
 ItemLayer = Layer Item-F
 
--- ---- which step it is, and what is told of each
+-- ---- which step it is, and the facts about each
 
 abbrev pub is_field : StepKind → Bool
 is_field OfField = true
@@ -833,7 +833,7 @@ within_of (Expr-F.TypedClosure is_async moves params output b) no_struct first =
 within_of (Expr-F.Return x) no_struct first = operand_placed x no_struct
 within_of (Expr-F.Break label x) no_struct first = operand_placed x no_struct && break_placed label x
 
--- ---- what is told of each node
+-- ---- the facts about each node
 
 abbrev pub expr_facts : ExprLayer → ExprFacts
 expr_facts x = record {
@@ -862,6 +862,6 @@ expr_facts x = record {
 abbrev pub Followed : ExprFacts → Place → ℕ → Tokens → Tokens → Type 0
 Followed x place depth ts rest = IsTrue (follows x place rest) ⊎ (EndsBraced x.form depth ts rest × IsTrue (strength rest == 0))
 
--- An expression of which this is told stands at the beginning of the tokens, at the place.
+-- An expression with these facts stands at the beginning of the tokens, at the place.
 abbrev pub ExprFront : Place → ExprFacts → Tokens → ℕ → ℕ → Type 0
 ExprFront place x ts n depth = (n ≤ length ts) × Spells x.form depth ts (drop n ts) × IsTrue (placed x place) × Followed x place depth ts (drop n ts)

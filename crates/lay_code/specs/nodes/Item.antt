@@ -64,7 +64,7 @@ abbrev pub may_be_valued : Site → ValueHead → Bool → Bool
 may_be_valued site head true = may_have_value site head
 may_be_valued site head false = may_lack_value site head
 
--- ---- what is told of an item, and of what it is
+-- ---- the facts about an item and about what it is
 
 abbrev pub kind_form : Vis → Option Form → Form → Form
 kind_form v None tail = tail
@@ -155,7 +155,7 @@ rules_form name rules = Piece (keyword (codes "macro_rules") ∷ Operator (codes
 abbrev pub call_item_form : MacroCall → Form
 call_item_form call = Part (about_call call).form (end_form call.tokens.delim)
 
--- ---- kinds, where all is told of the items within them
+-- ---- kinds, given all facts about the items within them
 
 -- what has a head, in a module
 abbrev pub in_modules : HeadFacts → KindFacts

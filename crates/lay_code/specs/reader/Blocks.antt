@@ -128,12 +128,12 @@ abbrev pub block_held : (Expr → Expr) → Expr → ExprNode → Expr
 block_held undress x (Expr-F.Block label b) = held_by undress x b.stmts
 block_held undress x _ = x
 
--- The body of an arm, without the braces that aren't in the tree. So many turns take off so many pairs.
+-- The body of an arm, without the braces that aren't in the tree. Each turn takes off one pair.
 unfoldable pub undressed : ℕ → Expr → Expr
 undressed zero x = x
 undressed (suc turns) x = if is_lone_body (about_expr x).kind then block_held (undressed turns) x (out-Expr x) else x
 
--- Within so many pairs of braces that aren't in the tree a body needs as many more, and one at least.
+-- Within this many pairs of braces that aren't in the tree a body needs as many more, and one at least.
 abbrev pub body_need : Bool → ℕ → ℕ
 body_need true need = need
 body_need false need = suc need

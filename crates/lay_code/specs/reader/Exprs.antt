@@ -252,7 +252,7 @@ closure_param within ts = do
   t ← if_read (is_op (codes ":") p.1) (λ us. within.kinds.types Bounds (drop 1 us)) p.1
   Some ((record { attrs = attrs.0; pat = p.0.0; ty = t.0.0 }, max p.0.1 t.0.1), t.1)
 
--- The body of a closure, without the braces that aren't in the tree. So many turns take off so many pairs, and a pair whose
+-- The body of a closure, without the braces that aren't in the tree. Each turn takes off one pair, and a pair whose
 -- expression can't stand in the body's place stays.
 unfoldable pub shed : Bool → ℕ → Expr → Expr
 shed no_struct zero x = x

@@ -13,7 +13,7 @@ abbrev pub behind_one : {A : Type 0} → (List A → Tokens → List A × Tokens
 behind_one more found ts None = (found, ts)
 behind_one more found ts (Some x) = more (found ++ x.0 ∷ []) x.1
 
--- Nodes after those that are found, one by one, as long as one is read, in so many turns at the most.
+-- Nodes after those that are found, one by one, as long as one is read, in at most this many turns.
 unfoldable pub longest_from : {A : Type 0} → (Tokens → Got A) → ℕ → List A → Tokens → List A × Tokens
 longest_from one zero found ts = (found, ts)
 longest_from one (suc n) found ts = behind_one (longest_from one n) found ts (one ts)

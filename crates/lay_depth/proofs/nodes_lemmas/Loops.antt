@@ -31,13 +31,13 @@ pub all_turns : {A : Type 0} (form : A → Form) (xs : List A) (i most : ℕ) �
     → most ≡ counted (greatest (map form (take i xs))) → most ≡ counted (greatest (map form xs))
 all_turns form xs i most h e = e ∙ ap (λ ys. counted (greatest (map form ys))) (take_all xs i h)
 
--- ---- nodes of which this is told
+-- ---- nodes with these facts
 
 -- the form of a node
 abbrev pub form_of : {A : Type 0} → (A → Facts) → A → Form
 form_of about x = (about x).form
 
--- what is told of each, and then its form
+-- the facts about each, and then its form
 forms_are : {A : Type 0} (about : A → Facts) (xs : List A) → map (form_of about) xs ≡ forms (map about xs)
 forms_are about [] = refl
 forms_are about (x ∷ xs) = ap (λ (es : List Form). form_of about x ∷ es) (forms_are about xs)

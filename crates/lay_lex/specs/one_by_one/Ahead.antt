@@ -40,7 +40,7 @@ abbrev pub parts_by : (Part → List ℕ → List Part) → Next → List Part
 parts_by more None = []
 parts_by more (Some x) = x.0 ∷ more x.0 x.1
 
--- no more parts than so many
+-- at most this many parts
 abbrev pub parts_in : ℕ → Before → List ℕ → List Part
 parts_in zero b cs = []
 parts_in (suc n) b cs = parts_by (λ p rest. parts_in n (step b p) rest) (next_part b cs)
@@ -59,6 +59,6 @@ pub record Tells (l : Lexeme) (t : Token) : Type 0 where
   pub at : t.at ≡ l.at
   pub len : t.len ≡ l.len
 
--- Of the tokens the next one is told, if there is one, and these are after it.
+-- The next token, if there is one, and the tokens after it.
 abbrev pub IsNext : List Token → Option Lexeme → List Token → Type 0
 IsNext ts result behind = MatchOption result ((ts ≡ []) × (behind ≡ [])) (λ l. (t : Token) × (ts ≡ t ∷ behind) × Tells l t)

@@ -184,7 +184,7 @@ body_braced false true (e ∷ es) ws = (_, refl)
 body_braced false false [] ws = (_, refl)
 body_braced false false (e ∷ es) ws = (_, refl)
 
--- what is told of the body of a block
+-- the facts about the body of a block
 record BodyTells (none : Bool) (es : List Form) : Type 0 where
   go : (lead : Bool) → Plain (body (blank_if lead) (dropped_if none) es)
   firm_is : Firm (body [] (dropped_if none) es)

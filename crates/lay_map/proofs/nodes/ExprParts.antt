@@ -1,4 +1,4 @@
--- What is told of expressions, and of the steps and fields within them, whose forms tell their units.
+-- The facts about expressions and about the steps and fields within them, whose forms tell their units.
 use Rattle.std.proofs.Common.{◌≡◌, ℕ, Bool, true, false, not, ◌&&◌, ◌||◌, List, [], ◌∷◌, ◌++◌, codes, refl, map, Option, Some, None}
 use Rattle.std.proofs.lemmas.Bool.{and_parts}
 use Rattle.lay_piece.specs.declared.kind.Delim.TheVariants.{Paren, Bracket}

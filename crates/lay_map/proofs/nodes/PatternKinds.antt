@@ -38,7 +38,7 @@ use Rattle.lay_map.proofs.nodes.TypeKinds.{deeper_tells, mutable_tells}
 use Rattle.lay_map.proofs.nodes.TypeParts.{joined_by, literal_bare, literal_firm, literal_tells}
 use Rattle.lay_map.proofs.nodes.Types.{path_tells}
 
--- ---- what is told of a pattern
+-- ---- the facts about a pattern
 
 -- It tells its units, and begins with a token that isn't dropped and is neither a bar nor a comma.
 pub record PatParts (f : Form) : Type 0 where

@@ -1,4 +1,4 @@
--- Generic arguments, bounds and paths tell their units, of what is told of them, where what is within them does.
+-- Generic arguments, bounds and paths tell their units, given the facts about them, where what is within them does.
 use Rattle.std.proofs.Common.{◌≡◌, Bool, true, false, not, ◌&&◌, List, [], ◌∷◌, ◌++◌, codes, refl, Option, Some, None}
 use Rattle.std.specs.Prelude.{⊤}
 use Rattle.std.proofs.lemmas.Bool.{and_parts}
@@ -24,7 +24,7 @@ use Rattle.lay_map.proofs.Rules.{All, Plain, Tells, brk, deep, ends, fixed, grou
 use Rattle.lay_map.proofs.nodes.Attrs.{whenever, word}
 use Rattle.lay_map.proofs.nodes.TypeParts.{binder_tells, captures_tell, const_tells, joined_by, lifetime_tells}
 
--- ---- what is told of a node
+-- ---- the facts about a node
 
 -- A well formed node tells its units.
 pub record NodeTells (x : Facts) : Type 0 where

@@ -1,4 +1,4 @@
--- Types tell their units, kind by kind, of what is told of them, where what is within them does.
+-- Types tell their units, kind by kind, given the facts about them, where what is within them does.
 use Rattle.std.proofs.Common.{◌≡◌, ℕ, Bool, true, false, not, ◌&&◌, List, [], ◌∷◌, ◌++◌, codes, refl, Option, Some, None}
 use Rattle.std.proofs.lemmas.Bool.{and_parts}
 use Rattle.lay_piece.specs.Characters as char

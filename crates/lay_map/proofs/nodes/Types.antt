@@ -124,7 +124,7 @@ kept_segments : (ys : List (Word × KeptArgs)) → Each SegmentTells (map about_
 kept_segments [] = tt
 kept_segments (y ∷ ys) = (y.1.1, kept_segments ys)
 
--- from what is told of a node to the node
+-- from the facts about a node to the node
 pub told : {A B : Type 0} (P : B → Type 0) (about : A → B) {x y : A} {f : B} → y ≡ x → about x ≡ f → P f → P (about y)
 told P about same is k = subst (λ z. P (about z)) (sym same) (subst P (sym is) k)
 

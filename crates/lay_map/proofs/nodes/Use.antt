@@ -31,7 +31,7 @@ rename_tells None = ends
 rename_tells (Some (given_name.Name name)) = fixed (Blank ∷ keyword (codes "as") ∷ Blank ∷ []) refl (word name.raw name.text ends)
 rename_tells (Some given_name.Underscore) = fixed (Blank ∷ keyword (codes "as") ∷ Blank ∷ []) refl (leaf Underscore (codes "_") refl ends)
 
--- ---- what is told of trees
+-- ---- the facts about trees
 
 -- It tells its units, and begins with a token that isn't dropped.
 pub record TreeTells (x : Facts) : Type 0 where

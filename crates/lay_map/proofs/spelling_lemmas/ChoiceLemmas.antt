@@ -204,7 +204,7 @@ spent_before before rest =
     let e : length (before ++ rest) - length rest ≡ length before = omega (arith, n) in
     ap (λ (k : ℕ). take k (before ++ rest)) e ∙ take_before before rest
 
--- so many tokens, and then what is left
+-- this many tokens, and then what is left
 abbrev Count : ℕ → List Token → List Token → Type 0
 Count n ts rest = (before : List Token) × (length before ≡ n) × (ts ≡ before ++ rest)
 
@@ -226,7 +226,7 @@ op_count : (c : ℕ) (n : ℕ) (ts mid rest : List Token) → Reads (c ∷ []) t
 op_count c n [] mid rest r e k = absurd r
 op_count c n (t ∷ ts) mid rest r e k = first_count n t ts mid rest e k
 
--- The first token says the documentation, and so many more belong to it.
+-- The first token says the documentation, and this many more belong to it.
 doc_unit : (inner : Bool) (text : List ℕ) (n : ℕ) (stack : List Bool) (ws : List Word) (t : Token) (ts rest : List Token)
     → opens t.kind ≡ false → closes t.kind ≡ false → says (Documented inner text) t.kind t.text ≡ true
     → more (Documented inner text) t.kind ≡ n → Count n ts rest

@@ -1,4 +1,4 @@
--- What is told of patterns and of their fields, kind by kind.
+-- The facts about patterns and about their fields, kind by kind.
 use Rattle.std.proofs.Common.{◌≡◌, ℕ, Bool, List, map, Option, option_map, Some, None, sym, ap, ◌∙◌, subst}
 use Rattle.lay_node.specs.nodes.Facts.{Facts}
 use Rattle.lay_node.specs.nodes.Patterns.{PatFacts, field_facts, pat_facts, about_pat, about_field_pat}
@@ -66,7 +66,7 @@ pat_view x = subst PatView (views.roll-out-Pat x) (pat_layer (views.out-Pat x))
 pub field_pat_view : (x : FieldPat) → FieldPatView x
 field_pat_view x = subst FieldPatView (views.roll-out-FieldPat x) (field_layer (views.out-FieldPat x))
 
--- ---- what is told of it
+-- ---- the facts about it
 
 pub pat_or_is : (alternatives : List Pat) → about_pat (pat.Or alternatives) ≡ pat_facts (Pat-F.Or (map about_pat alternatives))
 unfolding about_pat about_field_pat

@@ -1,4 +1,4 @@
--- What is told of types, of paths and of what they are made of, kind by kind.
+-- The facts about types, paths and what they are made of, kind by kind.
 use Rattle.std.proofs.Common.{◌≡◌, Bool, List, map, Option, option_map, Some, None, sym, ap, ◌∙◌, subst}
 use Rattle.lay_node.specs.nodes.Facts.{Facts}
 use Rattle.lay_node.specs.nodes.Types.{TypeFacts, ArgsFacts, PathFacts, arg_facts, args_facts, bound_facts, constraint_facts, start_facts, ty_facts, func_param_facts, path_facts, about_type, about_path, about_start, about_args, about_arg, about_constraint, about_bound, about_func_param}
@@ -29,7 +29,7 @@ use Rattle.lay_node.specs.declared.types.Arg.TheOpen.{Arg-F, Args-F, Bound-F, Co
 use Rattle.lay_node.specs.declared.types.Arg.TheViews as views
 use Rattle.lay_node.specs.declared.types.Arg.TheFolds.{fold-roll-Arg, fold-roll-Args, fold-roll-Bound, fold-roll-Constraint, fold-roll-PathStart, fold-roll-Ty, fold_out-FuncParam, fold_out-Path}
 
--- a word with what is told of its arguments
+-- a word with the facts about its arguments
 abbrev pub about_segment : Word × Args → Word × ArgsFacts
 about_segment s = (s.0, about_args s.1)
 
@@ -133,7 +133,7 @@ constraint_view x = subst ConstraintView (views.roll-out-Constraint x) (constrai
 pub bound_view : (x : Bound) → BoundView x
 bound_view x = subst BoundView (views.roll-out-Bound x) (bound_layer (views.out-Bound x))
 
--- ---- what is told of it
+-- ---- the facts about it
 
 pub type_path_is : (path : Path) → about_type (ty.Path path) ≡ ty_facts (Ty-F.Path (about_path path))
 unfolding about_type about_path about_start about_args about_arg about_constraint about_bound about_func_param

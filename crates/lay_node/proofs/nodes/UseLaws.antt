@@ -1,4 +1,4 @@
--- What is told of a use tree and of its end, kind by kind.
+-- The facts about a use tree and about its end, kind by kind.
 use Rattle.std.proofs.Common.{◌≡◌, List, map, Option, sym, ap, ◌∙◌, subst}
 use Rattle.lay_node.specs.nodes.Facts.{Facts}
 use Rattle.lay_node.specs.nodes.Use.{end_facts, tree_facts, about_use, about_use_end}

@@ -10,7 +10,7 @@ use Rattle.lay_node.specs.reader.Exact.{InText, Exact, needless}
 use Rattle.lay_node.specs.reader.Loops.{Got, Read}
 use Rattle.lay_node.proofs.Steps.{or_else, bind_some, read_same}
 
--- A node of which this is told stands before the rest.
+-- A node with these facts stands before the rest.
 abbrev pub Stands : Facts → ℕ → Tokens → Tokens → Type 0
 Stands x depth ts rest = Spells x.form depth ts rest × (x.good ≡ true) × (may_follow x.refuses rest ≡ true)
 

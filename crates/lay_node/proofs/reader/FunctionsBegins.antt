@@ -57,7 +57,7 @@ word_front word words ts mid o = (word, mid, rw (bytes_self word) refl, o)
 front_more : (word : List ℕ) (words : List (List ℕ)) (ts : Tokens) → WordFront words ts → WordFront (word ∷ words) ts
 front_more word words ts f = (f.0, f.1, or_right (bytes_eq f.0 word) (list_any (bytes_eq f.0) words) f.2, f.3)
 
--- A string is told by its kind, and is no word.
+-- A string is decided by its kind, and is no word.
 pub string_kind : (k : Kind) (text : List ℕ) → is_string k text ≡ true → (is_string_kind k ≡ true) × (is_ident k ≡ false)
 string_kind kind.Str text h = (refl, refl)
 string_kind kind.RawStr text h = (refl, refl)

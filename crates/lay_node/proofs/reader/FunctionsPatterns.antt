@@ -81,7 +81,7 @@ ref_by ts h = by (first (is_keyword (codes "self")) ts) (ends_param (tail ts)) h
 
 module _ (depth : ℕ) (rest : Tokens)
     (inner : (x : Pat) (ts : Tokens) → Spells (about_pat x).told.form depth ts rest → pat_good Single (about_pat x) ≡ true → PatStart ts) where
-  -- a pattern of which this is told begins so
+  -- a pattern with these facts begins so
   abbrev Starts : PatFacts → Type 0
   Starts F = (ts : Tokens) → Spells F.told.form (suc depth) ts rest → pat_good Single F ≡ true → PatStart ts
 

@@ -35,7 +35,7 @@ insides_reads depth budget h = record {
 
 -- ---- heads
 
--- A head of which this is told stands before the rest, at the depth that it needs, which is within the budget.
+-- A head with these facts stands before the rest, at the depth that it needs, which is within the budget.
 abbrev pub Stood : {A : Type 0} → (A → Told) → ℕ → A × ℕ → Tokens → Tokens → Type 0
 Stood about budget x ts rest =
     (x.1 ≤ budget) × Spells (about x.0).form x.1 ts rest × ((about x.0).good ≡ true) × ((about x.0).follows rest ≡ true)

@@ -59,7 +59,7 @@ list_begins d (e ∷ es) depth ts rest s =
     (opener_front d ts u.0 o, omega (arith, one_shorter (Opener d) (opening d ∷ []) ts u.0 o, le, ap length s.2))
 
 module _ (depth : ℕ) (ts rest : Tokens) where
-  -- a pattern of which this is told begins so
+  -- a pattern with these facts begins so
   abbrev Begins : PatFacts → Type 0
   Begins F = Spells F.told.form depth ts rest → pat_good Single F ≡ true → Begun F ts rest
 

@@ -70,7 +70,7 @@ lone_segments (s ∷ []) w h = elim (chosen (are_none (views.out-Args s.1)) _ _ 
 ]
 lone_segments (s ∷ r ∷ more) w h = absurd (cc)
 
--- what is told of a path that is one word
+-- the facts about a path that is one word
 abbrev pub word_told : Word → types.PathFacts
 word_told w =
     path_facts (record { start = start_facts PathStart-F.Local; segments = (w, args_facts Args-F.None) ∷ [] })

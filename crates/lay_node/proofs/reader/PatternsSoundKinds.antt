@@ -86,7 +86,7 @@ begins_not x n ts rest s h = by x (pat_view x) s
     by _ (IsParen y) s = ap (λ (z : PatFacts). z.begins_mut) (pat_paren_is y)
     by _ (IsSlice xs) s = ap (λ (z : PatFacts). z.begins_mut) (pat_slice_is xs)
 
--- what is told of each kind of pattern in parentheses
+-- the facts about each kind of pattern in parentheses
 abbrev paren_form : PatFacts → Form
 paren_form x = Piece (opener Paren ∷ []) (Part (pat_form Alternatives x) (piece (closer Paren ∷ [])))
 

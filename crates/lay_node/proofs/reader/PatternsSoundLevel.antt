@@ -19,7 +19,7 @@ use Rattle.lay_node.proofs.reader.TypesSoundLevel.{SoundWithin}
 
 -- ---- patterns one level deeper
 
--- A pattern of which this is told stands at the place, at this depth, which is within the budget.
+-- A pattern with these facts stands at the place, at this depth, which is within the budget.
 abbrev pub IsPat : PatPlace → ℕ → PatFacts → ℕ → Tokens → Tokens → Type 0
 IsPat place budget x n ts rest =
     (n ≤ budget) × Spells (pat_form place x) n ts rest × (pat_good place x ≡ true) × (pat_follows place x rest ≡ true)

@@ -318,7 +318,7 @@ infer_begins ts rest s = record {
 }
 
 module _ (depth : ℕ) (ts rest : Tokens) where
-  -- a type of which this is told begins so
+  -- a type with these facts begins so
   abbrev Begins : Lead → TypeFacts → Type 0
   Begins l F = Spells F.told.form depth ts rest → F.told.good ≡ true → Begun l ts rest
 

@@ -208,7 +208,7 @@ module _ (budget : ℕ) (within : Within) (sound : SoundWithin budget within) wh
 
   -- ---- what is asked of a name
 
-  -- a node one level deeper, from what is told of it
+  -- a node one level deeper, from the facts about it
   deeper_held : (c : Constraint) (F : Facts) (n : ℕ) (ts rest : Tokens) → about_constraint c ≡ F → n ≤ budget
       → Stands F n ts rest
       → Held asked (suc budget) (c, suc n) ts rest

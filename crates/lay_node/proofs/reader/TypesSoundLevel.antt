@@ -19,7 +19,7 @@ use Rattle.lay_node.proofs.reader.TypesSoundNeeds.{Held}
 
 -- ---- types one level deeper
 
--- A type of which this is told stands at the place, at this depth, which is within the budget.
+-- A type with these facts stands at the place, at this depth, which is within the budget.
 abbrev pub IsType : TypePlace → ℕ → TypeFacts → ℕ → Tokens → Tokens → Type 0
 IsType place budget x n ts rest =
     (n ≤ budget) × Spells x.told.form n ts rest × (good_at place x ≡ true) × (type_follows place x rest ≡ true)
@@ -50,7 +50,7 @@ lone_good x h = (and_parts x.told.good (not x.several) h).0
 
 -- ---- a type, one level above what is within it
 
--- what is told of a type that isn't bounds
+-- the facts about a type that isn't bounds
 abbrev pub unbounded : Form → Bool → List Begin → Bool → TypeFacts
 unbounded form good refuses binds =
     record {

@@ -22,7 +22,7 @@ use Rattle.lay_node.proofs.reader.TypesSoundParts.{Shuts, Chain, ElementsBy, ele
 
 -- ---- nodes with their needs
 
--- A node of which this is told stands there at the depth that stands with it, which is within the budget.
+-- A node with these facts stands there at the depth that stands with it, which is within the budget.
 abbrev pub Held : {A : Type 0} → (A → Facts) → ℕ → (A × ℕ) → Tokens → Tokens → Type 0
 Held told budget x ts rest = (x.1 ≤ budget) × Stands (told x.0) x.1 ts rest
 

@@ -76,7 +76,7 @@ local_is s h =
 abbrev name_of : Word → Name
 name_of w = record { raw = w.raw; text = w.text }
 
--- what is told of a type that is one word with arguments
+-- the facts about a type that is one word with arguments
 abbrev one_segment : Word → ArgsFacts → TypeFacts
 one_segment w a =
     ty_facts (Ty-F.Path (path_facts (record { start = start_facts PathStart-F.Local; segments = (w, a) ∷ [] })))
@@ -199,7 +199,7 @@ output_told o = record {
   refuses = output_refuses (option_map about_type o);
 }
 
--- what is told of a segment by itself
+-- the facts about a segment by itself
 abbrev pub segment_told : PathStyle → Word × Args → Facts
 segment_told style s = record {
   form = segment_form style (about_segment s) Done;

@@ -90,7 +90,7 @@ in_parens ts = opens Paren ∷ (ts ++ closes Paren ∷ [])
 abbrev of_A : List Token → List Token
 of_A ts = word (codes "A") ∷ opens Brace ∷ (ts ++ closes Brace ∷ [])
 
--- ---- what is told of them
+-- ---- the facts about them
 
 -- The word that a path is.
 pub lone : (text : List ℕ) → lone_word (local text) ≡ Some (plain text)

@@ -1,4 +1,4 @@
--- Small trees and tokens that samples are about, and what is told of the trees.
+-- Small trees and tokens that samples are about, and the facts about the trees.
 use Rattle.std.proofs.Common.{◌≡◌, ℕ, Bool, true, false, List, [], ◌∷◌, Option, None, codes, ap, ◌∙◌, refl}
 use Rattle.lay_layout.specs.Document.{text_of}
 use Rattle.lay_piece.specs.Forms.{opening, closing}
@@ -46,7 +46,7 @@ word_of text renamed = tree_of false [] (use_end.Word (plain text) renamed)
 abbrev pub group_of : List ℕ → List ℕ → UseTree
 group_of one two = tree_of false (plain a ∷ []) (use_end.Group (word_of one None ∷ word_of two None ∷ []))
 
--- ---- what is told of them
+-- ---- the facts about them
 
 abbrev pub tree_facts_of : Bool → List Word → Facts → Facts
 tree_facts_of global path end = tree_facts (record { global = global; path = path; end = end })

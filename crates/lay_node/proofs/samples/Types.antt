@@ -131,7 +131,7 @@ three_params = record {
 abbrev pub where_A_is : List ℕ → Wheres
 where_A_is text = record { predicates = predicate.Bounded None A (meeting false false text ∷ []) ∷ [] }
 
--- ---- what is told of them
+-- ---- the facts about them
 
 abbrev pub local_facts : List ℕ → PathFacts
 local_facts text = path_facts (record { start = start_facts PathStart-F.Local; segments = (plain text, args_facts Args-F.None) ∷ [] })

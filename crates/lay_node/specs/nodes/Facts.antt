@@ -1,4 +1,4 @@
--- What is told of a node.
+-- The facts about a node.
 use Rattle.std.specs.Prelude.{ℕ, Bool, List, map}
 use Rattle.std.specs.List.{list_all}
 use Rattle.lay_form.specs.Form.{Form, Done, Deeper}
@@ -18,7 +18,7 @@ forms nodes = map (λ (x : Facts). x.form) nodes
 abbrev pub all_good : List Facts → Bool
 all_good nodes = list_all (λ (x : Facts). x.good) nodes
 
--- A node of which this is told stands at the beginning of the tokens: the first n spell it at the depth, it is well formed,
+-- A node with these facts stands at the beginning of the tokens: the first n spell it at the depth, it is well formed,
 -- and what follows them may follow it.
 abbrev pub Front : Facts → Tokens → ℕ → ℕ → Type 0
 Front x ts n depth = spelled.Front x.form x.good (may_follow x.refuses) ts n depth

@@ -110,7 +110,7 @@ abbrev pub is_outside : ℕ → Bool
 is_outside zero = true
 is_outside (suc level) = false
 
--- A `,` stands outside all groups, where so many are open before the tokens.
+-- A `,` stands outside all groups, where this many are open before the tokens.
 abbrev pub has_comma : ℕ → List Listed → Bool
 has_comma level [] = false
 has_comma level (listed.Token kind text joint ∷ ts) = (is_outside level && is_comma kind text) || has_comma (level_behind kind level) ts

@@ -50,7 +50,7 @@ use Rattle.lay_node.specs.declared.types.Ty.{Ty}
 use Rattle.lay_node.specs.declared.types.TypePlace.TheVariants.{Bounds}
 use Rattle.lay_node.specs.declared.vis.Vis.{Vis}
 
--- What is told of what an item is: its head, which the layout keeps in a group of its own, and the rest.
+-- The facts about what an item is: its head, which the layout keeps in a group of its own, and the rest.
 pub record HeadFacts : Type 0 where
   pub head : Form
   pub tail : Form

@@ -83,7 +83,7 @@ abbrev pub may_be_path : Option Word → Bool
 may_be_path None = true
 may_be_path (Some w) = not (is_name w.raw w.text) && not (is_self w)
 
--- ---- what is told of patterns
+-- ---- the facts about patterns
 
 pub record PatFacts : Type 0 where
   pub told : Facts
@@ -258,7 +258,7 @@ pat_facts (Pat-F.Paren x) =
     shut_pat (Piece (opener Paren ∷ []) (Part (pat_form Alternatives x) (piece (closer Paren ∷ [])))) (pat_good Alternatives x && not x.rest)
 pat_facts (Pat-F.Slice xs) = shut_pat (comma_list true (opener Bracket) (closer Bracket) (pat_forms Alternatives xs)) (all_pats_good Alternatives xs)
 
--- ---- what is told of each node
+-- ---- the facts about each node
 
 unfoldable pub about_pat : Pat → PatFacts
 about_pat = fold-Pat Facts PatFacts field_facts pat_facts
@@ -268,6 +268,6 @@ about_field_pat = fold-FieldPat Facts PatFacts field_facts pat_facts
 
 -- ---- beginnings
 
--- A pattern of which this is told stands at the beginning of the tokens, at the place.
+-- A pattern with these facts stands at the beginning of the tokens, at the place.
 abbrev pub PatFront : PatPlace → PatFacts → Tokens → ℕ → ℕ → Type 0
 PatFront place x ts n depth = spelled.Front (pat_form place x) (pat_good place x) (pat_follows place x) ts n depth

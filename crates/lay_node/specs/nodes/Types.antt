@@ -152,7 +152,7 @@ capture_form (capture.Word w) = leaf_of w.raw w.text Done
 abbrev pub captures_form : List Capture → Form
 captures_form captured = Piece (keyword (codes "use") ∷ []) (Part (comma_list true less greater (map capture_form captured)) Done)
 
--- ---- what is told of types and of generic arguments
+-- ---- the facts about types and about generic arguments
 
 pub record TypeFacts : Type 0 where
   pub told : Facts
@@ -432,7 +432,7 @@ ty_facts (Ty-F.Bounds dynamic bounds) = record {
   binds = false;
 }
 
--- ---- what is told of each node
+-- ---- the facts about each node
 
 unfoldable pub about_type : Ty → TypeFacts
 about_type = fold-Ty Facts ArgsFacts Facts Facts Facts TypeFacts Facts PathFacts
@@ -473,7 +473,7 @@ abbrev pub type_follows : TypePlace → TypeFacts → Tokens → Bool
 type_follows Bounds x ts = not (x.bounded && is_op (codes "+") ts) && may_follow x.told.refuses ts
 type_follows NoBounds x ts = may_follow x.told.refuses ts
 
--- A type of which this is told stands at the beginning of the tokens, at the place.
+-- A type with these facts stands at the beginning of the tokens, at the place.
 abbrev pub TypeFront : TypePlace → TypeFacts → Tokens → ℕ → ℕ → Type 0
 TypeFront place x ts n depth = spelled.Front x.told.form (good_at place x) (type_follows place x) ts n depth
 

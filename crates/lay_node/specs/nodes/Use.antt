@@ -34,7 +34,7 @@ abbrev pub refuses_rename : Option GivenName → List Begin
 refuses_rename None = OfRename ∷ []
 refuses_rename (Some r) = []
 
--- ---- what a use tree ends in, where all is told of the trees within it
+-- ---- what a use tree ends in, given all facts about the trees within it
 
 abbrev pub end_form : UseEnd-F Facts Facts → Form
 end_form (UseEnd-F.Word word renamed) = leaf_of word.raw word.text (rename_form renamed)

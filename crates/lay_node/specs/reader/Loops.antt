@@ -29,7 +29,7 @@ abbrev pub deepest : {A : Type 0} → List (A × ℕ) → ℕ
 deepest [] = 0
 deepest (x ∷ xs) = max x.1 (deepest xs)
 
--- Parts as long as the test holds, after those that are found, in so many turns at the most. In each loop every turn
+-- Parts as long as the test holds, after those that are found, in at most this many turns. In each loop every turn
 -- but the last leaves fewer tokens, so more turns than there are tokens suffice.
 unfoldable pub repeat_from : {A : Type 0} → (Tokens → Bool) → (Tokens → Got A) → ℕ → List A → Tokens → Got (List A)
 repeat_from more one zero found ts = None

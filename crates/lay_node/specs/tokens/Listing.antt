@@ -1,4 +1,4 @@
--- The tokens of a token list: what is told of each, which lists are balanced, and their groups.
+-- The tokens of a token list: the facts about each, which lists are balanced, and their groups.
 use Rattle.std.specs.Prelude.{ℕ, Bool, true, false, cond, not, ◌&&◌, List, [], ◌∷◌, Option, Some, None}
 use Rattle.lay_piece.specs.Docs.{doc_form}
 use Rattle.lay_token.specs.Lexes.{is_punct}

@@ -37,7 +37,7 @@ free_placed x = rw (le-leb 0 x.level (omega arith)) refl
 whole_placed : (x : ExprFacts) → placed x statement ≡ x.within false true
 whole_placed x = rw (le-leb 0 x.level (omega arith)) refl
 
--- what is told of an expression within its shield
+-- the facts about an expression within its shield
 abbrev within_shield : Expr → ExprFacts
 within_shield x = expr_facts (expr_shielded (views.out-Expr x))
 

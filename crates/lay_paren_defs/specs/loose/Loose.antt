@@ -13,14 +13,14 @@ use Rattle.lay_code.specs.declared.blocks.Stmt.TheFolds as fold
 use Rattle.lay_code.specs.declared.blocks.Stmt.TheOpen.{Expr-F}
 use Rattle.lay_code.specs.declared.exprs.Expr.{Expr}
 
--- What is told of an expression as if it stood in parentheses, save what statements, arms and closures ask of the whole of it.
+-- The facts about an expression as if it stood in parentheses, save what statements, arms and closures ask of the whole of it.
 abbrev pub shielded : ExprFacts → ExprFacts
 shielded x = record (expr_facts (Expr-F.Paren x)) { block_like = x.block_like; kind = x.kind }
 
 abbrev pub shielded_facts : ExprLayer → ExprFacts
 shielded_facts x = shielded (expr_facts x)
 
--- what is told of a tree each part of which is shielded
+-- the facts about a tree each part of which is shielded
 unfoldable pub loose_about : Expr → ExprFacts
 loose_about = fold.fold-Expr StmtFacts LinkFacts ExprFacts Facts StepFacts KindFacts ArmFacts BlockFacts BranchFacts ConditionFacts ItemFacts stmt_facts link_facts shielded_facts field_facts step_facts kind_facts arm_facts block_facts branch_facts condition_facts item_facts
 

@@ -110,7 +110,7 @@ arm_by_is within ts =
 abbrev Follows : ℕ → Bool → Expr → Tokens → Type 0
 Follows pairs free y rest = first (is_mark (codes ",")) rest ≡ false → (free || at_end rest) ≡ true → arm_follows pairs false (about_expr y) rest ≡ true
 
--- A body stands there, within so many pairs of braces.
+-- A body stands there, within this many pairs of braces.
 record BodyHeld (x : (Expr × Bool) × ℕ) (ts rest : Tokens) : Type 0 where
   pairs : ℕ
   may : MayBrace (braces_of (about_expr x.0.0).kind) pairs
@@ -298,7 +298,7 @@ module _ (depth : ℕ) (within : ExprWithin) (reads : (least : ℕ) → least �
   depth_bound zero h = omega (arith, h)
   depth_bound (suc k) h = omega (arith, h)
 
-  -- A body within so many pairs of braces is read as so many blocks.
+  -- A body within this many pairs of braces is read as that many blocks.
   body_read : (y : Expr) (k : ℕ) (ts rest : Tokens) → cost k ≤ depth → MayBrace (braces_of (about_expr y).kind) k
       → Within k (depth - cost k) (about_expr y).form ts rest → placed (about_expr y) statement ≡ true → is_lone_body (about_expr y).kind ≡ false
       → follows (about_expr (dress k y)) statement rest ≡ true

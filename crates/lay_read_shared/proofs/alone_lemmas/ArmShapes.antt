@@ -55,7 +55,7 @@ braces_spelled (suc k) depth f ts a b rest o s c =
     let last = closes_split k b rest c in
     (o.0, o.1, (last.0, braces_spelled k depth f o.0 a b last.0 o.2 s last.1, bit_piece (closer Brace) depth last.0 rest last.2))
 
--- what stands within so many pairs of braces
+-- what stands within this many pairs of braces
 pub record Within (k depth : ℕ) (f : Form) (ts rest : Tokens) : Type 0 where
   pub at : Tokens
   pub end : Tokens
@@ -82,7 +82,7 @@ five_parts : (a b c d e : Bool) → (a && b && c && d && e) ≡ true → (a ≡ 
 five_parts true true true true true h = (h, h, h, h, h)
 five_parts _ _ _ _ _ h = absurd (cc)
 
--- what spells an arm whose body stands within so many pairs of braces
+-- what spells an arm whose body stands within this many pairs of braces
 pub record ShapeParts (a : Arm) (pairs : ℕ) (ended : Bool) (depth : ℕ) (ts rest : Tokens) : Type 0 where
   pub seen : Tokens
   pub pattern : Tokens

@@ -24,17 +24,17 @@ use Rattle.lay_code.specs.reader.Within.{ExprWithin}
 use Rattle.lay_code.specs.declared.blocks.Arm.{Arm}
 use Rattle.lay_code.specs.declared.exprs.Expr.{Expr}
 
--- so many levels deeper
+-- this many levels deeper
 abbrev pub levels : ℕ → Form → Form
 levels zero f = f
 levels (suc n) f = Deeper (levels n f) Done
 
--- within so many pairs of braces, each with any number of `;` after its opening one
+-- within this many pairs of braces, each with any number of `;` after its opening one
 abbrev pub in_braces : ℕ → Form → Form
 in_braces zero f = f
 in_braces (suc n) f = Piece (opener Brace ∷ Semicolons ∷ []) (Part (in_braces n f) (piece (closer Brace ∷ [])))
 
--- an arm whose body stands within so many pairs of braces that aren't in the tree, and its comma if it has one
+-- an arm whose body stands within this many pairs of braces that aren't in the tree, and its comma if it has one
 abbrev pub arm_shape : ℕ → Bool → Arm → Form
 arm_shape pairs ended a = behind_attrs (map attr_form a.attrs)
     (I0 (Part (pat_form Alternatives (about_pat a.pat)) (guard_form (option_map about_expr a.guard)))

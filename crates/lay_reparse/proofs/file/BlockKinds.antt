@@ -1,4 +1,4 @@
--- Blocks and statements pass, of what is told of them, given that what is within them passes.
+-- Blocks and statements pass, given the facts about them, given that what is within them passes.
 use Rattle.std.proofs.Common.{◌≡◌, List, [], ◌∷◌, ◌++◌, Bool, true, false, not, if◌then◌else◌, ◌&&◌, refl, codes, map, Option, Some, None}
 use Rattle.std.specs.List.{list_all}
 use Rattle.std.proofs.lemmas.Bool.{and_parts, and_from}
@@ -34,7 +34,7 @@ use Rattle.lay_reparse.proofs.file.Patterns.{pat_passes_at}
 use Rattle.lay_reparse.proofs.file.ExprParts.{ends_expr, ends_stmt, ends_any, opens_block, opens_soft}
 use Rattle.lay_reparse.proofs.file.ExprPlaces.{ExprPasses, inner_expr, free_expr}
 
--- ---- what is told of blocks, statements and items
+-- ---- the facts about blocks, statements and items
 
 -- It passes from each border where a block may stand, also on one line.
 pub record BlockPasses (x : BlockFacts) : Type 0 where

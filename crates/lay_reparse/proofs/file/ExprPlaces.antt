@@ -1,4 +1,4 @@
--- What is told of an expression that passes, and that it passes in each place where it may stand.
+-- The facts about an expression that passes, and that it passes in each place where it may stand.
 use Rattle.std.proofs.Common.{◌≡◌, ℕ, nat_le, List, [], ◌∷◌, Bool, true, false, not, ◌&&◌, ◌||◌, refl}
 use Rattle.std.specs.List.{list_all}
 use Rattle.std.proofs.lemmas.Bool.{and_parts}
@@ -16,7 +16,7 @@ use Rattle.lay_reparse.proofs.file.Nodes.{list_pieces}
 use Rattle.lay_reparse.proofs.file.TypeArgs.{Each}
 use Rattle.lay_reparse.proofs.file.ExprParts.{ends_base, ends_operand, ends_expr, ends_by, ends_any, ends_shut, Behind, in_both, behind_wider, begins_at, higher, any_begins, begins_plain}
 
--- ---- what is told of an expression
+-- ---- the facts about an expression
 
 -- where it ends
 abbrev pub ends_of : ExprFacts → Border

@@ -29,7 +29,7 @@ use Rattle.lay_reparse.proofs.file.Types.{arg_passes}
 use Rattle.lay_reparse.proofs.file.ExprParts.{ends_base, ends_operand, ends_expr, ends_by}
 use Rattle.lay_reparse.proofs.file.ExprPlaces.{ExprPasses, free_expr, args_passes}
 
--- ---- what is told of a step
+-- ---- the facts about a step
 
 -- where it may begin: a tuple index not after a number without suffix
 abbrev pub step_start : StepKind → Border

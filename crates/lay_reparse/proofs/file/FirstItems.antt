@@ -28,7 +28,7 @@ use Rattle.lay_code.proofs.nodes.Layers.{kind_is}
 use Rattle.lay_reparse.proofs.file.FirstText.{Fair, first_text, low_fair, attr_fair, call_fair}
 use Rattle.lay_reparse.proofs.forms.HeadsFirst.{BeginsFair, seen_fair, extern_crate_fair, alias_fair, struct_fair, union_fair, enum_fair, value_head_fair, unsafe_fair, trait_head_fair, impl_head_fair, fn_head_fair}
 
--- what is told of a kind of item, after each visibility, where it is made of pieces
+-- the facts about a kind of item, after each visibility, where it is made of pieces
 record KindFair (x : KindFacts) : Type 0 where
   go : (v : Vis) → are_pieces (kind_form v x.head x.tail) ≡ true → BeginsFair (kind_form v x.head x.tail)
 
@@ -70,7 +70,7 @@ kind_fair : (k : ItemKind) → KindFair (told_of_kind k)
 kind_fair k = subst (λ z. KindFair (told_of_kind z)) (roll-out-ItemKind k)
     (subst KindFair (sym (kind_is (out-ItemKind k))) (layer_fair _))
 
--- what is told of an item, where it is made of pieces
+-- the facts about an item, where it is made of pieces
 record ItemFair (x : ItemFacts) : Type 0 where
   go : are_pieces x.form ≡ true → BeginsFair x.form
 

@@ -41,7 +41,7 @@ use Rattle.lay_reparse.proofs.file.Generics.{behind_type, ends_predicate}
 use Rattle.lay_reparse.proofs.forms.Functions.{fn_head_passes}
 use Rattle.lay_reparse.proofs.forms.Heads.{HeadPasses, four_parts, body_tail, semicolon_tail, items_fit, value_head_passes, trait_head_passes, impl_head_passes}
 
--- what is told of a kind of item, after each visibility
+-- the facts about a kind of item, after each visibility
 pub record KindPasses (x : KindFacts) : Type 0 where
   pub go : (place : Site) (v : Vis) → x.good place ≡ true → are_pieces (kind_form v x.head x.tail) ≡ true
       → From plain (kind_form v x.head x.tail) plain

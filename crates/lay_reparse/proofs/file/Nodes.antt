@@ -308,7 +308,7 @@ use_list : list_fits true (opener Brace) (closer Brace) start_path start_path en
 unfolding tables
 use_list = refl
 
--- what is told of a use tree, and of what it ends in
+-- the facts about a use tree and about what it ends in
 pub record UsePasses (x : Facts) : Type 0 where
   pub go : are_pieces x.form ≡ true → From start_path x.form ends_use
 

@@ -1,4 +1,4 @@
--- Patterns and their fields pass, kind by kind, of what is told of them, given that the patterns within them pass.
+-- Patterns and their fields pass, kind by kind, given the facts about them, given that the patterns within them pass.
 use Rattle.std.proofs.Common.{◌≡◌, ℕ, List, [], ◌∷◌, ◌++◌, Bool, true, false, not, ◌&&◌, ◌||◌, refl, codes, map, Option, Some, None, is_some}
 use Rattle.std.specs.List.{list_all}
 use Rattle.std.proofs.lemmas.Bool.{and_parts, and_from}
@@ -37,7 +37,7 @@ use Rattle.lay_reparse.proofs.file.TypeKinds.{deep_pieces}
 use Rattle.lay_reparse.proofs.file.Types.{begins_path, path_passes_at}
 use Rattle.lay_reparse.proofs.file.PatternParts.{ends_pat, begins_pat, begins, by_ref, mutably, borrow, wild, is_whole, begins_group, begins_span, dots_pass, end_passes, value_passes, call_passes_at}
 
--- ---- what is told of a pattern
+-- ---- the facts about a pattern
 
 -- It passes from each border where a pattern may begin.
 pub record PatPasses (x : PatFacts) : Type 0 where

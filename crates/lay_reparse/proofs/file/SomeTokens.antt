@@ -183,7 +183,7 @@ lexed_behind n b text l more = elim (gap_at text) [
   ]
 ]
 
--- Within so many characters a text is such parts.
+-- Within this many characters a text is such parts.
 lexed : (n : ℕ) (b : Before) (text : List ℕ) → length text ≤ n → Lexed b text
 lexed zero b text l = lexed_behind zero b text l (λ c rest less. absurd (omega (arith, less)))
 lexed (suc n) b text l = lexed_behind (suc n) b text l (λ c rest less. lexed n c rest (omega (arith, less)))

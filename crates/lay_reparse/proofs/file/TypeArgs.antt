@@ -1,4 +1,4 @@
--- Generic arguments, bounds and paths pass, of what is told of them, given that what is within them passes.
+-- Generic arguments, bounds and paths pass, given the facts about them, given that what is within them passes.
 use Rattle.std.proofs.Common.{◌≡◌, ℕ, List, [], ◌∷◌, Bool, true, false, not, ◌&&◌, refl, codes, Option, Some, None}
 use Rattle.std.specs.List.{list_all}
 use Rattle.std.proofs.lemmas.Bool.{and_parts}
@@ -28,7 +28,7 @@ use Rattle.lay_reparse.proofs.forms.Rules.{same_whenever, wider, tables, From, A
 use Rattle.lay_reparse.proofs.file.Nodes.{ends_name, start_path, word, rest_pieces, list_pieces}
 use Rattle.lay_reparse.proofs.file.TypeParts.{ends_type, ends_arg, joined_passes, joined_pieces, leaf_passes, binder_passes, binder_pieces, captures_form_passes, const_passes}
 
--- ---- what is told of a node
+-- ---- the facts about a node
 
 -- Its form passes from b to c, if it is well formed and made of pieces.
 pub record Passing (b c : Border) (x : Facts) : Type 0 where

@@ -75,7 +75,7 @@ frames Flat g o d e = inr e
 frames (Broken c i) g o d (inl e) = inl (_, e)
 frames (Broken c i) g o d (inr e) = inr e.1
 
--- a body within so many braces, and what follows it
+-- a body within this many braces, and what follows it
 abbrev pub BodySpells : Form → Behind → ℕ → List Token → List Token → Type 0
 BodySpells i behind d ts us = (n : ℕ) × (cost n ≤ d) × Then (Braced n (Spells i (d - cost n))) (IsBehind behind n) ts us
 
