@@ -1,9 +1,10 @@
 //! Made by scripts/rust.sh from crates/lay_build/src/lib.rt, which is proved: change that.
 //!
-//! Files that are built by calls.
+//! Builders of files.
 //!
-//! `specs/Nodes` says which node each call makes of the nodes that it is handed, and `specs/Kinds` what is asked of a parameter. The
-//! calls of names, types and expressions stand in the crates below and are handed on. A file that [`file`] answers can be written.
+//! `specs/Nodes` defines which node each call makes of its arguments, and `specs/Kinds` what a
+//! parameter must satisfy. The builders of names, types and expressions are in the crates below and
+//! are exported again. A file that [`file`] gives can be written.
 mod blocks;
 mod docs;
 mod files;

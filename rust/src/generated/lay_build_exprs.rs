@@ -1,9 +1,10 @@
 //! Made by scripts/rust.sh from crates/lay_build_exprs/src/lib.rt, which is proved: change that.
 //!
-//! Expressions that are built by calls.
+//! Builders of expressions.
 //!
-//! `specs/Nodes` says which node each call makes of the nodes that it is handed, and `specs/Kinds` what is asked of a field of a
-//! struct literal. Operands and what an `if` tests are put in parentheses where they have to be.
+//! `specs/Nodes` defines which node each call makes of its arguments, and `specs/Kinds` what a
+//! field of a struct literal must satisfy. Operands and conditions are put in parentheses where
+//! they need them.
 mod branches;
 mod keeping;
 pub mod kinds;

@@ -1,10 +1,11 @@
 //! Made by scripts/rust.sh from crates/lay_build_types/src/lib.rt, which is proved: change that.
 //!
-//! Names and types that are built by calls, and what the calls of all nodes share.
+//! Builders of names and types, and what all builders share.
 //!
-//! A [`Built`] holds a node that is well formed, whose names and literals are pieces of their kinds, and that is no deeper
-//! than files may be. `specs/Nodes` says which node each call makes, `specs/Kinds` what is asked of a node of each kind, and
-//! `specs/Answers` what a call answers.
+//! A [`Built`] holds a node that is well formed, whose names and literals are pieces of their
+//! kinds, and that is no deeper than a file may be. `specs/Nodes` defines which node each call
+//! makes, `specs/Kinds` what a node of each kind must satisfy, and `specs/Answers` what a call
+//! gives.
 mod built;
 mod joins;
 mod kinds;

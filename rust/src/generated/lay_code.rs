@@ -1,13 +1,13 @@
 //! Made by scripts/rust.sh from crates/lay_code/src/lib.rt, which is proved: change that.
 //!
-//! The nodes of code, and the definitions that say which tokens spell a tree and how it is laid out.
+//! The syntax tree: expressions, items and files, their grammar and their layout.
 //!
-//! Expressions, items and files stand here, over the nodes of `lay_node`, whose names are handed on. The families are the
-//! same in the sources, in `specs/` and in `proofs/`.
-//! `specs/nodes/` says of each which nodes are well formed, which form they have (in the signs of `lay_form`), and what
-//! may not follow them. `Reading` says which bytes read to which file, and `Out` what a file's text is.
-//! `specs/reader/` holds the functions that code which reads is proved equal to. [`node_law`] and [`reading_law`] say what
-//! holds of every expression, item and file.
+//! These nodes contain those of `lay_node`, whose names are exported again. The families have the
+//! same names in the sources, in `specs/` and in `proofs/`. For each node `specs/nodes/` says when
+//! it is well formed, which form it has (in the notation of `lay_form`), and what may not follow
+//! it. `Reading` says which bytes read to which file, and `Out` what the text of a file is.
+//! `specs/reader/` holds the functions that the readers are proved equal to. [`node_law`] and
+//! [`reading_law`] say what holds of every expression, item and file.
 pub mod blocks;
 pub mod conditions;
 mod drops;

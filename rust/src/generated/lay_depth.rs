@@ -1,10 +1,11 @@
 //! Made by scripts/rust.sh from crates/lay_depth/src/lib.rt, which is proved: change that.
 //!
-//! How deep expressions, blocks, items and files are.
+//! The nesting depth of expressions, blocks, items and files.
 //!
-//! The depth of a file is the least at which some tokens spell it, and so the depth within which its text reads back; that of
-//! an expression by itself is told the same way. [`file_depth`] and [`expr_depth`] count it by one walk over the tree, in time
-//! that is linear in it, which takes as much of the stack as the tree is deep and no memory.
+//! The depth of a file is the least depth limit at which some tokens spell it, and so at which its
+//! text parses back; the depth of an expression is the same for the expression alone.
+//! [`file_depth`] and [`expr_depth`] count it in one walk over the tree. The walk takes linear
+//! time, needs stack in proportion to the depth, and allocates nothing.
 mod blocks;
 mod conditions;
 mod exprs;

@@ -1,12 +1,13 @@
 //! Made by scripts/rust.sh from crates/lay_files/src/lib.rt, which is proved: change that.
 //!
-//! Whole files, both ways: from bytes to a tree, and from a tree to its text.
+//! Parsing and formatting of whole files.
 //!
-//! [`read_bytes`] gives the one file that bytes read to, or their refusal and its place, and [`read_within`] the same for
-//! files of a depth. [`write_file`] writes the text of a file's layout to a sink, [`text_of`] gives it as one text, and
-//! [`enclosed_text_of`] that of a constant whose value is an expression with each part in parentheses. [`format_bytes`] goes from
-//! bytes to a text without a tree of the whole file. [`refused_at`] tells the place of a refusal to those who keep the bytes
-//! alone. Which bytes read to which file, and what a file's text is, is defined in `lay_code`.
+//! [`read_bytes`] parses bytes to a file, or gives the syntax error and its place; [`read_within`]
+//! does so with a depth limit. [`write_file`] writes the text of a file to a sink, [`text_of`]
+//! gives it as a text, and [`enclosed_text_of`] gives the text of a constant whose value is an
+//! expression with each part in parentheses. [`format_bytes`] formats bytes without a tree of the
+//! whole file. [`refused_at`] gives the place of a syntax error to a caller who only kept the
+//! bytes. Which bytes read to which file, and what the text of a file is, is defined in `lay_code`.
 pub mod keep;
 mod laid;
 pub mod reading;

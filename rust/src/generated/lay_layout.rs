@@ -1,11 +1,12 @@
 //! Made by scripts/rust.sh from crates/lay_layout/src/lib.rt, which is proved: change that.
 //!
-//! The tokens of a layout, and what they mean.
+//! Layout tokens, and the text that they stand for.
 //!
-//! The crate defines documents, their flattening to tokens, and the text that Oppen's algorithm gives to them
-//! ("Prettyprinting", TOPLAS 2(4), 1980). [`layout_law`] says that laying out token by token and laying out a nested
-//! document are one. Every printer is proved against these definitions, and takes from here the margins of a line, the
-//! widths of breaks ([`widths`]), and what becomes of a break and of a group in a frame ([`frames`]).
+//! The crate defines documents (nested groups, texts and breaks), their flattening to tokens, and
+//! the text that Oppen's algorithm gives to them ("Prettyprinting", TOPLAS 2(4), 1980).
+//! [`layout_law`] says that laying out token by token and laying out a nested document give the
+//! same text. Every printer is proved against these definitions. It takes from here the line width,
+//! the widths of breaks ([`widths`]), and how a frame lays out a break or a group ([`frames`]).
 pub mod frames;
 pub mod layout;
 pub mod widths;

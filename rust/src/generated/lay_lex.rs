@@ -1,10 +1,11 @@
 //! Made by scripts/rust.sh from crates/lay_lex/src/lib.rt, which is proved: change that.
 //!
-//! From bytes to tokens.
+//! Lexing: from bytes to tokens.
 //!
-//! [`normalise`] gives what is lexed of an input: without a byte order mark, with each CR LF as one LF, and
-//! without a shebang line. [`lex`] gives its tokens. Both are proved equal to the definitions that
-//! `lay_token` states, in both directions.
+//! [`normalise`] makes of an input the text that is lexed: without a byte order mark, with one LF
+//! for each CR LF, and with the shebang line set apart. [`lex`] gives the tokens. Both are proved
+//! equal to the definitions in `lay_token`: they succeed exactly if the definitions give a result,
+//! and then with that result.
 mod border;
 mod ends;
 mod gap;

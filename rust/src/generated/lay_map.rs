@@ -1,11 +1,14 @@
 //! Made by scripts/rust.sh from crates/lay_map/src/lib.rt, which is proved: change that.
 //!
-//! The map from a file's text back to its source: which tokens of both say the same.
+//! The source map of formatting: which tokens of the input and of the output say the same.
 //!
-//! [`units`] tells where the units of the tokens stand that spell a file: each token but the marks that the grammar lets stand or not, and the tokens of
-//! one documentation together. It takes no second walk over the tree: a `Marker` is fed the layout of the file and finds the units by it. [`pairs`] puts
-//! those of a source and of its output side by side. [`map_law`] says why they belong together: however a file is spelled, its units are as many, and
-//! say the same. [`found_law`] says of each form which is clear, as that of a file is, that the layout finds its units.
+//! [`units`] finds the units of the tokens that spell a file: each token but the punctuation that
+//! the grammar allows but doesn't require, and the tokens of one documentation together. No second
+//! walk over the tree is needed: a `Marker` is fed the layout of the file and matches the tokens
+//! against it. [`pairs`] pairs the units of a source with those of its output. [`map_law`] says why
+//! they belong together: however a file is spelled, it has equally many units, and they say the
+//! same. [`found_law`] says that for each `clear` form, as that of a file is, matching against the
+//! layout finds the units.
 mod ahead;
 mod files;
 mod flags;

@@ -1,11 +1,11 @@
 //! Made by scripts/rust.sh from crates/lay_nest/src/lib.rt, which is proved: change that.
 //!
-//! From tokens to a cursor over them.
+//! Balanced delimiters, and a cursor over the tokens.
 //!
-//! [`nest`] accepts the tokens whose delimiters are balanced, and finds each delimiter's partner once, in one
-//! pass with no limit to nesting. A [`Cursor`] then walks over them and steps past a whole group at once, takes no
-//! memory, and is seen in contracts as the list of the tokens ahead. [`nesting_law`] says that what is refused,
-//! and where, and what a group holds, is one.
+//! [`nest`] accepts tokens whose delimiters are balanced. In one pass, with no limit to nesting, it
+//! finds the partner of each delimiter. A [`Cursor`] walks over the tokens, steps past a whole
+//! group at once, and allocates nothing; contracts see it as the list of the tokens ahead.
+//! [`nesting_law`] says that the refused place and the content of a group are unique.
 mod cursor;
 mod law;
 mod nesting;

@@ -1,12 +1,13 @@
 //! Made by scripts/rust.sh from crates/lay_node/src/lib.rt, which is proved: change that.
 //!
-//! The nodes below expressions, and the definitions that say which tokens spell a node and how it is laid out.
+//! The syntax tree below expressions: its node types, their grammar and their layout.
 //!
-//! The families are the same in the sources, in `specs/` and in `proofs/`: token lists, simple paths, attributes, types,
-//! generic parameters and where clauses, patterns, visibilities, fields, the heads of items, use trees. What rests on
-//! expressions or items stands in `lay_code`, which hands on the names of this crate.
-//! `specs/nodes/` says of each which nodes are well formed, which form they have (in the signs of `lay_form`), and what
-//! may not follow them (`Follow`). `specs/reader/` holds the functions that code which reads is proved equal to.
+//! The families of nodes have the same names in the sources, in `specs/` and in `proofs/`: token
+//! lists, simple paths, attributes, types, generic parameters and where clauses, patterns,
+//! visibilities, fields, the heads of items, use trees. What contains expressions or items is in
+//! `lay_code`, which exports the names of this crate again. For each node `specs/nodes/` says when
+//! it is well formed, which form it has (in the notation of `lay_form`), and what may not follow it
+//! (`Follow`). `specs/reader/` holds the functions that the readers are proved equal to.
 //! [`node_law`] and [`reading_law`] say what holds of every node.
 pub mod attr;
 pub mod boxed;

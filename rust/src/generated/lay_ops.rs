@@ -1,11 +1,12 @@
 //! Made by scripts/rust.sh from crates/lay_ops/src/lib.rt, which is proved: change that.
 //!
-//! Operators, and the places of expressions.
+//! Operators and precedence, and the contexts of expressions.
 //!
-//! Which operator the tokens ahead begin with, how strongly they go on with an expression, what begins one, and where an
-//! expression may stand. Each call is proved equal to the definition of `lay_code`, and none takes memory. The calls here
-//! take a cursor, which may be over any tokens; [`ahead`] has the same for readers. What an expression ends in is found
-//! along its right edge by a loop, so that a deep one needs no deep stack.
+//! The crate decides which operator comes next, how tightly it binds, whether an operand comes
+//! next, and where an expression may stand. Each function is proved equal to a definition of
+//! `lay_code`, and none allocates. The functions here take a plain cursor; [`ahead`] has the same
+//! ones for the readers. What an expression ends in is found along its right edge by a loop, so a
+//! deep expression needs no deep stack.
 pub mod ahead;
 mod bodies;
 mod edges;

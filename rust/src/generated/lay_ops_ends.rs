@@ -1,7 +1,7 @@
 //! Made by scripts/rust.sh from crates/lay_ops_ends/src/lib.rt, which is proved: change that.
 //!
-//! What an expression ends in, where an `else` is to stand behind it, and the braces around the bodies of arms and of closures that
-//! aren't in the tree.
+//! Whether an `else` may follow an expression, and the braces around the bodies of arms and
+//! closures that aren't in the tree.
 mod bodies;
 mod brace_ends;
 pub use bodies::{shed, undressed};

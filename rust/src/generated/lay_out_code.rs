@@ -1,16 +1,19 @@
 //! Made by scripts/rust.sh from crates/lay_out_code/src/lib.rt, which is proved: change that.
 //!
-//! How expressions, blocks, items and files are laid out, fed to an [`Emit`](lay_stream::Emit) token by token.
+//! The layout of expressions, blocks, items and files, emitted to an [`Emit`](lay_stream::Emit)
+//! token by token.
 //!
-//! [`put_file`] appends exactly the stream of the layout that `lay_code` gives to a file, [`put_shebang`] that of its first
-//! line, and [`put_item`], [`put_block`], [`put_stmt`], [`put_arm`] and [`put_expr`] the streams of the forms of their
-//! nodes, or they stop where the `Emit` does. [`put_enclosed_constant`] appends the stream of a file of one constant, whose value
-//! is an expression in which each part stands in parentheses.
+//! [`put_file`] emits exactly the stream of the layout that `lay_code` gives to a file,
+//! [`put_shebang`] that of its shebang line, and [`put_item`], [`put_block`], [`put_stmt`],
+//! [`put_arm`] and [`put_expr`] the streams of the forms of their nodes; or they stop when the
+//! `Emit` fails. [`put_enclosed_constant`] emits the stream of a file with one constant, whose
+//! value is an expression with each part in parentheses.
 //!
-//! A function whose name begins with `add` is told how the calls before it came out, as in [`lay_out_heads`]. Expressions
-//! hold blocks, blocks hold items, and items hold expressions, so these functions call each other. What stands between
-//! such parts is laid out by `lay_out_exprs` and `lay_out_heads`. A type parameter tells them whether parts get
-//! parentheses, as `lay_paren_defs` says: so one layout serves both.
+//! A function named `add_..` is given the result of the calls before it, as in [`lay_out_heads`].
+//! Expressions contain blocks, blocks contain items, and items contain expressions, so these
+//! functions call each other. `lay_out_exprs` and `lay_out_heads` lay out what stands between such
+//! parts. A type parameter says whether parts get parentheses (`lay_paren_defs`), so one layout
+//! serves both.
 mod blocks;
 mod branches;
 mod calls;

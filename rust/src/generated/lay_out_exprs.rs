@@ -1,13 +1,14 @@
 //! Made by scripts/rust.sh from crates/lay_out_exprs/src/lib.rt, which is proved: change that.
 //!
-//! What expressions are made of, with no expression within it, and how it is laid out.
+//! The layout of the parts of expressions that hold no expression.
 //!
-//! [`lay_out_code`](../lay_out_code) lays out expressions with it. Functions whose name begins with `add` are told how the
-//! calls before them came out, as those of `lay_out_types` are.
+//! lay_out_code lays out expressions with them. A function named `add_..` is given the result of
+//! the calls before it, as in `lay_out_types`.
 //!
-//! Where a text that begins with a point would stand directly behind the point of a number, as in `1. .a`, or behind
-//! `..`, it begins with a blank. That text may stand deep within an expression, so a function is told whether a point
-//! stands before its part, and the module `points` tells which expressions end in one.
+//! A text that begins with a `.` gets a leading blank if it would directly follow the `.` of a
+//! number, as in `1. .a`, or a `..`. That text may be deep inside an expression. So a function is
+//! told whether the text before its part ends in a `.`, and the module `points` decides which
+//! expressions end in one.
 pub mod blocks;
 pub mod bodies;
 mod closures;

@@ -1,13 +1,15 @@
 //! Made by scripts/rust.sh from crates/lay_out_heads/src/lib.rt, which is proved: change that.
 //!
-//! How visibilities, fields, the heads of items, the items that are heads alone, and use trees are laid out.
+//! The layout of visibilities, fields, the heads of items, the items that consist of a head alone,
+//! and use trees.
 //!
-//! Each public call appends to an [`Emit`](lay_stream::Emit) exactly the stream of the form that `lay_node` gives to
-//! its node, or stops where the `Emit` does.
+//! Each public function emits to an [`Emit`](lay_stream::Emit) exactly the stream of the form that
+//! `lay_node` gives to its node, or stops when the `Emit` fails.
 //!
-//! Within the crate a function is told how the calls before it came out, as in [`lay_out_types`], whose functions lay
-//! out what heads are made of. A list and fields in braces are laid out by one loop each, over what their parts are.
-//! What stands round bodies and behind visibilities is laid out for the crates above, too.
+//! Inside the crate a function is given the result of the calls before it, as in [`lay_out_types`],
+//! whose functions lay out the parts of heads. Lists and fields in braces are laid out by one loop
+//! each, whatever their parts are. The layout around bodies and after visibilities is public for
+//! the crates above.
 pub mod calls;
 mod fields;
 mod functions;

@@ -1,11 +1,11 @@
 //! Made by scripts/rust.sh from crates/lay_out_pats/src/lib.rt, which is proved: change that.
 //!
-//! How patterns are laid out, and what expressions, items and fields share with them: attributes on lines of their own, fields
-//! in braces, and the `..` behind a number.
+//! The layout of patterns, and of what expressions, items and fields share with them: attributes on
+//! lines of their own, fields in braces, and the `..` after a number.
 //!
-//! [`put_pat`] appends to an [`Emit`](lay_stream::Emit) exactly the stream of the form that `lay_node` gives to a pattern,
-//! or stops where the `Emit` does. A function whose name begins with `add` is told how the calls before it came out, as in
-//! [`lay_out_types`].
+//! [`put_pat`] emits to an [`Emit`](lay_stream::Emit) exactly the stream of the form that
+//! `lay_node` gives to a pattern, or stops when the `Emit` fails. A function named `add_..` is
+//! given the result of the calls before it, as in [`lay_out_types`].
 mod patterns;
 pub use patterns::{
     add_attrs,

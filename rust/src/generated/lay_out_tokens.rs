@@ -1,10 +1,11 @@
 //! Made by scripts/rust.sh from crates/lay_out_tokens/src/lib.rt, which is proved: change that.
 //!
-//! How token lists, and the attributes and macro calls that hold them, are laid out.
+//! The layout of token lists, and of the attributes and macro calls that hold them.
 //!
-//! Each call appends to an [`Emit`](lay_stream::Emit) exactly the stream of the form that `lay_node` gives to its
-//! part, or stops where the `Emit` does. A token list is walked as the flat list that it is, however deep its groups
-//! nest: what stands before a group decides nothing behind it, so nothing is kept of the groups that are open.
+//! Each function emits to an [`Emit`](lay_stream::Emit) exactly the stream of the form that
+//! `lay_node` gives to its node, or stops when the `Emit` fails. A token list is walked as the flat
+//! list that it is, however deep its groups nest: what stands before a group doesn't matter after
+//! it, so no stack of open groups is kept.
 mod attributes;
 mod calls;
 mod neighbours;

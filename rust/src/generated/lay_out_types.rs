@@ -1,13 +1,14 @@
 //! Made by scripts/rust.sh from crates/lay_out_types/src/lib.rt, which is proved: change that.
 //!
-//! How types, paths, generic arguments, bounds, generic parameters and where clauses are laid out.
+//! The layout of types, paths, generic arguments, bounds, generic parameters and where clauses.
 //!
-//! A call whose name begins with `put` appends to an [`Emit`](lay_stream::Emit) exactly the stream of the form that
-//! `lay_node` gives to its node, or stops where the `Emit` does.
+//! A function named `put_..` emits to an [`Emit`](lay_stream::Emit) exactly the stream of the form
+//! that `lay_node` gives to its node, or stops when the `Emit` fails.
 //!
-//! A function whose name begins with `add` is told how the calls before it came out, and answers how all of them did:
-//! behind a fault it feeds nothing, and hands the fault on. So what a function says is the row of its parts, and no part
-//! has a way out of its own. The crates above lay out their nodes with these.
+//! A function named `add_..` is given the result of the calls before it, and gives the result of
+//! all of them: after an error it emits nothing, and passes the error on. So the body of a function
+//! is the sequence of its parts, and no part returns early. The crates above lay out their nodes
+//! with these functions.
 pub mod calls;
 mod generics;
 pub mod lists;

@@ -1,13 +1,13 @@
 //! Made by scripts/rust.sh from crates/lay_read_blocks/src/lib.rt, which is proved: change that.
 //!
-//! From nested tokens to blocks, statements, arms and closures: each rule by itself, over functions that read
-//! expressions, blocks and items one level deeper.
+//! Parsing of blocks, statements, arms and closures. Each rule is given readers of expressions,
+//! blocks and items of the next deeper level.
 //!
-//! Each rule is proved equal to a function of the tokens ahead that `lay_code` defines, and that function reads what is
-//! spelled and nothing else.
+//! Each rule is proved equal to a function of the tokens ahead that `lay_code` defines. That
+//! function reads exactly what the grammar spells.
 //!
-//! Most rules carry `#[inline(never)]`: what is nested 254 deep has to be read within the stack of a thread, so the frame of
-//! each rule is kept small (docs/DECISIONS.md, "Trees").
+//! Most rules are `#[inline(never)]`: 254 levels of nesting have to fit in the stack of a thread,
+//! so the frame of each rule is kept small (docs/DECISIONS.md, "Trees").
 mod alone;
 mod arms;
 mod block_heads;

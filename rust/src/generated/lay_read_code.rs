@@ -1,18 +1,18 @@
 //! Made by scripts/rust.sh from crates/lay_read_code/src/lib.rt, which is proved: change that.
 //!
-//! From nested tokens to expressions, blocks and items, and to the tree of a file.
+//! Parsing of expressions, blocks, items and files.
 //!
-//! [`read_file`] answers the one file that the tokens spell, or refuses them where they spell none, [`read_item`] the item
-//! at the front, at its site, [`read_expr`] the expression at the front, at its place, and [`read_block`], [`read_stmt`]
-//! and [`read_arm`] what their names say. Each reader is proved equal to a
-//! function of the tokens ahead that `lay_code` defines, and that function reads what is spelled and nothing else.
+//! [`read_file`] parses a whole file, [`read_item`] the next item, as it may be at its site,
+//! [`read_expr`] the next expression, as it may be at its place, and [`read_block`], [`read_stmt`]
+//! and [`read_arm`] what their names say. Each reader is proved equal to a function of the tokens
+//! ahead that `lay_code` defines. That function reads exactly what the grammar spells.
 //!
-//! An item is read up to its body first, which goes through no cycle (lay_read_begun), and then its
-//! body, if it has one. What holds itself in the end is read by one cycle of calls (`knot`), over
+//! An item is read up to its body first, which needs no recursion (lay_read_begun), and then its
+//! body, if it has one. What can contain itself is read by one cycle of functions (`knot`), with
 //! the rules of the crates below.
 //!
-//! The calls of the cycle carry `#[inline(never)]`: what is nested 254 deep has to be read within the stack of a thread, so
-//! the frame of each is kept small (docs/DECISIONS.md, "Trees").
+//! The functions of the cycle are `#[inline(never)]`: 254 levels of nesting have to fit in the
+//! stack of a thread, so the frame of each is kept small (docs/DECISIONS.md, "Trees").
 mod file;
 mod knot;
 mod reads;

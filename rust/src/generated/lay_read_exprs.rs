@@ -1,14 +1,14 @@
 //! Made by scripts/rust.sh from crates/lay_read_exprs/src/lib.rt, which is proved: change that.
 //!
-//! From nested tokens to expressions: what begins one, with the operators behind it.
+//! Parsing of expressions.
 //!
-//! What begins an expression is read, and then the operators behind it that its place allows, by
-//! precedence climbing. Each rule stands over a function that reads expressions one level deeper,
-//! and over what reads those that begin with a block. It is proved equal to a function of the
-//! tokens ahead that `lay_code` defines, and that function reads what is spelled and nothing else.
+//! An operand is read, and then by precedence climbing the operators after it that its place
+//! allows. Each rule is given a reader of expressions of the next deeper level, and a reader of
+//! expressions that begin with a block. It is proved equal to a function of the tokens ahead that
+//! `lay_code` defines. That function reads exactly what the grammar spells.
 //!
-//! Most rules carry `#[inline(never)]`: what is nested 254 deep has to be read within the stack of a
-//! thread, so the frame of each rule is kept small (docs/DECISIONS.md, "Trees").
+//! Most rules are `#[inline(never)]`: 254 levels of nesting have to fit in the stack of a thread,
+//! so the frame of each rule is kept small (docs/DECISIONS.md, "Trees").
 mod climber;
 mod groups;
 mod head;

@@ -1,8 +1,9 @@
 //! Made by scripts/rust.sh from crates/lay_read_generics/src/lib.rt, which is proved: change that.
 //!
-//! From nested tokens to generic parameters and where clauses.
+//! Parsing of generic parameters and where clauses.
 //!
-//! They stand within no type, so they are read over the readers of types, and take no part in their cycle.
+//! No type contains them, so these readers use the readers of types and are no part of their
+//! recursion.
 mod generics;
 mod level;
 mod reads;

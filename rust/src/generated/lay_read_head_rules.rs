@@ -1,10 +1,11 @@
 //! Made by scripts/rust.sh from crates/lay_read_head_rules/src/lib.rt, which is proved: change that.
 //!
-//! The rules that read visibilities, fields, use trees, and the heads of items.
+//! Parsing of visibilities, fields, use trees, and the heads of items.
 //!
-//! Each is proved equal to a function of the tokens ahead that `lay_node` defines, and that function reads what is spelled
-//! and nothing else. Types, patterns and all else with nodes within it come from the crates below, so each rule here is
-//! given the depth of what is within it.
+//! Each reader is proved equal to a function of the tokens ahead that `lay_node` defines. That
+//! function reads exactly what the grammar spells. Types, patterns and everything else that can be
+//! nested come from the crates below, so each reader here gets the depth limit of what its node
+//! contains.
 pub mod fields;
 pub mod functions;
 pub mod heads;

@@ -1,9 +1,9 @@
 //! Made by scripts/rust.sh from crates/lay_read_heads/src/lib.rt, which is proved: change that.
 //!
-//! From nested tokens to the heads of items: visibilities, use trees, the heads of functions, of constants, traits and
-//! impls, and the items that are heads alone.
+//! The public readers of visibilities, use trees, and the heads of items: functions, constants,
+//! traits, implementations, and the items that consist of a head alone.
 //!
-//! Each call reads exactly what stands at the front of the tokens, by the rules of `lay_read_head_rules`.
+//! Each reads exactly what the next tokens spell, by the rules of `lay_read_head_rules`.
 mod kinds;
 mod reads;
 pub use kinds::{read_alias, read_enum, read_extern_crate, read_struct};

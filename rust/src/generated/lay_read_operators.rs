@@ -1,14 +1,14 @@
 //! Made by scripts/rust.sh from crates/lay_read_operators/src/lib.rt, which is proved: change that.
 //!
-//! From nested tokens to the operators behind an expression, by precedence climbing: each rule by
-//! itself, over a function that reads expressions one level deeper.
+//! Parsing of the operators after an expression, by precedence climbing. Each rule is given a
+//! reader of expressions of the next deeper level.
 //!
-//! Each rule is proved equal to a function of the tokens ahead that `lay_code` defines, and that
-//! function reads what is spelled and nothing else. The rules of what begins an expression stand on
-//! these (lay_read_exprs), and so do those of conditions (lay_read_branches).
+//! Each rule is proved equal to a function of the tokens ahead that `lay_code` defines. That
+//! function reads exactly what the grammar spells. The rules of operands (lay_read_exprs) and of
+//! conditions (lay_read_branches) use the rules here.
 //!
-//! Most rules carry `#[inline(never)]`: what is nested 254 deep has to be read within the stack of a
-//! thread, so the frame of each rule is kept small (docs/DECISIONS.md, "Trees").
+//! Most rules are `#[inline(never)]`: 254 levels of nesting have to fit in the stack of a thread,
+//! so the frame of each rule is kept small (docs/DECISIONS.md, "Trees").
 mod assigns;
 mod casts;
 pub mod climb;

@@ -1,10 +1,11 @@
 //! Made by scripts/rust.sh from crates/lay_read_parts/src/lib.rt, which is proved: change that.
 //!
-//! From nested tokens to what readers share: lists and chains of parts, over a function that reads one, and lifetimes,
-//! literals, binders, constants and ABIs.
+//! What the readers share: loops over lists and chains, and the parsing of lifetimes, literals,
+//! binders, const arguments and ABIs.
 //!
-//! Nothing here knows what types are. A loop asks of its parts which function of the tokens ahead they are proved
-//! equal to, and is proved equal to the list or the chain of those.
+//! Nothing here knows types. A loop is given a reader of parts, with the function of the tokens
+//! ahead that this reader is proved equal to; the loop is proved equal to the list or the chain of
+//! that function.
 pub mod joins;
 pub mod leads;
 pub mod loops;

@@ -1,9 +1,9 @@
 //! Made by scripts/rust.sh from crates/lay_read_pats/src/lib.rt, which is proved: change that.
 //!
-//! From nested tokens to patterns.
+//! Parsing of patterns.
 //!
-//! Each reader is proved equal to a function of the tokens ahead that `lay_node` defines, and that function reads what
-//! is spelled and nothing else.
+//! Each reader is proved equal to a function of the tokens ahead that `lay_node` defines. That
+//! function reads exactly what the grammar spells.
 mod binds;
 pub mod facts;
 mod groups;

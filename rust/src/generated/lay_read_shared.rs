@@ -1,10 +1,10 @@
 //! Made by scripts/rust.sh from crates/lay_read_shared/src/lib.rt, which is proved: change that.
 //!
-//! What the readers of heads, of blocks and of expressions share, so that none of them stands on another: the loop of parts
-//! that stand one behind another, nodes in boxes, and a type that may be there.
+//! What the readers of heads, blocks and expressions share, so that they don't depend on each
+//! other: the loop over consecutive parts, boxing, and optional types.
 //!
-//! Its lemmas say what reading leaves: behind whatever is read, at any depth, stands the rest of the tokens that were ahead,
-//! and a node has a token at least. So each loop of those readers ends.
+//! The lemmas here say that after whatever is read, at any depth limit, the rest of the tokens is
+//! ahead, and that a node has at least one token. So every loop of those readers ends.
 pub mod alone;
 pub mod boxes;
 pub mod loops;

@@ -1,10 +1,10 @@
 //! Made by scripts/rust.sh from crates/lay_read_tokens/src/lib.rt, which is proved: change that.
 //!
-//! From nested tokens to what all nodes are made of: names, simple paths, token lists, macro calls and
+//! Parsing of what all nodes are made of: names, simple paths, token lists, macro calls and
 //! attributes.
 //!
-//! Each reader is proved equal to a function of the tokens ahead that `lay_node` defines, and that function reads what
-//! is spelled and nothing else. Where a reader reads none, [`ReadNone`] says why.
+//! Each reader is proved equal to a function of the tokens ahead that `lay_node` defines. That
+//! function reads exactly what the grammar spells. If nothing is read, [`ReadNone`] says why.
 pub mod ahead;
 pub mod attributes;
 pub mod calls;

@@ -1,12 +1,13 @@
 //! Made by scripts/rust.sh from crates/lay_read_types/src/lib.rt, which is proved: change that.
 //!
-//! From nested tokens to types, paths, generic arguments and bounds.
+//! Parsing of types, paths, generic arguments and bounds.
 //!
-//! Each reader is proved equal to a function of the tokens ahead that `lay_node` defines, and that function reads what
-//! is spelled and nothing else.
+//! Each reader is proved equal to a function of the tokens ahead that `lay_node` defines. That
+//! function reads exactly what the grammar spells.
 //!
-//! Rules that hold large values and don't stand on the way from a type to one within it carry `#[inline(never)]`: what is nested
-//! 254 deep has to be read within the stack of a thread, so the frames on that way are kept small (docs/DECISIONS.md, "Trees").
+//! Rules that hold large values and aren't on the recursive way from a type to a type within it are
+//! `#[inline(never)]`: 254 levels of nesting have to fit in the stack of a thread, so the frames on
+//! that way are kept small (docs/DECISIONS.md, "Trees").
 mod arguments;
 mod bounds;
 mod knot;

@@ -1,10 +1,11 @@
 //! Made by scripts/rust.sh from crates/lay_sample/src/lib.rt, which is proved: change that.
 //!
-//! Samples: Rust that no person laid out, drawn from a seed.
+//! Samples: unformatted Rust source, drawn from a seed.
 //!
-//! [`sample`] gives a text of as many items as are asked for, one on each line: structs, imports, functions and constants,
-//! with no blank that the grammar can spare. The crate promises that the text is the one that `specs/Sample` defines, so a seed
-//! and a number of items name the same bytes everywhere. It stands on `itoa` for the digits of numbers.
+//! [`sample`] gives a text with the given number of items, one on each line: structs, imports,
+//! functions and constants, without any blank that the grammar doesn't require. The crate proves
+//! that the text is the one that `specs/Sample` defines, so a seed and a number of items give the
+//! same bytes everywhere. Digits of numbers come from `itoa`.
 pub mod counting;
 mod draws;
 mod items;

@@ -1,8 +1,8 @@
 //! Made by scripts/rust.sh from crates/lay_text/src/lib.rt, which is proved: change that.
 //!
-//! Texts and lists, and why no text is given.
+//! Byte strings, lists, and the errors of reading and formatting.
 //!
-//! The crate promises that a [`Text`] is a list of bytes and a [`List`] a list of items.
+//! Contracts see a [`Text`] as a list of bytes and a [`List`] as a list of items.
 pub mod list;
 pub mod refusal;
 pub mod text;

@@ -1,9 +1,11 @@
 //! Made by scripts/rust.sh from crates/lay_token/src/lib.rt, which is proved: change that.
 //!
-//! The tokens of a text, and what they stand on: texts and lists, layouts, and pieces, under one name.
+//! Tokens with their places, and all names of the base in one crate: texts, lists, layouts and
+//! pieces.
 //!
-//! The crate defines which list of tokens a text lexes to (Rust Reference, "Lexical structure"), and [`tokens_law`]
-//! says that there is one at most. All else that the other crates speak of is passed on from the crates below.
+//! The crate defines which list of tokens a text lexes to (Rust Reference, "Lexical structure").
+//! [`tokens_law`] says that there is at most one. Everything else here is exported again from the
+//! crates below.
 pub mod place;
 pub mod token;
 pub use crate::generated::lay_layout::{Break, Frame, Mark, Tok, layout};

@@ -1,11 +1,12 @@
 //! Made by scripts/rust.sh from crates/lay_tree/src/lib.rt, which is proved: change that.
 //!
-//! Trees of Rust files, for programs that hold them: every type of a tree, and whether two trees are equal.
+//! Syntax trees for programs that build or compare them: every node type, and equality.
 //!
-//! The types are those of `lay_code`, which defines which tokens spell a tree and how it is laid out, and of the crates below
-//! it. [`same`] compares two files, [`same_item`], [`same_stmt`], [`same_block`], [`same_arm`] and [`same_expr`] what they
-//! hold, and [`Same`] the nodes that hold no expression. [`same_enclosed`] tells whether a file is the constant whose value is an
-//! expression with each part in parentheses. A comparison takes as much of the stack as the trees are deep.
+//! The node types are those of `lay_code`, which defines their grammar and their layout, and of the
+//! crates below it. [`same`] compares two files; [`same_item`], [`same_stmt`], [`same_block`],
+//! [`same_arm`] and [`same_expr`] compare parts of them, and [`Same`] the nodes that hold no
+//! expression. [`same_enclosed`] says whether a file is the constant whose value is an expression
+//! with each part in parentheses. A comparison needs stack in proportion to the depth of the trees.
 mod enclosed;
 mod equal;
 mod exprs;

@@ -1,12 +1,12 @@
 //! Made by scripts/rust.sh from crates/lay_args/src/command.rt, which is proved: change that.
 //!
-//! The command, as `clap` reads it.
+//! The command line in terms of `clap`.
 use crate::shims::error::ErrorKind;
 use crate::shims::{Arg, ArgAction, ArgMatches, Command};
 use crate::generated::lay_text::NoMemory;
 use crate::shims::{AllocError, Global};
-/// The matches that `clap` has for the words, or none where it finds a fault in them: a word that is no part of the
-/// command, or one that asks for help.
+/// What `clap` matches in the words, or `None` if they are no command line: a word is no part of
+/// the command, or asks for help.
 pub fn matches<
     'a,
 >(alloc: Global, words: &'a [&'a str]) -> Result<Option<ArgMatches<'a>>, NoMemory> {
@@ -21,8 +21,8 @@ pub fn matches<
         }
     }
 }
-/// The flags `--check` and `--map`, the options `--sample` and `--items` and one optional file, of words that don't begin
-/// with the program's name.
+/// The definition of the command: the flags `--check` and `--map`, the options `--sample` and
+/// `--items`, and one optional file. The words don't begin with the program's name.
 fn command<'a>(alloc: Global) -> Result<Command<'a>, AllocError> {
     let check = flag(alloc, "check");
     let map = flag(alloc, "map");
@@ -32,11 +32,11 @@ fn command<'a>(alloc: Global) -> Result<Command<'a>, AllocError> {
     let bare = Command::new(alloc, "lay_fmt").no_binary_name(true);
     bare.arg(check)?.arg(map)?.arg(sample)?.arg(items)?.arg(file)
 }
-/// A flag of this long name.
+/// A flag with this long name.
 fn flag<'a>(alloc: Global, name: &'a str) -> Arg<'a> {
     Arg::new(alloc, name).long(name).action(ArgAction::SetTrue)
 }
-/// An option of this long name, which takes one value.
+/// An option with this long name, which takes one value.
 fn option<'a>(alloc: Global, name: &'a str) -> Arg<'a> {
     Arg::new(alloc, name).long(name).action(ArgAction::Set)
 }

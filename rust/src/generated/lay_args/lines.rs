@@ -1,21 +1,21 @@
 //! Made by scripts/rust.sh from crates/lay_args/src/lines.rt, which is proved: change that.
 //!
-//! What a line of words asks for.
+//! What a command line asks for.
 use crate::generated::lay_io::Which;
-/// What the words of a command ask for.
+/// What a command line asks for.
 #[derive(Debug,)]
 pub enum Line {
-    /// The words are no line of the command, or ask for help.
+    /// The words are no command line, or ask for help.
     Usage,
-    /// `[FILE]`: the text of this input is wanted.
+    /// `[FILE]`: format this input.
     Format(Which),
-    /// `--check [FILE]`: it is asked whether this input is its own text.
+    /// `--check [FILE]`: check whether this input is formatted.
     Check(Which),
-    /// `--map [FILE]`: it is asked where what this input says stands in its text.
+    /// `--map [FILE]`: write the map from this input to its formatted text.
     Map(Which),
-    /// `--sample SEED --items N`: a sample of N items is wanted, drawn from SEED.
+    /// `--sample SEED --items N`: make and format a sample of N items, drawn from SEED.
     Sample {
-        /// SEED, which any number of 64 bits may be.
+        /// SEED: any number of 64 bits.
         seed: u64,
         /// N, the number of items, at most 200,000.
         items: u32,

@@ -1,22 +1,22 @@
 //! Made by scripts/rust.sh from crates/lay_args/src/numbers.rt, which is proved: change that.
 //!
-//! Numbers, as the words write them.
-/// The digits that a seed may have, as many as the greatest number of 64 bits has.
+//! Parsing of the numbers in a command line.
+/// The greatest number of digits of a seed: that of the greatest 64-bit number.
 const SEED_DIGITS: usize = 20;
-/// The digits that a number of items may have.
+/// The greatest number of digits of a number of items.
 const ITEM_DIGITS: usize = 6;
-/// The greatest number of items that may be asked for.
+/// The greatest number of items of a sample.
 const MOST_ITEMS: u64 = 200_000;
-/// The seed that a text writes, or none where it writes none.
+/// Parses the argument of `--sample`; `None` if it is no number in range.
 pub fn seed(text: &str) -> Option<u64> {
     number(text, SEED_DIGITS, u64::MAX)
 }
-/// The number of items that a text writes, or none where it writes none.
+/// Parses the argument of `--items`; `None` if it is no number in range.
 pub fn item_count(text: &str) -> Option<u32> {
     let count = number(text, ITEM_DIGITS, MOST_ITEMS)?;
     Some(count as u32)
 }
-/// The number that a text writes in 1 to `digits` digits and that is at most `limit`.
+/// Parses a number of 1 to `digits` decimal digits that is at most `limit`; else `None`.
 fn number(text: &str, digits: usize, limit: u64) -> Option<u64> {
     if text.len() > digits || text.starts_with('+') {
         return None;

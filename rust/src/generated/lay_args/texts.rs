@@ -1,11 +1,11 @@
 //! Made by scripts/rust.sh from crates/lay_args/src/texts.rt, which is proved: change that.
 //!
-//! Words as texts.
+//! Words as UTF-8.
 use crate::shims::Vec;
 use crate::generated::lay_text::{NoMemory, Text};
 use crate::shims::Global;
 use core::str;
-/// All the words as texts, or none of them where one isn't UTF-8.
+/// All words as `str`, or `None` if one isn't UTF-8.
 pub fn texts(alloc: Global, words: &[Text]) -> Result<Option<Vec<&str>>, NoMemory> {
     let mut texts = Vec::new(alloc);
     for word in words {
@@ -16,7 +16,7 @@ pub fn texts(alloc: Global, words: &[Text]) -> Result<Option<Vec<&str>>, NoMemor
     }
     Ok(Some(texts))
 }
-/// A word as a text, where it is UTF-8.
+/// A word as `str`, if it is UTF-8.
 fn text(word: &Text) -> Option<&str> {
     match str::from_utf8(word.as_bytes()) {
         Ok(text) => Some(text),

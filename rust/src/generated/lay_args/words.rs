@@ -1,6 +1,6 @@
 //! Made by scripts/rust.sh from crates/lay_args/src/words.rt, which is proved: change that.
 //!
-//! From words to a line.
+//! Parsing of a command line.
 use crate::generated::lay_args::command::matches;
 use crate::generated::lay_args::lines::Line;
 use crate::generated::lay_args::numbers::{item_count, seed};
@@ -9,10 +9,10 @@ use crate::shims::ArgMatches;
 use crate::generated::lay_io::Which;
 use crate::generated::lay_text::{NoMemory, Text};
 use crate::shims::Global;
-/// The line that the words make, which stand without the program's name. A word that isn't UTF-8 makes it `Usage`,
-/// and which other words are a line is `clap`'s definition for a command with the flags `--check` and `--map`, the
-/// options `--sample` and `--items` and one optional file, of which the flags don't stand together, and the options stand together
-/// and with nothing else.
+/// Parses the words as a command line; they stand without the program's name. The result is `Usage`
+/// if a word isn't UTF-8. Which other words are accepted is `clap`'s definition for the flags
+/// `--check` and `--map`, the options `--sample` and `--items` and one optional file, where the
+/// flags exclude each other, and each option requires the other one and excludes everything else.
 pub fn line(alloc: Global, words: &[Text]) -> Result<Line, NoMemory> {
     let texts = match texts(alloc, words)? {
         Some(texts) => texts,
@@ -25,7 +25,7 @@ pub fn line(alloc: Global, words: &[Text]) -> Result<Line, NoMemory> {
         None => Ok(Line::Usage),
     }
 }
-/// The line that the matches say.
+/// The command line that these matches mean.
 fn from_matches(alloc: Global, matches: &ArgMatches<'_>) -> Result<Line, NoMemory> {
     let check = is_set(matches.get_str("check"));
     let map = is_set(matches.get_str("map"));
@@ -33,7 +33,8 @@ fn from_matches(alloc: Global, matches: &ArgMatches<'_>) -> Result<Line, NoMemor
     let items = matches.get_str("items");
     from_values(alloc, check, map, sample, items, matches.get_str("file"))
 }
-/// The line that the flags `--check` and `--map`, the texts of `--sample` and `--items`, and FILE say.
+/// The command line that these values mean: the flags `--check` and `--map`, the arguments of
+/// `--sample` and `--items`, and FILE.
 fn from_values(
     alloc: Global,
     check: bool,
@@ -50,21 +51,22 @@ fn from_values(
         _ => Ok(Line::Usage),
     }
 }
-/// The sample that the texts of `--sample` and `--items` ask for, where both write numbers.
+/// The sample for these arguments of `--sample` and `--items`, or `Usage` if one is no number in
+/// range.
 fn from_texts(sample: &str, items: &str) -> Line {
     match (seed(sample), item_count(items)) {
         (Some(seed), Some(items)) => Line::Sample { seed, items },
         _ => Line::Usage,
     }
 }
-/// The input that is named, or standard input where none is.
+/// The named input, or standard input if there is no name.
 fn input(alloc: Global, file: Option<&str>) -> Result<Which, NoMemory> {
     match file {
         None => Ok(Which::Stdin),
         Some(name) => Ok(Which::File(Text::from_bytes(alloc, name.as_bytes())?)),
     }
 }
-/// Whether a flag stands in the words: `clap` gives it the value `true` where it does.
+/// Whether a flag is set: then `clap` gives it the value `true`.
 fn is_set(value: Option<&str>) -> bool {
     match value {
         Some(text) => text == "true",

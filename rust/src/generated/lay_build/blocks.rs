@@ -1,6 +1,6 @@
 //! Made by scripts/rust.sh from crates/lay_build/src/blocks.rt, which is proved: change that.
 //!
-//! Statements and blocks.
+//! Builders of statements and blocks.
 use crate::generated::lay_build_types::{
     BuildError,
     BuiltBlock,
@@ -18,7 +18,7 @@ use crate::generated::lay_build_types::{
 use crate::generated::lay_code::{Block, Expr, Name, Pat, Stmt, Ty};
 use crate::generated::lay_text::List;
 use crate::shims::Global;
-/// A statement that gives a value to a name, of this type if one is given: `let a: B = c;`.
+/// A `let` statement that binds a name: `let a = c;`, or with a type, `let a: B = c;`.
 pub fn stmt_let(
     alloc: Global,
     name: BuiltName,
@@ -48,11 +48,11 @@ fn let_stmt(
     };
     Ok((stmt, need.max(1) + 1))
 }
-/// The pattern that a name is.
+/// A name as a pattern.
 pub(crate) fn bind(name: Name) -> Pat {
     Pat::Bind { by_ref: false, mutable: false, name, of: None }
 }
-/// A statement that is an expression: `a;`.
+/// An expression statement: `a;`.
 pub fn stmt_expr(alloc: Global, expr: BuiltExpr) -> Result<BuiltStmt, BuildError> {
     let (expr, need) = expr.into_parts();
     kept(both(expr_stmt(alloc, expr, true), Ok(need + 1)))
@@ -62,7 +62,7 @@ fn expr_stmt(alloc: Global, expr: Expr, ended: bool) -> Result<Stmt, BuildError>
     let expr = boxed(alloc, expr)?;
     Ok(Stmt::Expr { attrs: List::new(alloc), expr, ended })
 }
-/// A block of these statements, and of what it is worth, if that is given: `{ a; b }`.
+/// A block of these statements, and of a last expression, if there is one: `{ a; b }`.
 pub fn block(
     alloc: Global,
     stmts: List<BuiltStmt>,
@@ -73,7 +73,7 @@ pub fn block(
     let (stmts, need) = stmts;
     kept(block_of(alloc, stmts, last, need.max(more + 1)))
 }
-/// The last statement of a block, which tells what the block is worth.
+/// The last expression of a block as a statement without `;`.
 fn tail_stmt(alloc: Global, tail: Option<Expr>) -> Result<Option<Stmt>, BuildError> {
     match tail {
         Some(tail) => Ok(Some(expr_stmt(alloc, tail, false)?)),
@@ -91,7 +91,7 @@ fn block_of(
     let block = Block { attrs: List::new(alloc), stmts };
     Ok((block, need))
 }
-/// A list with one more item at its end, if there is one.
+/// The list with one more item appended, if there is one.
 fn with_last<T>(list: List<T>, last: Option<T>) -> Result<List<T>, BuildError> {
     let mut list = list;
     if let Some(last) = last {

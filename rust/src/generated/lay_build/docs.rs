@@ -1,6 +1,6 @@
 //! Made by scripts/rust.sh from crates/lay_build/src/docs.rt, which is proved: change that.
 //!
-//! Documentation of items.
+//! Builders of documentation.
 use crate::generated::lay_build_types::{
     BuildError,
     BuiltItem,
@@ -24,8 +24,8 @@ use crate::generated::lay_piece::{DocForm, Kind, doc_form};
 use crate::generated::lay_text::{NoMemory, Text};
 use crate::shims::Global;
 use core::str;
-/// The item with documentation behind its attributes: a comment or, where no comment can say the text, the attribute
-/// `#[doc = "text"]`. BadText comes where the text is no UTF-8.
+/// The item with documentation after its attributes: a comment, or `#[doc = "text"]` if no comment
+/// can hold the text. The error is `BadText` if the text is not UTF-8.
 pub fn with_doc(
     alloc: Global,
     item: BuiltItem,
@@ -35,14 +35,14 @@ pub fn with_doc(
     let (item, need) = item;
     kept(both(with_attr(item, attr), Ok(need)))
 }
-/// Documentation of what follows it, where the text is UTF-8.
+/// Outer documentation of this text, if it is UTF-8.
 fn checked_doc(alloc: Global, text: &[u8]) -> Result<Attr, BuildError> {
     match str::from_utf8(text) {
         Ok(_) => doc(alloc, text),
         Err(_) => Err(BuildError::BadText),
     }
 }
-/// Documentation of what follows it, as a comment or as an attribute.
+/// Outer documentation of this text, as a comment or as an attribute.
 fn doc(alloc: Global, text: &[u8]) -> Result<Attr, BuildError> {
     match doc_form(text, false) {
         DocForm::Line | DocForm::Block => {
@@ -75,7 +75,7 @@ fn copied(alloc: Global, text: &[u8]) -> Result<Text, BuildError> {
         Err(NoMemory) => Err(BuildError::NoMemory),
     }
 }
-/// The item with one more attribute, the last.
+/// The item with one more attribute, after those that it has.
 fn with_attr(item: Item, attr: Attr) -> Result<Item, BuildError> {
     let mut item = item;
     let added = keep(&mut item.attrs, attr);

@@ -1,12 +1,12 @@
 //! Made by scripts/rust.sh from crates/lay_build/src/files.rt, which is proved: change that.
 //!
-//! Files.
+//! The builder of files.
 use crate::generated::lay_build_types::{BuiltItem, nodes};
 use crate::generated::lay_code::File;
 use crate::generated::lay_text::{List, NoMemory};
 use crate::shims::Global;
-/// The file of these items. It can be written: it is normal, each name and literal in it is a piece of its kind, and it is no
-/// deeper than files may be.
+/// A file of these items. It can be written: it is normal, each name and literal in it is a piece
+/// of its kind, and it is no deeper than a file may be.
 pub fn file(alloc: Global, items: List<BuiltItem>) -> Result<File, NoMemory> {
     match nodes(alloc, items) {
         Ok(parts) => {

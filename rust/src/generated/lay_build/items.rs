@@ -1,6 +1,6 @@
 //! Made by scripts/rust.sh from crates/lay_build/src/items.rt, which is proved: change that.
 //!
-//! Items.
+//! Builders of items.
 use crate::generated::lay_build::blocks::bind;
 use crate::generated::lay_build::kinds::{BuiltParam, NamedType};
 use crate::generated::lay_build_types::{
@@ -39,13 +39,13 @@ use crate::generated::lay_code::{
 };
 use crate::generated::lay_text::List;
 use crate::shims::Global;
-/// A name with its type, as a parameter or as a field of a struct: `a: B`.
+/// A name with its type, as a parameter or a struct field: `a: B`.
 pub fn param(name: BuiltName, ty: BuiltType) -> Result<BuiltParam, BuildError> {
     let (name, _) = name.into_parts();
     let (ty, need) = ty.into_parts();
     kept(Ok((NamedType { name, ty }, need + 1)))
 }
-/// A struct whose fields have names: `struct A { b: C }`.
+/// A struct with named fields: `struct A { b: C }`.
 pub fn item_struct(
     alloc: Global,
     public: bool,
@@ -108,7 +108,7 @@ fn constant(
     };
     item_of(alloc, public, kind, need + 1)
 }
-/// A function of these parameters, which answers what is of this type, if one is given: `fn a(b: C) -> D { e }`.
+/// A function with these parameters, and this return type if there is one: `fn a(b: C) -> D { e }`.
 pub fn item_fn(
     alloc: Global,
     public: bool,
@@ -195,15 +195,15 @@ fn item_of(
     let item = Item { attrs: List::new(alloc), vis: visibility(public), kind };
     Ok((item, need))
 }
-/// How an item is marked that may be named anywhere, or where it stands alone.
+/// `pub`, or no visibility.
 fn visibility(public: bool) -> Vis {
     if public { Vis::Public } else { Vis::Inherited }
 }
-/// The generic parameters of an item that has none.
+/// No generic parameters.
 fn no_generics(alloc: Global) -> Generics {
     Generics { params: List::new(alloc) }
 }
-/// The where clause of an item that has none.
+/// No where clause.
 fn no_wheres(alloc: Global) -> Wheres {
     Wheres { predicates: List::new(alloc) }
 }

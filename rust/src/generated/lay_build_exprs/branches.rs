@@ -1,6 +1,6 @@
 //! Made by scripts/rust.sh from crates/lay_build_exprs/src/branches.rt, which is proved: change that.
 //!
-//! Branches. What is tested is lent, and becomes the expression that has the branches.
+//! Builders of `if` expressions. The condition is lent, and becomes the whole expression.
 use crate::generated::lay_build_exprs::keeping::kept_with;
 use crate::generated::lay_build_exprs::operands;
 use crate::generated::lay_build_types::{
@@ -15,7 +15,7 @@ use crate::generated::lay_code::{Block, Branch, Condition, Expr, Link};
 use crate::generated::lay_text::List;
 use crate::shims::Global;
 use core::mem;
-/// A branch: `if a { b }`, or with the block behind `else`, `if a { b } else { c }`.
+/// An `if` expression: `if a { b }`, or with `otherwise`, `if a { b } else { c }`.
 pub fn expr_if(
     alloc: Global,
     test: BuiltExpr,
@@ -28,7 +28,7 @@ pub fn expr_if(
     let need = add_blocks(alloc, &mut test, need, body, otherwise, more.max(most));
     kept_with(test, need)
 }
-/// Adds its blocks, of which the deeper needs this depth, behind what is tested.
+/// Adds the blocks, of which the deeper one needs this depth, to the condition.
 fn add_blocks(
     alloc: Global,
     test: &mut Expr,
@@ -42,7 +42,7 @@ fn add_blocks(
     let need = (need + 1).max(blocks);
     Ok(need)
 }
-/// Makes a branch of a test, which stands so.
+/// A branch of the condition, which may stand so.
 fn one_branch(
     alloc: Global,
     test: &mut Expr,

@@ -1,6 +1,6 @@
 //! Made by scripts/rust.sh from crates/lay_build_exprs/src/leaves.rt, which is proved: change that.
 //!
-//! Literals and paths.
+//! Builders of literals and paths.
 use crate::generated::lay_build_exprs::keeping::kept_with;
 use crate::shims::Buffer;
 use crate::generated::lay_build_types::{
@@ -16,9 +16,9 @@ use crate::generated::lay_piece::Kind;
 use crate::generated::lay_text::{List, NoMemory, Text};
 use crate::shims::Global;
 use core::str;
-/// The depth that an expression needs that has no other in it.
+/// The depth of an expression that contains no other.
 const LEAF: u32 = 1;
-/// The integer literal of a number, in decimal digits and without a suffix.
+/// An integer literal, in decimal digits and without suffix.
 pub fn expr_int(alloc: Global, value: u128) -> Result<BuiltExpr, BuildError> {
     match Text::from_bytes(alloc, Buffer::new().format(value).as_bytes()) {
         Ok(text) => {
@@ -27,7 +27,7 @@ pub fn expr_int(alloc: Global, value: u128) -> Result<BuiltExpr, BuildError> {
         Err(NoMemory) => Err(BuildError::NoMemory),
     }
 }
-/// The string literal whose value a text is. BadText comes where the text is no UTF-8.
+/// The string literal whose value is this text. The error is `BadText` if the text is not UTF-8.
 pub fn expr_str(alloc: Global, text: &[u8]) -> Result<BuiltExpr, BuildError> {
     if !is_text(text) {
         return Err(BuildError::BadText);
@@ -39,7 +39,7 @@ pub fn expr_str(alloc: Global, text: &[u8]) -> Result<BuiltExpr, BuildError> {
 fn is_text(bytes: &[u8]) -> bool {
     str::from_utf8(bytes).is_ok()
 }
-/// The path of these names: `a::b::C`.
+/// A path as an expression: `a::b::C`.
 pub fn expr_path(
     alloc: Global,
     first: BuiltName,

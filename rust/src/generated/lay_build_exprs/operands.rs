@@ -1,7 +1,7 @@
 //! Made by scripts/rust.sh from crates/lay_build_exprs/src/operands.rt, which is proved: change that.
 //!
-//! Parentheses, where an expression needs them to stand in another. An expression is lent with the depth that it needs, and what is
-//! answered is the depth that it needs then.
+//! Parentheses round parts that need them. A function is lent an expression with the depth that it
+//! needs, and gives the depth that it needs afterwards.
 use crate::generated::lay_build_types::{BuildError, boxed};
 use crate::generated::lay_code::{Expr, Step};
 use crate::shims::Global;
@@ -15,7 +15,7 @@ pub(crate) fn operand(
     let stands = is_operand(expr);
     unless(alloc, stands, expr, need)
 }
-/// What is called. Behind the name of a field a call would be a method's.
+/// The callee of a call. Directly after a field name the arguments would be those of a method call.
 pub(crate) fn callee(
     alloc: Global,
     expr: &mut Expr,
@@ -26,7 +26,7 @@ pub(crate) fn callee(
     }
     operand(alloc, expr, need)
 }
-/// What an `if` tests.
+/// The condition of an `if`.
 pub(crate) fn test(
     alloc: Global,
     expr: &mut Expr,
@@ -35,7 +35,7 @@ pub(crate) fn test(
     let stands = is_operand(expr) || is_chain(expr);
     unless(alloc, stands, expr, need)
 }
-/// An expression, in parentheses unless it may stand so.
+/// Puts the expression in parentheses, unless it may stand as it is.
 fn unless(
     alloc: Global,
     stands: bool,
@@ -55,32 +55,32 @@ fn put_in_parens(alloc: Global, expr: &mut Expr) -> Result<(), BuildError> {
     *expr = Expr::Paren { inner };
     Ok(())
 }
-/// Whether an operator, and any step, takes it as it is.
+/// Whether the expression may be an operand or the base of a step as it is.
 fn is_operand(expr: &Expr) -> bool {
     matches!(
         expr, Expr::Lit { .. } | Expr::Path { .. } | Expr::Paren { .. } | Expr::Tuple
         { .. } | Expr::Postfix { .. }
     )
 }
-/// Whether it is a chain of operators.
+/// Whether the expression is a chain of operators.
 fn is_chain(expr: &Expr) -> bool {
     matches!(expr, Expr::Chain { .. })
 }
-/// Whether it ends in the name of a field.
+/// Whether the expression ends in the name of a field.
 fn ends_in_field(expr: &Expr) -> bool {
     match expr {
         Expr::Postfix { steps, .. } => field_last(steps.as_slice()),
         _ => false,
     }
 }
-/// Whether the last step is a field.
+/// Whether the last step is a field access.
 fn field_last(steps: &[Step]) -> bool {
     match steps.last() {
         Some(step) => is_field(step),
         None => false,
     }
 }
-/// Whether a step is a field.
+/// Whether a step is a field access.
 fn is_field(step: &Step) -> bool {
     matches!(step, Step::Field { .. })
 }

@@ -1,13 +1,13 @@
 //! Made by scripts/rust.sh from crates/lay_build_exprs/src/operators.rt, which is proved: change that.
 //!
-//! Operators. The left operand is lent, and becomes the expression that has the operator.
+//! Builders of operators. The left operand is lent, and becomes the whole expression.
 use crate::generated::lay_build_exprs::keeping::kept_with;
 use crate::generated::lay_build_exprs::operands::operand;
 use crate::generated::lay_build_types::{BuildError, BuiltExpr, boxed, one};
 use crate::generated::lay_code::{Boxed, Expr, Op};
 use crate::shims::Global;
 use core::mem;
-/// An operator between two operands: `a + b`. It is none that assigns and no range's.
+/// A binary operator: `a + b`. The operator is no assignment and no range.
 pub fn expr_binary(
     alloc: Global,
     op: Op,
@@ -19,7 +19,7 @@ pub fn expr_binary(
     let need = add_operand(alloc, &mut left, need, op, right, more);
     kept_with(left, need)
 }
-/// Adds an operator and the operand behind it to the one before it.
+/// Adds an operator and its right operand to the left one.
 fn add_operand(
     alloc: Global,
     left: &mut Expr,
@@ -37,7 +37,8 @@ fn add_operand(
     let need = need.max(more) + 1;
     Ok(need)
 }
-/// Adds an operator and what stands behind it, in parentheses where it has to be.
+/// Makes a chain of the left operand, an operator and the right operand. The operands have the
+/// parentheses that they need.
 fn chain(
     alloc: Global,
     left: &mut Expr,

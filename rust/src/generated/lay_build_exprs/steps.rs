@@ -1,6 +1,7 @@
 //! Made by scripts/rust.sh from crates/lay_build_exprs/src/steps.rt, which is proved: change that.
 //!
-//! Fields, methods and calls. A base is lent with the depth that it needs, and becomes the expression that has the step.
+//! Builders of field accesses, method calls and calls. The base is lent with the depth that it
+//! needs, and becomes the whole expression.
 use crate::generated::lay_build_exprs::keeping::kept_with;
 use crate::generated::lay_build_exprs::operands::{callee, operand};
 use crate::generated::lay_build_types::{
@@ -16,7 +17,7 @@ use crate::generated::lay_code::{Expr, Name, Step};
 use crate::generated::lay_text::List;
 use crate::shims::Global;
 use core::mem;
-/// A field: `a.b`.
+/// A field access: `a.b`.
 pub fn expr_field(
     alloc: Global,
     base: BuiltExpr,
@@ -27,7 +28,7 @@ pub fn expr_field(
     let need = add_field(alloc, &mut base, need, name);
     kept_with(base, need)
 }
-/// Adds a field behind a base.
+/// Adds a field access to a base.
 fn add_field(
     alloc: Global,
     base: &mut Expr,
@@ -37,7 +38,7 @@ fn add_field(
     let need = operand(alloc, base, need)?;
     stepped(alloc, base, need, Step::Field { name }, 0)
 }
-/// A call of a method: `a.b(c, d)`.
+/// A method call: `a.b(c, d)`.
 pub fn expr_method(
     alloc: Global,
     base: BuiltExpr,
@@ -49,7 +50,7 @@ pub fn expr_method(
     let need = add_method(alloc, &mut base, need, name, args);
     kept_with(base, need)
 }
-/// Adds a call of a method behind a base.
+/// Adds a method call to a base.
 fn add_method(
     alloc: Global,
     base: &mut Expr,
@@ -72,7 +73,7 @@ pub fn expr_call(
     let need = add_call(alloc, &mut base, need, args);
     kept_with(base, need)
 }
-/// Adds a call behind a base.
+/// Adds a call to a base.
 fn add_call(
     alloc: Global,
     base: &mut Expr,
@@ -83,7 +84,7 @@ fn add_call(
     let (args, more) = nodes(alloc, args)?;
     stepped(alloc, base, need, Step::Apply { args }, more)
 }
-/// Adds a step behind a base, and behind the steps that the base has, and answers the depth that this needs.
+/// Adds a step to a base, after the steps that it has, and gives the depth that the whole needs.
 fn stepped(
     alloc: Global,
     base: &mut Expr,
@@ -99,14 +100,14 @@ fn stepped(
 fn has_steps(base: &Expr) -> bool {
     matches!(base, Expr::Postfix { .. })
 }
-/// Adds a step behind a base, and behind the steps that the base has.
+/// Adds a step to a base, after the steps that it has.
 fn add_step(alloc: Global, base: &mut Expr, step: Step) -> Result<(), BuildError> {
     match base {
         Expr::Postfix { steps, .. } => keep(steps, step),
         _ => add_first_step(alloc, base, step),
     }
 }
-/// Adds a step behind a base that has none.
+/// Adds a step to a base that has none.
 fn add_first_step(alloc: Global, base: &mut Expr, step: Step) -> Result<(), BuildError> {
     let steps = one(alloc, step)?;
     let bare = mem::replace(base, Expr::Underscore);

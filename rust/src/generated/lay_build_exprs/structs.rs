@@ -1,6 +1,6 @@
 //! Made by scripts/rust.sh from crates/lay_build_exprs/src/structs.rt, which is proved: change that.
 //!
-//! Struct literals and their fields.
+//! Builders of struct literals and their fields.
 use crate::generated::lay_build_exprs::kinds::{BuiltField, NamedExpr};
 use crate::generated::lay_build_types::{
     BuildError,
@@ -34,7 +34,7 @@ pub fn expr_struct(
     let (fields, need) = nodes(alloc, fields)?;
     kept(struct_of(alloc, first, rest, fields, need))
 }
-/// A struct literal, of whose fields the deepest needs this depth by itself.
+/// A struct literal, whose deepest field needs this depth.
 fn struct_of(
     alloc: Global,
     first: Name,

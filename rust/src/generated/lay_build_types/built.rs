@@ -1,23 +1,23 @@
 //! Made by scripts/rust.sh from crates/lay_build_types/src/built.rt, which is proved: change that.
 //!
-//! Nodes that were built, and why none is.
-/// The greatest depth of what stands in a file.
+//! Nodes that were built, and the errors of building.
+/// The greatest depth of what a file holds.
 const DEPTH: u32 = 256;
-/// Why nothing is built. What the call was given is let go.
+/// Why building failed. The arguments of the call are dropped.
 #[derive(Clone, Copy, Debug, PartialEq, Eq)]
 pub enum BuildError {
-    /// The text is no name: no identifier, or `crate`, `self`, `super` or `Self`.
+    /// The text is not an identifier, or it is `_`, `crate`, `self`, `super` or `Self`.
     BadName,
-    /// The text is no UTF-8.
+    /// The text is not UTF-8.
     BadText,
-    /// The node is deeper than files may be.
+    /// The node is deeper than a file may be.
     TooDeep,
-    /// Memory was not found.
+    /// Memory could not be allocated.
     NoMemory,
 }
-/// A kind of nodes that calls build.
+/// A kind of node that can be built.
 pub trait Node {}
-/// A node that was built. Contracts see the node alone; the least depth that it needs is kept beside it.
+/// A built node. Contracts see the node only; the depth that it needs is kept beside it.
 #[derive(Clone, Debug, PartialEq, Eq)]
 pub struct Built<N: Node> {
     node: N,
@@ -28,13 +28,13 @@ impl<N: Node> Built<N> {
     pub fn node(&self) -> &N {
         &self.node
     }
-    /// The node, and the least depth that it needs.
+    /// Takes the node out, with the depth that it needs.
     pub fn into_parts(self) -> (N, u32) {
         let Built { node, need } = self;
         (node, need)
     }
 }
-/// A node that was made, with its need. It is kept where it isn't too deep.
+/// The node as a built one, unless it is too deep; `made` is the node with the depth that it needs.
 pub fn kept<
     N: Node,
 >(made: Result<(N, u32), BuildError>) -> Result<Built<N>, BuildError> {

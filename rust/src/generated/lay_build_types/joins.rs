@@ -1,11 +1,11 @@
 //! Made by scripts/rust.sh from crates/lay_build_types/src/joins.rt, which is proved: change that.
 //!
-//! What is put together, whatever it is. Where memory is wanting, all that was handed in is let go.
+//! Helpers of the builder. If memory is out, the arguments are dropped.
 use crate::generated::lay_build_types::built::BuildError;
 use crate::generated::lay_code::Boxed;
 use crate::generated::lay_text::{List, NoMemory};
 use crate::shims::Global;
-/// Two parts together, or why the first that wasn't made wasn't.
+/// The pair of two parts, or the error of the first that failed.
 pub fn both<
     A,
     B,
@@ -23,14 +23,14 @@ pub fn both<
         Err(why) => Err(why),
     }
 }
-/// A box of a node.
+/// Boxes a node.
 pub fn boxed<T>(alloc: Global, node: T) -> Result<Boxed<T>, BuildError> {
     match Boxed::new(alloc, node) {
         Ok(boxed) => Ok(boxed),
         Err(NoMemory) => Err(BuildError::NoMemory),
     }
 }
-/// Adds an item at the end of a list.
+/// Appends an item to a list.
 pub fn keep<T>(list: &mut List<T>, item: T) -> Result<(), BuildError> {
     match list.push(item) {
         Ok(()) => Ok(()),

@@ -1,19 +1,19 @@
 //! Made by scripts/rust.sh from crates/lay_build_types/src/kinds.rt, which is proved: change that.
 //!
-//! The kinds of nodes that are built.
+//! The kinds of nodes that can be built.
 use crate::generated::lay_build_types::built::{Built, Node};
 use crate::generated::lay_code::{Block, Expr, Item, Name, Stmt, Ty};
-/// A name that was built.
+/// A built name.
 pub type BuiltName = Built<Name>;
-/// A type that was built.
+/// A built type.
 pub type BuiltType = Built<Ty>;
-/// An expression that was built.
+/// A built expression.
 pub type BuiltExpr = Built<Expr>;
-/// A statement that was built.
+/// A built statement.
 pub type BuiltStmt = Built<Stmt>;
-/// A block that was built.
+/// A built block.
 pub type BuiltBlock = Built<Block>;
-/// An item that was built.
+/// A built item.
 pub type BuiltItem = Built<Item>;
 impl Node for Name {}
 impl Node for Ty {}

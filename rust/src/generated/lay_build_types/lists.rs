@@ -1,11 +1,11 @@
 //! Made by scripts/rust.sh from crates/lay_build_types/src/lists.rt, which is proved: change that.
 //!
-//! Lists of nodes that were built.
+//! Lists of built nodes.
 use crate::generated::lay_build_types::built::{BuildError, Built, Node};
 use crate::generated::lay_build_types::joins::keep;
 use crate::generated::lay_text::List;
 use crate::shims::Global;
-/// The nodes of a list, and the greatest depth that one needs.
+/// The nodes of a list, and the greatest depth that one of them needs.
 pub fn nodes<
     N: Node,
 >(alloc: Global, list: List<Built<N>>) -> Result<(List<N>, u32), BuildError> {
@@ -20,7 +20,7 @@ pub fn nodes<
     }
     Ok((nodes, need))
 }
-/// The node that may be there, and the depth that it needs.
+/// The optional node, and the depth that it needs.
 pub fn part_or_none<N: Node>(built: Option<Built<N>>) -> (Option<N>, u32) {
     match built {
         Some(built) => {
@@ -30,12 +30,12 @@ pub fn part_or_none<N: Node>(built: Option<Built<N>>) -> (Option<N>, u32) {
         None => (None, 0),
     }
 }
-/// A node of which another one is made.
+/// A node that can be turned into a node of type `M`.
 pub trait Turns<M> {
-    /// Makes it.
+    /// Turns the node.
     fn turn(self, alloc: Global) -> Result<M, BuildError>;
 }
-/// What is made of each node of a list.
+/// Turns each node of a list.
 pub fn turn_all<
     N: Turns<M>,
     M,

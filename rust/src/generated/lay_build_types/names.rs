@@ -1,6 +1,6 @@
 //! Made by scripts/rust.sh from crates/lay_build_types/src/names.rt, which is proved: change that.
 //!
-//! Names, and the paths that they make.
+//! Builders of names, and of paths of names.
 use crate::generated::lay_build_types::built::{BuildError, kept};
 use crate::generated::lay_build_types::joins::keep;
 use crate::generated::lay_build_types::kinds::BuiltName;
@@ -10,8 +10,8 @@ use crate::generated::lay_piece::{Class, Kind, piece_at, word_class};
 use crate::generated::lay_text::{List, NoMemory, Text};
 use crate::shims::Global;
 use core::str;
-/// The name that a text is; a keyword is written as a raw identifier. BadName comes where the text is no identifier, and of
-/// `_`, `crate`, `self`, `super` and `Self`.
+/// A name; a keyword becomes a raw identifier. The error is `BadName` if the text is not an
+/// identifier, or is `_`, `crate`, `self`, `super` or `Self`.
 pub fn name(alloc: Global, text: &[u8]) -> Result<BuiltName, BuildError> {
     if !is_identifier(text) || is_path_word(text) {
         return Err(BuildError::BadName);
@@ -38,11 +38,11 @@ fn is_identifier(text: &[u8]) -> bool {
 fn is_ident(kind: Kind) -> bool {
     matches!(kind, Kind::Ident)
 }
-/// Whether words of this class are names where they are raw alone.
+/// Whether words of this class can only be names as raw identifiers.
 fn is_raw(class: Class) -> bool {
     matches!(class, Class::Strict | Class::Reserved)
 }
-/// The path of these names, the last with these arguments.
+/// The path of these names; the last one has these generic arguments.
 pub fn path(
     alloc: Global,
     first: Name,
@@ -52,7 +52,7 @@ pub fn path(
     let segments = segments(alloc, first, rest, arguments)?;
     Ok(Path { start: PathStart::Local, segments })
 }
-/// The segments of a path of these names, the last with these arguments.
+/// The segments of a path of these names; the last one has these generic arguments.
 fn segments(
     alloc: Global,
     first: Name,
@@ -70,7 +70,7 @@ fn segments(
     keep(&mut segments, (word(last), arguments))?;
     Ok(segments)
 }
-/// The word that a name is.
+/// The name as a word of a path.
 fn word(name: Name) -> Word {
     let Name { raw, text } = name;
     Word { raw, text }

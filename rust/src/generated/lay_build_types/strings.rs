@@ -1,17 +1,17 @@
 //! Made by scripts/rust.sh from crates/lay_build_types/src/strings.rt, which is proved: change that.
 //!
-//! String literals.
+//! Builders of string literals.
 use crate::generated::lay_build_types::built::BuildError;
 use crate::generated::lay_text::{NoMemory, Text};
 use crate::shims::Global;
-/// The string literal whose value a text is.
+/// The string literal whose value is this text.
 pub fn string_literal(alloc: Global, text: &[u8]) -> Result<Text, BuildError> {
     match quoted(alloc, text) {
         Ok(literal) => Ok(literal),
         Err(NoMemory) => Err(BuildError::NoMemory),
     }
 }
-/// The text in quotes, each byte escaped that has to be.
+/// The text in quotes, with the bytes escaped that need it.
 fn quoted(alloc: Global, text: &[u8]) -> Result<Text, NoMemory> {
     let mut literal = Text::new(alloc);
     literal.push(b'"')?;
@@ -21,7 +21,7 @@ fn quoted(alloc: Global, text: &[u8]) -> Result<Text, NoMemory> {
     literal.push(b'"')?;
     Ok(literal)
 }
-/// Adds a byte, escaped if it has to be.
+/// Appends a byte, escaped if it needs it.
 fn push_escaped(literal: &mut Text, byte: u8) -> Result<(), NoMemory> {
     match byte {
         b'"' => literal.push_bytes(b"\\\""),

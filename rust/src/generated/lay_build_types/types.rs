@@ -1,6 +1,6 @@
 //! Made by scripts/rust.sh from crates/lay_build_types/src/types.rt, which is proved: change that.
 //!
-//! Types.
+//! Builders of types.
 use crate::generated::lay_build_types::built::{BuildError, kept};
 use crate::generated::lay_build_types::joins::boxed;
 use crate::generated::lay_build_types::kinds::{BuiltName, BuiltType};
@@ -9,7 +9,7 @@ use crate::generated::lay_build_types::names::path;
 use crate::generated::lay_code::{Arg, Args, Name, Ty};
 use crate::generated::lay_text::List;
 use crate::shims::Global;
-/// The type of a path of names, the last with these arguments, if there are any: `a::B<C, D>`.
+/// A path as a type; the last name has these generic arguments, if there are any: `a::B<C, D>`.
 pub fn type_path(
     alloc: Global,
     first: BuiltName,
@@ -21,7 +21,7 @@ pub fn type_path(
     let (args, need) = nodes(alloc, args)?;
     kept(path_type(alloc, first, rest, args, need))
 }
-/// The type of a path of names whose arguments need this depth.
+/// A path as a type, whose generic arguments need this depth.
 fn path_type(
     alloc: Global,
     first: Name,
@@ -33,7 +33,7 @@ fn path_type(
     let path = path(alloc, first, rest, arguments)?;
     Ok((Ty::Path { path }, need + 1))
 }
-/// The generic arguments that these types are, or none.
+/// The generic arguments of these types, or none.
 fn type_args(alloc: Global, args: List<Ty>) -> Result<Args, BuildError> {
     if args.as_slice().is_empty() {
         return Ok(Args::None);
@@ -46,7 +46,7 @@ impl Turns<Arg> for Ty {
         Ok(Arg::Plain { ty: self })
     }
 }
-/// A reference: `&A` or, where what it refers to may be written, `&mut A`.
+/// A reference type: `&A`, or `&mut A` if `writable`.
 pub fn type_ref(
     alloc: Global,
     writable: bool,
@@ -55,7 +55,7 @@ pub fn type_ref(
     let (inner, need) = of.into_parts();
     kept(reference(alloc, writable, inner, need))
 }
-/// A reference to a type that needs this depth.
+/// A reference type of a type that needs this depth.
 fn reference(
     alloc: Global,
     mutable: bool,
@@ -66,7 +66,7 @@ fn reference(
     let ty = Ty::Ref { lifetime: None, mutable, inner };
     Ok((ty, need + 1))
 }
-/// A tuple: `(A, B)`.
+/// A tuple type: `(A, B)`.
 pub fn type_tuple(
     alloc: Global,
     parts: List<BuiltType>,

@@ -20,7 +20,7 @@ pub struct Block {
     pub stmts: List<Stmt>,
 }
 impl Block {
-    /// The statements.
+    /// Takes the statements out of the block.
     pub fn into_stmts(self) -> List<Stmt> {
         let Block { attrs: _, stmts } = self;
         stmts
@@ -30,7 +30,7 @@ impl Block {
 #[derive(Clone, Debug, PartialEq, Eq)]
 #[non_exhaustive]
 pub enum Stmt {
-    /// `let a: B = c else { d };`, where `else` stands behind a value alone
+    /// `let a: B = c else { d };`, with an `else` only after a value
     Let {
         attrs: List<Attr>,
         pat: Pat,
@@ -50,7 +50,7 @@ pub enum Stmt {
     },
 }
 impl Stmt {
-    /// The expression, where it is one.
+    /// Takes the expression out of the statement, if it is one.
     pub fn into_expr(self) -> Option<Boxed<Expr>> {
         match self {
             Stmt::Expr { attrs: _, expr, ended: _ } => Some(expr),
@@ -58,14 +58,15 @@ impl Stmt {
         }
     }
 }
-/// A condition, and the block that it leads to (Rust Reference, "`if` and `if let` expressions").
+/// One `if` of a chain of them: a condition and its block (Rust Reference, "`if` and `if let`
+/// expressions").
 #[derive(Clone, Debug, PartialEq, Eq)]
 pub struct Branch {
     pub condition: Condition,
     pub body: Block,
 }
 impl Branch {
-    /// Its condition and its block.
+    /// Takes the condition and the block out of the branch.
     pub fn into_parts(self) -> (Condition, Block) {
         let Branch { condition, body } = self;
         (condition, body)

@@ -1,24 +1,25 @@
 //! Made by scripts/rust.sh from crates/lay_code/src/conditions.rt, which is proved: change that.
 //!
-//! Conditions: links with `&&` between them.
+//! Conditions, which may hold `let` links joined by `&&`.
 use crate::generated::lay_code::drops::{discard_boxed, discard_links};
 use crate::generated::lay_code::exprs::Expr;
 use crate::generated::lay_node::{Boxed, Pat};
 use crate::generated::lay_token::List;
-/// What decides a branch or a loop (Rust Reference, "`if` and `if let` expressions"): one link, or two or more with `&&` between
-/// them, at least one of which is a `let`. Expressions with `&&` between them are one link, a chain.
+/// The condition of an `if` or a `while` (Rust Reference, "`if` and `if let` expressions"): one
+/// link, or at least two links joined by `&&`, at least one of which is a `let`. Without a `let`,
+/// expressions joined by `&&` are one link: a `Chain`.
 #[derive(Clone, Debug, PartialEq, Eq)]
 pub struct Condition {
     pub links: List<Link>,
 }
 impl Condition {
-    /// The links.
+    /// Takes the links out of the condition.
     pub fn into_links(self) -> List<Link> {
         let Condition { links } = self;
         links
     }
 }
-/// A part of a condition.
+/// A link of a condition.
 #[derive(Clone, Debug, PartialEq, Eq)]
 #[non_exhaustive]
 pub enum Link {

@@ -1,9 +1,10 @@
 //! Made by scripts/rust.sh from crates/lay_code/src/drops.rt, which is proved: change that.
 //!
-//! What is dropped with an expression, a block or an item: each node within it, down its tree.
+//! Dropping of trees: each node drops the nodes within it.
 //!
-//! What a pattern leaves would be dropped in line where its arm ends, over flags that tell what has moved. That code is dear to
-//! prove, so the nodes take themselves apart whole, and hand on each part.
+//! Parts that a pattern leaves unbound would be dropped where its match arm ends, guarded by drop
+//! flags. Such code is costly to prove. So each node is taken apart completely, and a function here
+//! drops each part.
 use crate::generated::lay_code::blocks::{Arm, Block, Branch, Stmt};
 use crate::generated::lay_code::conditions::Link;
 use crate::generated::lay_code::exprs::{Expr, FieldExpr, Step};
@@ -11,11 +12,11 @@ use crate::generated::lay_code::item::{Item, ItemKind};
 use crate::generated::lay_code::operators::Op;
 use crate::generated::lay_node::Boxed;
 use crate::generated::lay_token::List;
-/// What a box holds.
+/// Drops the boxed expression.
 pub(crate) fn discard_boxed(node: Boxed<Expr>) {
     drop(node.into_inner());
 }
-/// Each of these.
+/// Drops the expressions.
 pub(crate) fn discard_exprs(nodes: List<Expr>) {
     let mut left = nodes.into_vec();
     while let Some(node) = left.pop() {
@@ -23,7 +24,7 @@ pub(crate) fn discard_exprs(nodes: List<Expr>) {
     }
     left.destroy_empty();
 }
-/// Each of these.
+/// Drops the fields of a struct literal.
 pub(crate) fn discard_fields(nodes: List<FieldExpr>) {
     let mut left = nodes.into_vec();
     while let Some(node) = left.pop() {
@@ -31,7 +32,7 @@ pub(crate) fn discard_fields(nodes: List<FieldExpr>) {
     }
     left.destroy_empty();
 }
-/// What is behind `..`, if anything is.
+/// Drops the base of a struct literal, if there is one.
 pub(crate) fn discard_base(node: Option<Option<Boxed<Expr>>>) {
     match node {
         Some(Some(node)) => drop(node.into_inner()),
@@ -39,7 +40,7 @@ pub(crate) fn discard_base(node: Option<Option<Boxed<Expr>>>) {
         None => {}
     }
 }
-/// Each operand behind its operator.
+/// Drops the operands of a chain.
 pub(crate) fn discard_operands(nodes: List<(Op, Boxed<Expr>)>) {
     let mut left = nodes.into_vec();
     while let Some((_, node)) = left.pop() {
@@ -47,14 +48,14 @@ pub(crate) fn discard_operands(nodes: List<(Op, Boxed<Expr>)>) {
     }
     left.destroy_empty();
 }
-/// An operand, a value or a guard, if it is there.
+/// Drops an optional expression: an operand, a value or a guard.
 pub(crate) fn discard_operand(node: Option<Boxed<Expr>>) {
     match node {
         Some(node) => drop(node.into_inner()),
         None => {}
     }
 }
-/// Each target before its operator.
+/// Drops the targets of an assignment.
 pub(crate) fn discard_targets(nodes: List<(Boxed<Expr>, Op)>) {
     let mut left = nodes.into_vec();
     while let Some((node, _)) = left.pop() {
@@ -62,7 +63,7 @@ pub(crate) fn discard_targets(nodes: List<(Boxed<Expr>, Op)>) {
     }
     left.destroy_empty();
 }
-/// Each of these.
+/// Drops postfix steps.
 pub(crate) fn discard_steps(nodes: List<Step>) {
     let mut left = nodes.into_vec();
     while let Some(node) = left.pop() {
@@ -70,7 +71,7 @@ pub(crate) fn discard_steps(nodes: List<Step>) {
     }
     left.destroy_empty();
 }
-/// Each of these.
+/// Drops branches.
 pub(crate) fn discard_branches(nodes: List<Branch>) {
     let mut left = nodes.into_vec();
     while let Some(node) = left.pop() {
@@ -78,7 +79,7 @@ pub(crate) fn discard_branches(nodes: List<Branch>) {
     }
     left.destroy_empty();
 }
-/// Each of these.
+/// Drops the links of a condition.
 pub(crate) fn discard_links(nodes: List<Link>) {
     let mut left = nodes.into_vec();
     while let Some(node) = left.pop() {
@@ -86,14 +87,14 @@ pub(crate) fn discard_links(nodes: List<Link>) {
     }
     left.destroy_empty();
 }
-/// A block, if it is there.
+/// Drops an optional block.
 pub(crate) fn discard_otherwise(node: Option<Block>) {
     match node {
         Some(node) => drop(node),
         None => {}
     }
 }
-/// Each of these.
+/// Drops the arms of a match.
 pub(crate) fn discard_arms(nodes: List<Arm>) {
     let mut left = nodes.into_vec();
     while let Some(node) = left.pop() {
@@ -101,15 +102,15 @@ pub(crate) fn discard_arms(nodes: List<Arm>) {
     }
     left.destroy_empty();
 }
-/// What a box holds.
+/// Drops the boxed item.
 pub(crate) fn discard_boxed_item(node: Boxed<Item>) {
     drop(node.into_inner());
 }
-/// What a box holds.
+/// Drops the boxed kind of an item.
 pub(crate) fn discard_kind(node: Boxed<ItemKind>) {
     drop(node.into_inner());
 }
-/// Each of these.
+/// Drops statements.
 pub(crate) fn discard_stmts(nodes: List<Stmt>) {
     let mut left = nodes.into_vec();
     while let Some(node) = left.pop() {
@@ -117,7 +118,7 @@ pub(crate) fn discard_stmts(nodes: List<Stmt>) {
     }
     left.destroy_empty();
 }
-/// Each of these.
+/// Drops items.
 pub(crate) fn discard_items(nodes: List<Item>) {
     let mut left = nodes.into_vec();
     while let Some(node) = left.pop() {

@@ -1,6 +1,6 @@
 //! Made by scripts/rust.sh from crates/lay_code/src/exprs.rt, which is proved: change that.
 //!
-//! Expressions, and the places where they stand.
+//! Expressions, and the contexts that they stand in.
 use crate::generated::lay_code::blocks::{Arm, Block, Branch};
 use crate::generated::lay_code::conditions::Condition;
 use crate::generated::lay_code::drops::{
@@ -31,27 +31,38 @@ use crate::generated::lay_node::{
     Ty,
 };
 use crate::generated::lay_token::{List, Text};
-/// Whether an expression begins a statement or the body of an arm, and is the whole of it or a part.
+/// Whether an expression begins a statement or the body of an arm, and how much of it it is.
 #[derive(Clone, Copy, Debug, PartialEq, Eq)]
 pub enum Start {
+    /// It begins neither, as `b` in `a + b;`.
     No,
+    /// It is the whole, as `match a {}` in `{ match a {} }`.
     Whole,
+    /// It begins it, and more follows, as `a` in `a + b;`. What ends in a block needs parentheses
+    /// here: `(match a {}) + b;`.
     Part,
 }
-/// The place where an expression stands.
+/// The context of an expression, which decides what may stand there without parentheses.
 #[derive(Clone, Copy, Debug, PartialEq, Eq)]
 pub struct Place {
-    /// The least level of an expression that may stand here, from 0 to 14.
+    /// The least precedence level that may stand here. 0: assignments, 1: ranges, 2: `||`, 3: `&&`,
+    /// 4: comparisons, 5: `|`, 6: `^`, 7: `&`, 8: shifts, 9: `+` `-`, 10: `*` `/` `%`, 11: `as`,
+    /// 12: prefix operators, `return`, `break`, closures, 13: postfix steps, 14: the rest. The
+    /// operands of `*` have level 11: `(a + b) * c`.
     pub level: u8,
-    /// No struct literal may stand here, as in a condition.
+    /// No struct literal may stand here, as in the condition `if (A { b: c }) == d {}`, where `A {`
+    /// would be read as the condition `A` and a block.
     pub no_struct: bool,
     pub start: Start,
-    /// An operator follows.
+    /// An operator follows, so nothing may stand here that would go on with it: `(return a) + b`,
+    /// `(|| a) + b`, `(a..) = b`.
     pub op_after: bool,
-    /// The operator `<` or `<<` follows.
+    /// The operator `<` or `<<` follows, so no cast may stand here to a type for which it would
+    /// begin generic arguments: `(a as B) < c`.
     pub lt_after: bool,
 }
-/// An expression (Rust Reference, "Expressions"). One within another stands one level deeper.
+/// An expression (Rust Reference, "Expressions"). An expression within another counts one level of
+/// depth more.
 #[derive(Clone, Debug, PartialEq, Eq)]
 #[non_exhaustive]
 pub enum Expr {
@@ -63,7 +74,7 @@ pub enum Expr {
     Path {
         path: Path,
     },
-    /// `_`, on the left of an assignment
+    /// `_`, as the target of an assignment
     Underscore,
     /// `m!(a)`
     Call {
@@ -90,23 +101,24 @@ pub enum Expr {
         element: Boxed<Expr>,
         length: Tokens,
     },
-    /// `A { b: c, 0: d, e, ..f }`, where the base behind `..` may be left out
+    /// `A { b: c, 0: d, e, ..f }`; `..` may also stand without the base `f`
     Struct {
         path: Path,
         fields: List<FieldExpr>,
         base: Option<Option<Boxed<Expr>>>,
     },
-    /// `a + b - c`: operators of one level, and not the first operand's
+    /// `a + b - c`: at least one operator, all of one precedence level. The first operand binds
+    /// more tightly.
     Chain {
         first: Boxed<Expr>,
         rest: List<(Op, Boxed<Expr>)>,
     },
-    /// `a as B as C`, of one type at least
+    /// `a as B as C`, with at least one type
     Cast {
         operand: Boxed<Expr>,
         types: List<Ty>,
     },
-    /// `-*a`, of one operator at least
+    /// `-*a`, with at least one operator
     Unary {
         prefixes: List<Prefix>,
         operand: Boxed<Expr>,
@@ -117,12 +129,12 @@ pub enum Expr {
         inclusive: bool,
         end: Option<Boxed<Expr>>,
     },
-    /// `a = b += c`, of one target at least
+    /// `a = b += c`, with at least one target
     Assign {
         targets: List<(Boxed<Expr>, Op)>,
         value: Boxed<Expr>,
     },
-    /// `a.b.0.c::<D>(e)(f)[g]?.await`, of one step at least
+    /// `a.b.0.c::<D>(e)(f)[g]?.await`, with at least one step
     Postfix {
         base: Boxed<Expr>,
         steps: List<Step>,
@@ -145,7 +157,7 @@ pub enum Expr {
         moves: bool,
         body: Block,
     },
-    /// `if a { b } else if let c = d { e } else { f }`, of one branch at least
+    /// `if a { b } else if let c = d { e } else { f }`, with at least one branch
     If {
         branches: List<Branch>,
         otherwise: Option<Block>,
@@ -200,7 +212,7 @@ pub enum Expr {
     },
 }
 impl Expr {
-    /// The block, where it is one, with a label or without.
+    /// Takes the block out of the expression, if it is a block, with or without a label.
     pub fn into_block(self) -> Option<Block> {
         match self {
             Expr::Block { label: _, body } => Some(body),
@@ -231,13 +243,13 @@ pub enum FieldExpr {
         index: Text,
         value: Boxed<Expr>,
     },
-    /// `a`: the field and its value have this name
+    /// `a`, short for `a: a`
     Short {
         attrs: List<Attr>,
         name: Name,
     },
 }
-/// What follows the base of a postfix expression.
+/// A postfix step: what follows the base of a `Postfix`.
 #[derive(Clone, Debug, PartialEq, Eq)]
 #[non_exhaustive]
 pub enum Step {
@@ -255,7 +267,7 @@ pub enum Step {
         generics: Option<List<Arg>>,
         args: List<Expr>,
     },
-    /// `(a, b)`: a call
+    /// `(a, b)`: the arguments of a call
     Apply {
         args: List<Expr>,
     },

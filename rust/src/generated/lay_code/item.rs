@@ -30,15 +30,16 @@ use crate::generated::lay_node::{
     Wheres,
 };
 use crate::generated::lay_token::List;
-/// An item with its outer attributes (Rust Reference, "Items"). One within another stands one level deeper.
+/// An item with its outer attributes (Rust Reference, "Items"). An item within another counts one
+/// level of depth more.
 #[derive(Clone, Debug, PartialEq, Eq)]
 pub struct Item {
     pub attrs: List<Attr>,
-    /// Nothing, where it is a macro call or declares a macro.
+    /// `Inherited` for macro calls and macro definitions.
     pub vis: Vis,
     pub kind: Boxed<ItemKind>,
 }
-/// What an item is.
+/// The kinds of items.
 #[derive(Clone, Debug, PartialEq, Eq)]
 #[non_exhaustive]
 pub enum ItemKind {
@@ -46,11 +47,11 @@ pub enum ItemKind {
     ExternCrate {
         item: ExternCrate,
     },
-    /// `use a::{b, c};` The box keeps other items small.
+    /// `use a::{b, c};` The tree is boxed to keep `ItemKind` small.
     Import {
         tree: Boxed<UseTree>,
     },
-    /// `mod a;`, a module in a file of its own
+    /// `mod a;`, a module in another file
     FileModule {
         name: Name,
     },

@@ -1,3 +1,3 @@
 //! Made by scripts/rust.sh from crates/lay_code/src/laws.rt, which is proved: change that.
 //!
-//! What holds of every expression, item and file.
+//! The theorems about expressions, items and files. (No code runs.)

@@ -1,7 +1,7 @@
 //! Made by scripts/rust.sh from crates/lay_code/src/operators.rt, which is proved: change that.
 //!
-//! Operators of expressions.
-/// An operator between two operands (Rust Reference, "Operator expressions").
+//! Binary and prefix operators.
+/// A binary operator (Rust Reference, "Operator expressions").
 #[derive(Clone, Copy, Debug, PartialEq, Eq)]
 #[non_exhaustive]
 pub enum Op {
@@ -69,7 +69,7 @@ pub enum Op {
     Rem,
 }
 impl Op {
-    /// Its text.
+    /// The operator as it is written.
     #[inline]
     pub fn text(self) -> &'static [u8] {
         match self {
@@ -107,7 +107,8 @@ impl Op {
         }
     }
 }
-/// An operator before its operand (Rust Reference, "Borrow operators", "Dereference operator", "Negation operators").
+/// A prefix operator (Rust Reference, "Borrow operators", "Dereference operator", "Negation
+/// operators").
 #[derive(Clone, Copy, Debug, PartialEq, Eq)]
 #[non_exhaustive]
 pub enum Prefix {

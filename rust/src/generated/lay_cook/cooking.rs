@@ -1,20 +1,20 @@
 //! Made by scripts/rust.sh from crates/lay_cook/src/cooking.rt, which is proved: change that.
 //!
-//! The texts that tokens stand for.
+//! The values of string literals.
 use crate::generated::lay_cook::raw::raw_value;
 use crate::generated::lay_cook::strings::{next, push_value};
 use crate::generated::lay_token::{Kind, NoMemory, Text, Token};
 use crate::shims::Global;
-/// What a token says as a string.
+/// The value of a token as a string.
 #[derive(Debug,)]
 pub enum Cooked {
     /// The value of a string literal without suffix.
     Str(Text),
-    /// No text: the token is no string literal, or one with a suffix.
+    /// None: the token is no string literal, or one with a suffix.
     NotText,
 }
-/// The value of a string literal without suffix (Rust Reference, "String literals", "Raw string literals").
-/// Only memory can be wanting.
+/// The value of a string literal without suffix (Rust Reference, "String literals", "Raw string
+/// literals"). The only error is out of memory.
 pub fn cook(alloc: Global, token: &Token) -> Result<Cooked, NoMemory> {
     match token.kind {
         Kind::Str => cook_string(alloc, piece_of(&token.text)),
@@ -22,11 +22,11 @@ pub fn cook(alloc: Global, token: &Token) -> Result<Cooked, NoMemory> {
         _ => Ok(Cooked::NotText),
     }
 }
-/// The piece that a text holds.
+/// The text as a `str`.
 fn piece_of(text: &Text) -> &str {
     crate::shims::text(text.as_bytes())
 }
-/// The value of a string, unless it has a suffix.
+/// The value of a string literal, unless it has a suffix.
 fn cook_string(alloc: Global, piece: &str) -> Result<Cooked, NoMemory> {
     if has_suffix(piece) {
         return Ok(Cooked::NotText);
@@ -36,7 +36,7 @@ fn cook_string(alloc: Global, piece: &str) -> Result<Cooked, NoMemory> {
     push_value(&mut value, inside)?;
     Ok(Cooked::Str(value))
 }
-/// The value of a raw string, unless it has a suffix.
+/// The value of a raw string literal, unless it has a suffix.
 fn cook_raw(alloc: Global, piece: &str) -> Result<Cooked, NoMemory> {
     if has_suffix(piece) {
         return Ok(Cooked::NotText);
@@ -45,11 +45,11 @@ fn cook_raw(alloc: Global, piece: &str) -> Result<Cooked, NoMemory> {
     let value = Text::from_bytes(alloc, raw_value(quoted))?;
     Ok(Cooked::Str(value))
 }
-/// Whether a string ends in a suffix: without one, it ends in a quote or a hash.
+/// Whether a string literal ends in a suffix: without one, it ends in a quote or a `#`.
 fn has_suffix(piece: &str) -> bool {
     !(ends_in('"', piece) || ends_in('#', piece))
 }
-/// Whether the text ends in this character.
+/// Whether the text ends with this ASCII character.
 fn ends_in(mark: char, s: &str) -> bool {
     s.ends_with(mark)
 }

@@ -1,9 +1,9 @@
 //! Made by scripts/rust.sh from crates/lay_cook/src/strings.rt, which is proved: change that.
 //!
-//! The values of strings, from behind their opening quote to their end.
+//! The values of string literals; the functions get the text after the opening quote.
 use crate::generated::lay_token::piece::chars::{CharSet, behind, first};
 use crate::generated::lay_token::{NoMemory, Text};
-/// Adds the value of a string to a text.
+/// Appends the value of a string literal to a text.
 pub fn push_value(value: &mut Text, inside: &str) -> Result<(), NoMemory> {
     let mut rest = inside;
     'runs: loop {
@@ -19,12 +19,12 @@ pub fn push_value(value: &mut Text, inside: &str) -> Result<(), NoMemory> {
         }
     }
 }
-/// The characters at the front that stand for themselves, and what follows them.
+/// The leading characters that stand for themselves, and the text after them.
 fn run(s: &str) -> (&[u8], &str) {
     let rest = after_run(s);
     (&s.as_bytes()[..s.len() - rest.len()], rest)
 }
-/// What follows the characters at the front that stand for themselves.
+/// The text after the leading characters that stand for themselves.
 fn after_run(s: &str) -> &str {
     let mut rest = s;
     while let Some((c, tail)) = first(rest) {
@@ -35,15 +35,15 @@ fn after_run(s: &str) -> &str {
     }
     rest
 }
-/// Adds what an escape stands for.
+/// Appends the character that an escape stands for, if it stands for one.
 fn push_escaped(value: &mut Text, escaped: Option<char>) -> Result<(), NoMemory> {
     match escaped {
         None => Ok(()),
         Some(c) => value.push_bytes(c.encode_utf8(&mut [0; 4]).as_bytes()),
     }
 }
-/// The character that an escape stands for, behind its backslash, and what follows it. A skipped line end stands
-/// for none.
+/// The character that an escape stands for, and the text after it; `s` follows the backslash. An
+/// escaped line end stands for no character.
 fn escape(s: &str) -> (Option<char>, &str) {
     let (c, tail) = next(s);
     match c {
@@ -59,7 +59,7 @@ fn escape(s: &str) -> (Option<char>, &str) {
         _ => (Some(short_escape(c)), tail),
     }
 }
-/// The character that an escape of one letter or mark stands for.
+/// The character that an escape of one letter or mark stands for, as `\n`.
 fn short_escape(c: char) -> char {
     match c {
         'n' => '\n',
@@ -69,13 +69,13 @@ fn short_escape(c: char) -> char {
         _ => c,
     }
 }
-/// The character of the two digits behind `\x`, and what follows them.
+/// The character of the two digits after `\x`, and the text after them.
 fn byte_value(s: &str) -> (char, &str) {
     let (high, tail) = next(s);
     let (low, rest) = next(tail);
     ((16 * digit(high) + digit(low)) as char, rest)
 }
-/// The character of the digits behind `\u`, and what follows their closing brace.
+/// The character of the digits after `\u`, and the text after their closing brace.
 fn char_value(s: &str) -> (char, &str) {
     let (_, digits) = next(s);
     let mut value = 0u32;
@@ -98,7 +98,7 @@ fn digit(c: char) -> u8 {
         _ => c as u8 - 87,
     }
 }
-/// The first character of a text that has one, and what follows it.
+/// The first character of a text that isn't empty, and the text after it.
 pub fn next(s: &str) -> (char, &str) {
     match first(s) {
         Some(next) => next,

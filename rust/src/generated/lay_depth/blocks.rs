@@ -1,6 +1,6 @@
 //! Made by scripts/rust.sh from crates/lay_depth/src/blocks.rt, which is proved: change that.
 //!
-//! Blocks, statements, branches and arms.
+//! The depth of blocks, statements, branches and arms.
 use crate::generated::lay_depth::conditions::condition_depth;
 use crate::generated::lay_depth::exprs::{expr_depth, operand_depth};
 use crate::generated::lay_depth::items::item_depth;
@@ -14,14 +14,14 @@ pub(crate) fn block_depth(block: &Block) -> u32 {
     }
     most
 }
-/// The depth of a block that may be left out: 0 where it is.
+/// The depth of an optional block; 0 if there is none.
 pub(crate) fn block_or_none_depth(block: &Option<Block>) -> u32 {
     match block {
         Some(block) => block_depth(block),
         None => 0,
     }
 }
-/// The depth of a statement. The block behind an `else` stands one level deeper.
+/// The depth of a statement. The block after an `else` counts one level more.
 fn stmt_depth(stmt: &Stmt) -> u32 {
     match stmt {
         Stmt::Let { pat, ty, value, otherwise, .. } => {
@@ -36,7 +36,7 @@ fn stmt_depth(stmt: &Stmt) -> u32 {
         Stmt::Expr { expr, .. } => expr_depth(expr.get()),
     }
 }
-/// The depth of the deepest of the branches.
+/// The greatest depth of the branches.
 pub(crate) fn branches_depth(branches: &[Branch]) -> u32 {
     let mut most = 0u32;
     for branch in branches {
@@ -46,7 +46,7 @@ pub(crate) fn branches_depth(branches: &[Branch]) -> u32 {
     }
     most
 }
-/// The depth of the deepest of the arms. The body of an arm stands one level deeper.
+/// The greatest depth of the arms. The body of an arm counts one level more.
 pub(crate) fn arms_depth(arms: &[Arm]) -> u32 {
     let mut most = 0u32;
     for arm in arms {

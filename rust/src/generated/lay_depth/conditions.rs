@@ -1,6 +1,6 @@
 //! Made by scripts/rust.sh from crates/lay_depth/src/conditions.rt, which is proved: change that.
 //!
-//! Conditions and their links.
+//! The depth of conditions and their links.
 use crate::generated::lay_depth::exprs::expr_depth;
 use crate::generated::lay_depth::nodes::pat_depth;
 use crate::generated::lay_code::{Condition, Link};
@@ -8,7 +8,7 @@ use crate::generated::lay_code::{Condition, Link};
 pub(crate) fn condition_depth(condition: &Condition) -> u32 {
     links_depth(condition.links.as_slice())
 }
-/// The depth of the deepest of the links.
+/// The greatest depth of the links.
 fn links_depth(links: &[Link]) -> u32 {
     let mut most = 0u32;
     for link in links {

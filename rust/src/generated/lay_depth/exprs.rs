@@ -1,6 +1,6 @@
 //! Made by scripts/rust.sh from crates/lay_depth/src/exprs.rt, which is proved: change that.
 //!
-//! Expressions, and the fields and steps that they are made of.
+//! The depth of expressions, and of their fields and steps.
 use crate::generated::lay_depth::blocks::{
     arms_depth,
     block_depth,
@@ -19,7 +19,7 @@ use crate::generated::lay_depth::nodes::{
 };
 use crate::generated::lay_code::{ClosureParam, Expr, FieldExpr, Op, Step};
 use crate::generated::lay_node::Boxed;
-/// The depth of an expression, counted up to the greatest number of 32 bits. The body of a closure stands one level deeper.
+/// The depth of an expression, at most `u32::MAX`. The body of a closure counts one level more.
 pub fn expr_depth(expr: &Expr) -> u32 {
     match expr {
         Expr::Lit { .. } | Expr::Underscore | Expr::Call { .. }
@@ -80,7 +80,7 @@ pub fn expr_depth(expr: &Expr) -> u32 {
         }
     }
 }
-/// The depth of the deepest of the expressions.
+/// The greatest depth of the expressions.
 fn exprs_depth(exprs: &[Expr]) -> u32 {
     let mut most = 0u32;
     for expr in exprs {
@@ -88,14 +88,14 @@ fn exprs_depth(exprs: &[Expr]) -> u32 {
     }
     most
 }
-/// The depth of an expression that may be left out: 0 where it is.
+/// The depth of an optional expression; 0 if there is none.
 pub(crate) fn operand_depth(operand: &Option<Boxed<Expr>>) -> u32 {
     match operand {
         Some(operand) => expr_depth(operand.get()),
         None => 0,
     }
 }
-/// The depth of the deepest operand behind an operator.
+/// The greatest depth of the operands of a chain.
 fn operands_depth(operands: &[(Op, Boxed<Expr>)]) -> u32 {
     let mut most = 0u32;
     for (_, operand) in operands {
@@ -103,7 +103,7 @@ fn operands_depth(operands: &[(Op, Boxed<Expr>)]) -> u32 {
     }
     most
 }
-/// The depth of the deepest target of an assignment.
+/// The greatest depth of the targets of an assignment.
 fn targets_depth(targets: &[(Boxed<Expr>, Op)]) -> u32 {
     let mut most = 0u32;
     for (target, _) in targets {
@@ -111,7 +111,7 @@ fn targets_depth(targets: &[(Boxed<Expr>, Op)]) -> u32 {
     }
     most
 }
-/// The depth of the deepest field of a struct literal.
+/// The greatest depth of the fields of a struct literal.
 fn fields_depth(fields: &[FieldExpr]) -> u32 {
     let mut most = 0u32;
     for field in fields {
@@ -128,7 +128,7 @@ fn field_depth(field: &FieldExpr) -> u32 {
         FieldExpr::Short { .. } => 0,
     }
 }
-/// The depth of the base of a struct literal, and 0 without one.
+/// The depth of the base of a struct literal; 0 if there is none.
 fn base_depth(base: &Option<Option<Boxed<Expr>>>) -> u32 {
     match base {
         Some(base) => {
@@ -140,7 +140,7 @@ fn base_depth(base: &Option<Option<Boxed<Expr>>>) -> u32 {
         None => 0,
     }
 }
-/// The depth of the deepest of the steps behind an expression.
+/// The greatest depth of the postfix steps.
 fn steps_depth(steps: &[Step]) -> u32 {
     let mut most = 0u32;
     for step in steps {
@@ -163,7 +163,7 @@ fn step_depth(step: &Step) -> u32 {
         Step::Index { index } => expr_depth(index.get()),
     }
 }
-/// The depth of the deepest of the parameters of a closure.
+/// The greatest depth of the parameters of a closure.
 fn params_depth(params: &[ClosureParam]) -> u32 {
     let mut most = 0u32;
     for param in params {

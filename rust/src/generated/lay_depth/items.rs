@@ -1,6 +1,6 @@
 //! Made by scripts/rust.sh from crates/lay_depth/src/items.rt, which is proved: change that.
 //!
-//! Items.
+//! The depth of items.
 use crate::generated::lay_depth::blocks::block_or_none_depth;
 use crate::generated::lay_depth::exprs::operand_depth;
 use crate::generated::lay_depth::nodes::{
@@ -21,7 +21,7 @@ use crate::generated::lay_code::{Item, ItemKind};
 pub(crate) fn item_depth(item: &Item) -> u32 {
     deeper(kind_depth(item.kind.get()))
 }
-/// The depth of the deepest of the items.
+/// The greatest depth of the items.
 pub(crate) fn items_depth(items: &[Item]) -> u32 {
     let mut most = 0u32;
     for item in items {
@@ -29,7 +29,7 @@ pub(crate) fn items_depth(items: &[Item]) -> u32 {
     }
     most
 }
-/// The depth of what an item is.
+/// The depth of an item without its attributes and its visibility.
 fn kind_depth(kind: &ItemKind) -> u32 {
     match kind {
         ItemKind::ExternCrate { .. } | ItemKind::FileModule { .. }

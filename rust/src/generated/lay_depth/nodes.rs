@@ -1,10 +1,11 @@
 //! Made by scripts/rust.sh from crates/lay_depth/src/nodes.rt, which is proved: change that.
 //!
-//! How deep the nodes are that hold no expression.
+//! The nesting depth of nodes that hold no expression.
 //!
-//! Each type, pattern, expression, use tree and item stands one level below what holds it. The depth of a node is the
-//! least at which some tokens spell it: that of its form, which `lay_form` defines. It is counted here by one walk over
-//! the node, which takes as much of the stack as the node is deep and no memory.
+//! Each type, pattern, expression, use tree and item counts one level more than what holds it. The
+//! depth of a node is the least depth limit at which some tokens spell it: that of its form, which
+//! `lay_form` defines. It is counted in one walk over the node, which needs stack in proportion to
+//! the depth and allocates nothing.
 mod functions;
 mod generics;
 mod heads;

@@ -5,17 +5,17 @@ use crate::shims::Vec;
 use crate::generated::lay_io::{Failed, Sink};
 use crate::generated::lay_token::List;
 use crate::shims::Global;
-/// A sink that keeps what is written. A write for which no memory is found keeps nothing, and fails.
+/// A sink that keeps what is written. If memory is out, a write keeps nothing and fails.
 pub struct Keeper {
     bytes: Vec<u8>,
     faults: u64,
 }
 impl Keeper {
-    /// Nothing is written yet. It takes no memory.
+    /// An empty sink. It doesn't allocate.
     pub fn new(alloc: Global) -> Keeper {
         Keeper { bytes: Vec::new(alloc), faults: 0 }
     }
-    /// What was written.
+    /// Takes what was written.
     pub fn into_list(self) -> List<u8> {
         List::from_vec(self.bytes)
     }

@@ -1,12 +1,13 @@
 //! Made by scripts/rust.sh from crates/lay_files/src/laid.rt, which is proved: change that.
 //!
-//! What is laid out as a file.
+//! What has the layout of a file.
 use crate::generated::lay_code::{Expr, File};
 use crate::generated::lay_out_code::{put_enclosed_constant, put_file};
 use crate::generated::lay_stream::Emit;
-/// What is laid out as a file: a file itself, and an expression as the constant of it with each part in parentheses.
+/// What has the layout of a file: a file, or an expression, which stands for the constant with each
+/// of its parts in parentheses.
 pub(crate) trait Laid {
-    /// Feeds its layout.
+    /// Emits the layout of the file.
     fn put<E: Emit>(&self, out: &mut E) -> Result<(), E::Fault>;
 }
 impl Laid for File {

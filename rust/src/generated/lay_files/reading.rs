@@ -1,6 +1,6 @@
 //! Made by scripts/rust.sh from crates/lay_files/src/reading.rt, which is proved: change that.
 //!
-//! From bytes to the tree of a file.
+//! Parsing of whole files.
 use crate::generated::lay_files::windows::read_source;
 use crate::generated::lay_code::File;
 use crate::generated::lay_lex::{Source, lex, normalise};
@@ -8,29 +8,30 @@ use crate::generated::lay_nest::nest;
 use crate::generated::lay_read_tokens::ReadNone;
 use crate::generated::lay_token::{FormatError, NoMemory, Place2, Refusal, place_of};
 use crate::shims::Global;
-/// Why bytes read to no file.
+/// Why parsing failed.
 #[derive(Clone, Copy, Debug, PartialEq, Eq,)]
 pub enum FileError {
-    /// They are refused at this place: in the bytes themselves where they are no UTF-8, else in the text that is lexed,
-    /// which has no byte order mark and in which each CR LF is one LF.
+    /// A syntax error at this place. It counts in the bytes themselves if they aren't UTF-8, else
+    /// in the text that is lexed, which has no byte order mark and one LF for each CR LF.
     Refused {
         refusal: Refusal,
         place: Place2,
     },
-    /// Memory was not found.
+    /// Memory could not be allocated.
     NoMemory,
 }
-/// The items of a file stand at this depth.
+/// The depth limit of the items of a file.
 pub const DEPTH: u32 = 256;
-/// The one file that the bytes read to, or their refusal and its place: bytes that are no UTF-8, a place where there is
-/// no token, a delimiter without a partner, or tokens that spell no file.
+/// Parses the bytes as a file. The syntax errors: bytes that aren't UTF-8, a place where no token
+/// begins, a delimiter without a partner, and tokens that spell no file.
 pub fn read_bytes(alloc: Global, bytes: &[u8]) -> Result<File, FileError> {
     read_within(alloc, bytes, DEPTH)
 }
-/// The same where the items of the file stand at this depth. No more of the stack is taken than a file of this depth needs,
-/// whatever the bytes are.
+/// Parses the bytes as a file whose items fit in `depth` levels. It needs no more stack than a file
+/// of that depth, whatever the bytes are.
 ///
-/// It is read by windows of tokens first. Where that reads none, it is read from all its tokens, which tells why there is none.
+/// The bytes are read window by window first. If that reads no file, they are parsed from all their
+/// tokens, which gives the syntax error if there is one.
 pub fn read_within(alloc: Global, bytes: &[u8], depth: u32) -> Result<File, FileError> {
     let source = match normalise(alloc, bytes) {
         Ok(source) => source,
@@ -47,7 +48,7 @@ pub fn read_within(alloc: Global, bytes: &[u8], depth: u32) -> Result<File, File
     }
     read_tokens(alloc, source, depth)
 }
-/// The same of the text of some bytes, which is read from all its tokens.
+/// Parses a prepared text from all its tokens.
 pub(crate) fn read_tokens(
     alloc: Global,
     source: Source,
@@ -71,7 +72,7 @@ pub(crate) fn read_tokens(
         Err(error) => Err(placed(error, source.text.as_slice())),
     }
 }
-/// The error with the place of its refusal, which is counted in this text.
+/// The error with the place of a syntax error, which is counted in this text.
 pub(crate) fn placed(error: FormatError, text: &[u8]) -> FileError {
     match error {
         FormatError::Refused(refusal) => {
@@ -80,7 +81,7 @@ pub(crate) fn placed(error: FormatError, text: &[u8]) -> FileError {
         FormatError::NoMemory => FileError::NoMemory,
     }
 }
-/// The place at which these bytes have this refusal, as [`read_bytes`] tells it.
+/// The place of this syntax error of the bytes, as [`read_bytes`] gives it.
 pub fn refused_at(
     alloc: Global,
     bytes: &[u8],
@@ -92,7 +93,7 @@ pub fn refused_at(
         Err(FormatError::NoMemory) => Err(NoMemory),
     }
 }
-/// The number of the byte at which an input is refused.
+/// The byte offset of a syntax error.
 fn number(refusal: Refusal) -> usize {
     match refusal {
         Refusal::NotUtf8 { at } | Refusal::NoToken { at } | Refusal::Unbalanced { at }

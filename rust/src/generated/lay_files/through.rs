@@ -1,6 +1,6 @@
 //! Made by scripts/rust.sh from crates/lay_files/src/through.rt, which is proved: change that.
 //!
-//! From bytes to the text of their file, where no tree of the file stands in memory.
+//! Formatting of bytes without a tree of the whole file.
 use crate::generated::lay_files::keep::Keeper;
 use crate::generated::lay_files::reading::{DEPTH, FileError, placed, read_tokens};
 use crate::generated::lay_files::streamed::{NotPut, put_source, told};
@@ -12,10 +12,11 @@ use crate::generated::lay_printer::{Core, Press, PrintError};
 use crate::generated::lay_read_tokens::ReadNone;
 use crate::generated::lay_token::{List, NoMemory};
 use crate::shims::Global;
-/// The text of the one file that the bytes read to, or their refusal and its place.
+/// Formats the bytes, or gives the syntax error and its place.
 ///
-/// What a window of tokens holds is laid out and given back before the next window is lexed. The text is kept until all was read.
-/// Where it isn't read by windows, it is read from all its tokens, which tells why there is none.
+/// The items in a window of tokens are laid out and dropped before the next window is lexed. The
+/// text is kept until everything was read. If the bytes can't be read window by window, they are
+/// parsed from all tokens, which gives the syntax error if there is one.
 pub fn format_bytes(alloc: Global, bytes: &[u8]) -> Result<List<u8>, FileError> {
     let source = match normalise(alloc, bytes) {
         Ok(source) => source,
@@ -27,7 +28,7 @@ pub fn format_bytes(alloc: Global, bytes: &[u8]) -> Result<List<u8>, FileError> 
         Err(ReadNone::NoReading) => format_tokens(alloc, source),
     }
 }
-/// The same of the text of some bytes, which is read from all its tokens.
+/// Formats a prepared text, parsed from all its tokens.
 fn format_tokens(alloc: Global, source: Source) -> Result<List<u8>, FileError> {
     let file = match read_tokens(alloc, source, DEPTH) {
         Ok(file) => file,
@@ -38,7 +39,7 @@ fn format_tokens(alloc: Global, source: Source) -> Result<List<u8>, FileError> {
         Err(NoMemory) => Err(FileError::NoMemory),
     }
 }
-/// The text of the file that a source spells, where it is read by windows.
+/// Formats a prepared text window by window, if it can be read so.
 fn format_source(alloc: Global, source: &Source) -> Result<List<u8>, ReadNone> {
     let mut keeper = Keeper::new(alloc);
     match write_source(alloc, source, &mut keeper) {
@@ -47,7 +48,8 @@ fn format_source(alloc: Global, source: &Source) -> Result<List<u8>, ReadNone> {
         Err(NotPut::NoMemory | NotPut::Fault(_)) => Err(ReadNone::NoMemory),
     }
 }
-/// Writes the text of the file that a source spells, where it is read by windows. Else what was written says nothing.
+/// Writes the formatted text window by window, if it can be read so. Otherwise what was written
+/// says nothing.
 fn write_source<
     K: Sink,
 >(alloc: Global, source: &Source, out: &mut K) -> Result<(), NotPut<PrintError>> {

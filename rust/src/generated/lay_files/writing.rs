@@ -1,6 +1,6 @@
 //! Made by scripts/rust.sh from crates/lay_files/src/writing.rt, which is proved: change that.
 //!
-//! From the tree of a file to its text.
+//! Formatting of trees: from a file to its text.
 use crate::generated::lay_files::keep::Keeper;
 use crate::generated::lay_files::laid::Laid;
 use crate::generated::lay_code::{Expr, File};
@@ -26,12 +26,12 @@ pub fn write_file<
 >(alloc: Global, file: &File, out: &mut K) -> Result<(), PrintError> {
     write_laid(alloc, file, out)
 }
-/// The text of what is laid out as a file.
+/// The text of what has the layout of a file.
 fn laid_text<L: Laid>(alloc: Global, node: &L) -> Result<Text, NoMemory> {
     let bytes = laid_bytes(alloc, node)?;
     Text::from_bytes(alloc, bytes.as_slice())
 }
-/// The same, as a list of its bytes.
+/// The text of what has the layout of a file, as a list of bytes.
 fn laid_bytes<L: Laid>(alloc: Global, node: &L) -> Result<List<u8>, NoMemory> {
     let mut keeper = Keeper::new(alloc);
     match write_laid(alloc, node, &mut keeper) {
@@ -39,7 +39,7 @@ fn laid_bytes<L: Laid>(alloc: Global, node: &L) -> Result<List<u8>, NoMemory> {
         Err(PrintError::WriteFailed | PrintError::NoMemory) => Err(NoMemory),
     }
 }
-/// Writes the text of what is laid out as a file, piece by piece.
+/// Writes the text of what has the layout of a file, piece by piece.
 fn write_laid<
     L: Laid,
     K: Sink,

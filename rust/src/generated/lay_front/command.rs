@@ -14,35 +14,37 @@ use crate::generated::lay_printer::PrintError;
 use crate::generated::lay_token::{List, NoMemory, Refusal, Text};
 use crate::shims::Global;
 use core::mem::forget;
-/// How a run comes out.
+/// How a run of the command ended.
 #[derive(Clone, Copy, Debug, PartialEq, Eq,)]
 pub enum Status {
-    /// The text was written whole; or the input was checked, and is its text; or its map was written whole; or the sample was summed
-    /// up.
+    /// The text was written completely; or the input was checked and is formatted; or its map was
+    /// written completely; or the sample was summed up.
     Done,
-    /// The input was checked, and isn't its text. Nothing was written.
+    /// The input was checked and isn't formatted. Nothing was written.
     Differs,
-    /// The words are no line of the command. Nothing was read.
+    /// The words are no command line. Nothing was read.
     Usage,
     /// A read failed. Nothing was written.
     ReadFailed,
-    /// The input reads to no file. Nothing was written.
+    /// The input has a syntax error. Nothing was written.
     Refused(Refusal),
-    /// A write failed. A prefix of what is to be written was written.
+    /// A write failed. A prefix of the output was written.
     WriteFailed,
     /// The input holds more than 16 MiB. Nothing was written.
     TooLong,
-    /// Memory was not found. A prefix of what is to be written was written.
+    /// Memory could not be allocated. A prefix of the output was written.
     NoMemory,
 }
 /// The greatest input of the command, in bytes.
 pub const LIMIT: usize = 16_777_216;
-/// Runs the command with its words, without the program's name: `[FILE]` writes the text of an input to `out`,
-/// `--check [FILE]` tells whether the input is its text, `--map [FILE]` writes where what the input says stands in its text, and
-/// `--sample SEED --items N` makes a sample, formats it, and writes one line that sums it up. Every other outcome is told in one
-/// line on `err`.
+/// Runs the command with its words, without the program's name: `[FILE]` writes the formatted text
+/// of an input to `out`, `--check [FILE]` checks whether the input is formatted, `--map [FILE]`
+/// writes where the parts of the input are in its formatted text, and `--sample SEED --items N`
+/// makes a sample, formats it, and writes one line that sums it up. For every other outcome one
+/// line is written to `err`.
 ///
-/// The program is to end behind its run: what an input was read to isn't taken apart, and its memory not given back.
+/// The program has to end after the run: the tree of an input isn't dropped, and its memory isn't
+/// freed.
 pub fn run<
     I: Inputs,
     K: Sink,
@@ -52,7 +54,7 @@ pub fn run<
     tell(ended, err);
     status_after(ended)
 }
-/// The status of a run that ended so.
+/// The status of a run that ended like this.
 fn status_after(ended: Result<(), Stop>) -> Status {
     match ended {
         Ok(()) => Status::Done,
@@ -79,7 +81,7 @@ fn execute<
         Err(NoMemory) => Err(Stop::NoMemory),
     }
 }
-/// Writes the text of an input.
+/// Writes the formatted text of an input.
 fn format_input<
     I: Inputs,
     K: Sink,
@@ -96,7 +98,7 @@ fn format_input<
         Err(PrintError::NoMemory) => Err(Stop::NoMemory),
     }
 }
-/// Compares an input with its text.
+/// Compares an input with its formatted text.
 fn check_input<
     I: Inputs,
 >(alloc: Global, which: Which, inputs: &mut I) -> Result<(), Stop> {
@@ -112,7 +114,7 @@ fn check_input<
         Err(NoMemory) => Err(Stop::NoMemory),
     }
 }
-/// Writes where what an input says stands in its text.
+/// Writes the map from an input to its formatted text.
 fn map_input<
     I: Inputs,
     K: Sink,
@@ -129,7 +131,7 @@ fn map_input<
         Err(PrintError::NoMemory) => Err(Stop::NoMemory),
     }
 }
-/// The bytes of an input, and the file that they read to.
+/// Reads an input, and parses it; gives its bytes and the file.
 fn read_input<
     I: Inputs,
 >(alloc: Global, which: Which, inputs: &mut I) -> Result<(List<u8>, File), Stop> {

@@ -1,14 +1,14 @@
 //! Made by scripts/rust.sh from crates/lay_front/src/compare.rt, which is proved: change that.
 //!
-//! A text against the bytes that are expected of it.
+//! Comparison of the text of a file with bytes.
 use crate::generated::lay_code::File;
 use crate::generated::lay_files::write_file;
 use crate::generated::lay_io::{Failed, Sink};
 use crate::generated::lay_printer::PrintError;
 use crate::generated::lay_token::{List, NoMemory};
 use crate::shims::Global;
-/// Whether the text of a file is these bytes. The text isn't kept: it is compared as it is made, and no more of it is
-/// made than up to the first byte that differs.
+/// Whether the text of a file is these bytes. The text isn't kept: it is compared as it is made,
+/// and only made up to the first byte that differs.
 pub fn is_text(alloc: Global, file: &File, bytes: List<u8>) -> Result<bool, NoMemory> {
     let mut comparer = Comparer::new(bytes);
     match write_file(alloc, file, &mut comparer) {
@@ -17,22 +17,22 @@ pub fn is_text(alloc: Global, file: &File, bytes: List<u8>) -> Result<bool, NoMe
         Err(PrintError::NoMemory) => Err(NoMemory),
     }
 }
-/// A sink that compares what is written with the bytes that are expected, and keeps none of it but the first byte that
-/// is wrong. There it fails, and so does each later write.
+/// A sink that compares what is written with the expected bytes, and keeps nothing of it but the
+/// first byte that is wrong. That write fails, and so does each later one.
 struct Comparer {
     expected: List<u8>,
-    /// How many of the bytes have been met.
+    /// How many of the expected bytes were written.
     met: usize,
-    /// The first wrong byte, which stands behind those that were met.
+    /// The first wrong byte, which was written after those.
     wrong: Option<u8>,
     faults: u64,
 }
 impl Comparer {
-    /// Nothing is written yet. It takes no memory.
+    /// A comparer to which nothing was written. It doesn't allocate.
     fn new(expected: List<u8>) -> Comparer {
         Comparer { expected, met: 0, wrong: None, faults: 0 }
     }
-    /// Whether what was written is all that is expected, and nothing else.
+    /// Whether exactly the expected bytes were written.
     fn has_met_all(&self) -> bool {
         match self.wrong {
             None => self.met == self.expected.as_slice().len(),
@@ -57,7 +57,7 @@ impl Sink for Comparer {
         Err(Failed)
     }
 }
-/// How many bytes at the front of a piece are those that are expected.
+/// The length of the common prefix of a piece and the expected bytes.
 fn same_front(piece: &[u8], expected: &[u8]) -> usize {
     for number in 0..piece.len().min(expected.len()) {
         if piece[number] != expected[number] {

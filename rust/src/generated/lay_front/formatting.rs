@@ -1,40 +1,40 @@
 //! Made by scripts/rust.sh from crates/lay_front/src/formatting.rt, which is proved: change that.
 //!
-//! From bytes to laid-out bytes in a sink.
+//! Formatting of bytes and of trees, to a text or to a sink.
 use crate::generated::lay_code::File;
 use crate::generated::lay_files::{FileError, read_bytes, text_of, write_file};
 use crate::generated::lay_io::Sink;
 use crate::generated::lay_printer::PrintError;
 use crate::generated::lay_token::{FormatError, NoMemory, Refusal, Text};
 use crate::shims::Global;
-/// Why a text wasn't written whole.
+/// Why a text wasn't written completely.
 #[derive(Clone, Copy, Debug, PartialEq, Eq,)]
 pub enum IntoError {
-    /// The bytes read to no file. Nothing was written.
+    /// The bytes have a syntax error. Nothing was written.
     Refused(Refusal),
     /// A write failed. A prefix of the text was written.
     WriteFailed,
-    /// Memory was not found. A prefix of the text was written.
+    /// Memory could not be allocated. A prefix of the text was written.
     NoMemory,
 }
-/// The text of the file that the bytes read to, which reads to the same file. Refused comes exactly where they are
-/// refused.
+/// Formats the bytes. The text parses to the same file as the bytes. `Refused` is given exactly if
+/// the bytes have a syntax error.
 pub fn format(alloc: Global, bytes: &[u8]) -> Result<Text, FormatError> {
     format_text(alloc, bytes)
 }
-/// The text of a file that can be written, which reads to the file. Whether a file can be written is told by
-/// `is_written` of `lay_laws`.
+/// The text of a file that can be written; it parses to that file. `is_written` of `lay_laws`
+/// decides whether a file can be written.
 pub fn unparse(alloc: Global, file: &File) -> Result<Text, NoMemory> {
     text_of(alloc, file)
 }
-/// Writes the text of the file that the bytes read to, which reads to the same file. Refused comes exactly where
-/// they are refused.
+/// Formats the bytes, and writes the text, which parses to the same file. `Refused` is given
+/// exactly if the bytes have a syntax error.
 pub fn format_into<
     K: Sink,
 >(alloc: Global, bytes: &[u8], out: &mut K) -> Result<(), IntoError> {
     format_bytes(alloc, bytes, out)
 }
-/// Reads the bytes to their file, and gives its text.
+/// Parses the bytes as a file, and gives its text.
 fn format_text(alloc: Global, bytes: &[u8]) -> Result<Text, FormatError> {
     let file = match read_bytes(alloc, bytes) {
         Ok(file) => file,
@@ -48,7 +48,7 @@ fn format_text(alloc: Global, bytes: &[u8]) -> Result<Text, FormatError> {
         Err(NoMemory) => Err(FormatError::NoMemory),
     }
 }
-/// Reads the bytes to their file, and writes its text.
+/// Parses the bytes as a file, and writes its text.
 fn format_bytes<
     K: Sink,
 >(alloc: Global, bytes: &[u8], out: &mut K) -> Result<(), IntoError> {

@@ -1,13 +1,13 @@
 //! Made by scripts/rust.sh from crates/lay_front/src/messages.rt, which is proved: change that.
 //!
-//! The lines that say why a run stopped.
+//! The messages of the command.
 use crate::generated::lay_front::command::Status;
 use crate::generated::lay_front::stop::Stop;
 use crate::shims::Buffer;
 use crate::generated::lay_io::{Failed, Sink};
 use crate::generated::lay_token::{Place2, Refusal};
-/// Says on `err` why a run ended, and nothing where it was done: a line, in pieces, without memory. A fault of `err`
-/// changes nothing else.
+/// Writes to `err` one line that says why a run ended, or nothing on success. It writes the line in
+/// pieces, and allocates nothing. A fault of `err` has no other effect.
 pub fn tell<E: Sink>(ended: Result<(), Stop>, err: &mut E) {
     let stop = match ended {
         Err(stop) => stop,
@@ -17,7 +17,7 @@ pub fn tell<E: Sink>(ended: Result<(), Stop>, err: &mut E) {
     };
     let _ = write_line(stop, err);
 }
-/// Says on `err` that a write failed: its line, or a front of it where `err` fails too.
+/// Writes to `err` that a write failed: the line, or a prefix of it if `err` fails too.
 pub fn tell_failed_write<E: Sink>(err: &mut E) {
     tell(Err(Stop::WriteFailed), err);
 }
@@ -37,7 +37,7 @@ fn write_line<E: Sink>(stop: Stop, err: &mut E) -> Result<(), Failed> {
         Stop::NoMemory => err.write(b"no memory\n"),
     }
 }
-/// Writes the line of a refusal: where it stands, and why.
+/// Writes the line of a syntax error: its place and its cause.
 fn write_refusal<
     E: Sink,
 >(refusal: Refusal, place: Place2, err: &mut E) -> Result<(), Failed> {
@@ -46,7 +46,7 @@ fn write_refusal<
     }
     write_number(place.column, reason(refusal), err)
 }
-/// Writes a number in decimal digits, and a piece behind it.
+/// Writes a number in decimal digits, and then a piece.
 fn write_number<
     E: Sink,
 >(number: usize, behind: &[u8], err: &mut E) -> Result<(), Failed> {
@@ -56,7 +56,7 @@ fn write_number<
     }
     err.write(behind)
 }
-/// Why an input is refused, behind the place.
+/// The message of a syntax error, without its place.
 fn reason(refusal: Refusal) -> &'static [u8] {
     match refusal {
         Refusal::NotUtf8 { .. } => b": not UTF-8\n",

@@ -10,8 +10,8 @@ use crate::generated::lay_sample::counting::{Counter, Counts};
 use crate::generated::lay_sample::sample;
 use crate::generated::lay_token::{NoMemory, Text};
 use crate::shims::Global;
-/// Makes the sample of a seed and so many items, formats it, and writes the line that sums it up. The text isn't kept: it
-/// is counted as it is made.
+/// Makes the sample of a seed with this many items, formats it, and writes the line that sums it
+/// up. The formatted text isn't kept: it is counted as it is made.
 pub fn sum_up_sample<
     K: Sink,
 >(alloc: Global, seed: u64, items: u32, out: &mut K) -> Result<(), Stop> {
@@ -35,7 +35,7 @@ pub fn sum_up_sample<
         Err(Failed) => Err(Stop::WriteFailed),
     }
 }
-/// The line that sums up a sample of so many items and its file's text.
+/// The line that sums up a sample of this many items and its formatted text.
 fn summary_of(
     alloc: Global,
     items: u32,
@@ -52,12 +52,12 @@ fn summary_of(
     line.push(b'\n')?;
     Ok(line)
 }
-/// Adds a piece and a number in decimal digits behind it.
+/// Appends a piece, and a number in decimal digits.
 fn add(line: &mut Text, piece: &[u8], number: u64) -> Result<(), NoMemory> {
     line.push_bytes(piece)?;
     line.push_bytes(Buffer::new().format(number).as_bytes())
 }
-/// What there is to count of a file's text.
+/// The counts of a file's text.
 fn count(alloc: Global, file: &File) -> Result<Counts, NoMemory> {
     let mut counter = Counter::new();
     match write_file(alloc, file, &mut counter) {

@@ -2,24 +2,24 @@
 //!
 //! Why a run ends before its work is done.
 use crate::generated::lay_token::{Place2, Refusal};
-/// Why a run ends before its work is done, with all that is said of it.
+/// Why a run ends before its work is done, with what its message says.
 #[derive(Clone, Copy, Debug, PartialEq, Eq,)]
 pub enum Stop {
-    /// The words are no line of the command.
+    /// The words are no command line.
     Usage,
     /// A read failed.
     ReadFailed,
     /// The input holds more than 16 MiB.
     TooLong,
-    /// The input reads to no file, and this is where it is seen.
+    /// The input has a syntax error at this place.
     Refused {
         refusal: Refusal,
         place: Place2,
     },
     /// A write failed.
     WriteFailed,
-    /// The input isn't its text.
+    /// The input isn't formatted.
     Differs,
-    /// Memory was not found.
+    /// Memory could not be allocated.
     NoMemory,
 }

@@ -12,11 +12,11 @@ pub enum ReadError {
     ReadFailed,
     /// The input holds more bytes than the limit.
     TooLong,
-    /// Memory was not found.
+    /// Memory could not be allocated.
     NoMemory,
 }
-/// Reads the chosen input to its end, if it holds at most `limit` bytes. Each turn but the last takes at
-/// least one byte, so there are at most `limit + 1`.
+/// Reads the chosen input to its end, if it holds at most `limit` bytes. Each read but the last
+/// gives at least one byte, so there are at most `limit + 1` reads.
 pub fn read_all<
     I: Inputs,
 >(alloc: Global, inputs: &mut I, limit: usize) -> Result<List<u8>, ReadError> {

@@ -1,10 +1,10 @@
 //! Made by scripts/rust.sh from crates/lay_items/src/lists.rt, which is proved: change that.
 //!
-//! Items put into lists and taken out, whatever they are.
+//! Insertion and removal of list items.
 use crate::generated::lay_text::{List, NoMemory};
 use crate::shims::Global;
 use core::mem;
-/// Puts an item in at a place. Without memory the list stays as it was.
+/// Inserts an item, so that it has this index. If memory is out, the list stays as it was.
 pub(crate) fn insert_at<
     T,
 >(alloc: Global, list: &mut List<T>, index: usize, item: T) -> Result<(), NoMemory> {
@@ -16,13 +16,14 @@ pub(crate) fn insert_at<
     *list = List::from_vec(all);
     answer
 }
-/// Takes the item at a place out.
+/// Removes the item with this index.
 pub(crate) fn remove_at<T>(alloc: Global, list: &mut List<T>, index: usize) {
     let mut all = mem::replace(list, List::new(alloc)).into_vec();
     let _gone = all.remove(index);
     *list = List::from_vec(all);
 }
-/// Puts an item into each of two lists at the same place. Without memory both stay as they were.
+/// Inserts an item into each of two lists, at the same index. If memory is out, both stay as they
+/// were.
 pub(crate) fn insert_both<
     A,
     B,
@@ -43,7 +44,7 @@ pub(crate) fn insert_both<
         }
     }
 }
-/// Takes the item at a place out of each of two lists.
+/// Removes the item with this index from each of two lists.
 pub(crate) fn remove_both<
     A,
     B,
@@ -51,13 +52,13 @@ pub(crate) fn remove_both<
     remove_at(alloc, ones, index);
     remove_at(alloc, others, index);
 }
-/// Puts an item in the place of another. It takes no memory.
+/// Replaces the item with this index. It doesn't allocate.
 pub(crate) fn replace_at<T>(alloc: Global, list: &mut List<T>, index: usize, item: T) {
     let mut all = mem::replace(list, List::new(alloc)).into_vec();
     all[index] = item;
     *list = List::from_vec(all);
 }
-/// Puts an item in the place of another, in each of two lists.
+/// Replaces the item with this index in each of two lists.
 pub(crate) fn replace_both<
     A,
     B,

@@ -12,7 +12,7 @@ use crate::generated::lay_stream::Emit;
 use crate::generated::lay_text::{List, NoMemory, Text};
 use crate::shims::Global;
 use core::mem;
-/// The text of what stands before the items of a file. The file is as it was.
+/// The text of the beginning of a file. The file is unchanged afterwards.
 pub(crate) fn head_of(alloc: Global, file: &mut File) -> Result<Text, NoMemory> {
     let items = mem::replace(&mut file.items, List::new(alloc));
     let head = text_of(alloc, file);
@@ -35,7 +35,7 @@ pub(crate) fn output_of(alloc: Global, item: &Item) -> Result<Text, NoMemory> {
         Err(PrintError::WriteFailed | PrintError::NoMemory) => Err(NoMemory),
     }
 }
-/// Writes the text of a file with this item alone.
+/// Writes the text of a file with only this item.
 fn write_alone<
     K: Sink,
 >(alloc: Global, item: &Item, out: &mut K) -> Result<(), PrintError> {
@@ -47,12 +47,12 @@ fn write_alone<
     put_alone(&mut press, item)?;
     press.finish()
 }
-/// Feeds the layout of a file with this item alone.
+/// Emits the layout of a file with only this item.
 fn put_alone<E: Emit>(out: &mut E, item: &Item) -> Result<(), E::Fault> {
     put_item(out, item)?;
     out.brk(HARD_BREAK)
 }
-/// Adds texts at the end of another.
+/// Appends texts to another.
 pub(crate) fn push_all(text: &mut Text, parts: &[Text]) -> Result<(), NoMemory> {
     for part in parts {
         text.push_bytes(part.as_bytes())?;

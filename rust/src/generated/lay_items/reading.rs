@@ -1,29 +1,29 @@
 //! Made by scripts/rust.sh from crates/lay_items/src/reading.rt, which is proved: change that.
 //!
-//! The one item of a text.
+//! Parsing of a text as one item.
 use crate::generated::lay_items::printing::output_of;
 use crate::generated::lay_code::{File, Item};
 use crate::generated::lay_files::{FileError, read_bytes};
 use crate::generated::lay_text::{NoMemory, Refusal, Text};
 use crate::shims::Global;
-/// How many of what a file holds.
+/// How many of each kind of part a file has.
 #[derive(Clone, Copy, Debug, PartialEq, Eq,)]
 pub struct Shape {
-    /// Whether its first line is a shebang.
+    /// Whether it has a shebang line.
     pub shebang: bool,
     /// How many inner attributes it has.
     pub attrs: usize,
     /// How many items it has.
     pub items: usize,
 }
-/// Why an edit isn't made. All is as it was.
+/// Why an edit failed. Nothing was changed.
 #[derive(Clone, Copy, Debug, PartialEq, Eq,)]
 pub enum EditError {
-    /// The text is refused.
+    /// The text has a syntax error.
     Refused(Refusal),
-    /// The text reads to a file of this shape, which isn't one item alone.
+    /// The text is a file of this shape, and not exactly one item.
     NotOneItem(Shape),
-    /// Memory was not found.
+    /// Memory could not be allocated.
     NoMemory,
 }
 /// An item and its text.
@@ -31,7 +31,7 @@ pub(crate) struct Laid {
     pub(crate) item: Item,
     pub(crate) output: Text,
 }
-/// The one item that a text is, laid out.
+/// Parses a text as one item, and lays it out.
 pub(crate) fn one_item(alloc: Global, text: &[u8]) -> Result<Laid, EditError> {
     let file = match read_bytes(alloc, text) {
         Ok(file) => file,
@@ -49,7 +49,7 @@ pub(crate) fn one_item(alloc: Global, text: &[u8]) -> Result<Laid, EditError> {
         Err(NoMemory) => Err(EditError::NoMemory),
     }
 }
-/// The one item of a file that holds nothing else, or its shape.
+/// The item of a file that holds nothing else; otherwise the file's shape.
 fn only(file: File) -> Result<Item, Shape> {
     let File { shebang, attrs, items } = file;
     let mut items = items.into_vec();

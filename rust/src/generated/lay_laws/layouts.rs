@@ -1,3 +1,3 @@
 //! Made by scripts/rust.sh from crates/lay_laws/src/layouts.rt, which is proved: change that.
 //!
-//! What holds of the layout of every file that can be written.
+//! The theorem about the layout of every file that can be written. (No code runs.)

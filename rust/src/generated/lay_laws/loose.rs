@@ -6,14 +6,16 @@ use crate::generated::lay_files::{DEPTH, FileError, enclosed_text_of, read_withi
 use crate::generated::lay_token::NoMemory;
 use crate::generated::lay_tree::{Expr, same_enclosed};
 use crate::shims::Global;
-/// Whether the expression lacks nothing but parentheses: it meets every rule but those of places and slots, each name, word and
-/// literal is a piece of its kind, and it is no deeper than files may be. So `parenthesize` of `lay_paren` makes of it a tree
-/// that stands in its place, or tells that it is too deep with its parentheses.
+/// Whether the expression lacks nothing but parentheses: it meets every rule but those of places
+/// and slots, each name, word and literal is a piece of its kind, and it is no deeper than files
+/// may be. So `parenthesize` of `lay_paren` makes of it a tree that may stand at its place, or
+/// gives the error that it is too deep with its parentheses.
 ///
-/// What can be asked of a text is whether it reads back, and the text of such a tree may read to another one. So the tree is
-/// laid out with each part in parentheses, as the value of a constant: then no place refuses a part, and the text reads back exactly
-/// where nothing else is amiss. This takes time and memory in proportion to that text, which may have two levels more than twice
-/// those of the tree, and stack for them; the levels that are added are the constant and parentheses.
+/// A text can only be tested for whether it parses back, and the text of such a tree may parse to
+/// another tree. So the tree is laid out with each part in parentheses, as the value of a constant.
+/// There any part may stand, and the text parses back exactly if nothing else is wrong. This takes
+/// time and memory in proportion to that text. It needs stack for twice the levels of the tree and
+/// two more: those that are added are parentheses and the constant.
 pub fn is_loose(alloc: Global, expr: &Expr) -> Result<bool, NoMemory> {
     let depth = expr_depth(expr);
     if depth > DEPTH {

@@ -1,19 +1,20 @@
 //! Made by scripts/rust.sh from crates/lay_laws/src/written.rt, which is proved: change that.
 //!
-//! Which trees are files that can be written.
+//! Which trees can be written as files.
 use crate::generated::lay_depth::file_depth;
 use crate::generated::lay_files::{DEPTH, FileError, read_within, text_of};
 use crate::generated::lay_token::NoMemory;
 use crate::generated::lay_tree::{File, same};
 use crate::shims::Global;
-/// Whether the file can be written: it is normal, each of its nodes meets the conditions of its form, each name, word and
-/// literal is a piece of its kind, and it is no deeper than files may be. So some text reads to it, and what its layout
-/// gives is one.
+/// Whether the file can be written: it is normal, each of its nodes meets the conditions of its
+/// form, each name, word and literal is a piece of its kind, and it is no deeper than files may be.
+/// So some text parses to it, and its layout gives such a text.
 ///
-/// The depth of the file is counted, and a file that is too deep is none. The file is laid out whatever it holds, its text
-/// is read within its own depth, and what was read is compared with it: a file that can be written reads back, and what
-/// was read can be written. This takes time and memory in proportion to the text, and of the stack what a file of its
-/// depth needs: its names may spell a deeper one, which is refused there.
+/// If the file is too deep, the answer is `false`. Otherwise it is laid out, whatever it holds. Its
+/// text is parsed within its own depth, and the result is compared with it: a file that can be
+/// written parses back, and what was parsed can be written. This takes time and memory in
+/// proportion to the text, and stack for the depth of the file: its names may spell something
+/// deeper, which is refused at that depth.
 pub fn is_written(alloc: Global, file: &File) -> Result<bool, NoMemory> {
     let depth = file_depth(file);
     if depth > DEPTH {

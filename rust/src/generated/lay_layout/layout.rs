@@ -1,8 +1,8 @@
 //! Made by scripts/rust.sh from crates/lay_layout/src/layout.rt, which is proved: change that.
 //!
-//! The tokens of a layout.
+//! Layout tokens: texts, breaks and groups.
 use crate::generated::lay_text::Text;
-/// What is written at a break beside its blanks.
+/// What a break writes beside blanks and a newline.
 #[derive(Clone, Copy, Debug, PartialEq, Eq,)]
 pub enum Mark {
     /// Nothing.
@@ -14,10 +14,10 @@ pub enum Mark {
     /// `}`
     CloseBrace,
 }
-/// A place where a line may end.
+/// A place where a line may be broken.
 ///
-/// Where it is a newline, `before` stands at the line's end, and the next line begins with the indent and
-/// `offset` in blanks and then `after`. Where it is none, `blank` blanks and `instead` stand in its place.
+/// If the line is broken here, `before` ends it, and the next line begins with the indent plus
+/// `offset` in blanks and then `after`. If it isn't, `blank` blanks and then `instead` are written.
 #[derive(Clone, Copy, Debug, PartialEq, Eq,)]
 pub struct Break {
     pub offset: i8,
@@ -25,31 +25,31 @@ pub struct Break {
     pub before: Mark,
     pub after: Mark,
     pub instead: Mark,
-    /// It is never a newline, but ends what is measured.
+    /// The line is never broken here; but the width that is measured before it ends here.
     pub never: bool,
 }
-/// One token of a layout.
+/// One layout token.
 #[derive(Debug,)]
 pub enum Tok {
     /// A text, written as it is.
     Text(Text),
-    /// A place where a line may end.
+    /// A place where a line may be broken.
     Break(Break),
-    /// A group begins. It is laid out flat, or broken at each of its breaks where it is consistent, and where
-    /// it isn't at those after which too little fits.
+    /// A group begins. It is laid out flat if it fits. Otherwise all its breaks are newlines if it
+    /// is consistent; if it isn't, only those after which the next part doesn't fit.
     Begin {
         consistent: bool,
         offset: i8,
     },
-    /// The group that was begun last ends.
+    /// The innermost open group ends.
     End,
 }
-/// How what stands in a group is laid out.
+/// How the content of a group is laid out.
 #[derive(Clone, Copy, Debug, PartialEq, Eq,)]
 pub enum Frame {
     /// No break is a newline.
     Flat,
-    /// Breaks are newlines; `indent` counts blanks.
+    /// Breaks may be newlines: all of them if `consistent`. `indent` counts blanks.
     Broken {
         consistent: bool,
         indent: u64,

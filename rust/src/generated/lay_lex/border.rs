@@ -1,9 +1,10 @@
 //! Made by scripts/rust.sh from crates/lay_lex/src/border.rt, which is proved: change that.
 //!
-//! Where a window may end.
+//! Where a window of tokens may end.
 use crate::generated::lay_lex::window::Stop;
 use crate::generated::lay_token::{Delim, Kind, Token};
-/// Whether a window of so many tokens at least ends before the next token, where so many groups are open.
+/// Whether a window of at least `least` tokens may end before the token `next`, while `open` groups
+/// are open.
 #[inline]
 pub fn ends_before(
     least: Option<usize>,
@@ -20,21 +21,23 @@ pub fn ends_before(
         None => false,
     }
 }
-/// What a window ends behind, if it does behind the last token, before which so many groups were open.
+/// Why a window ends after its last token, if it does. It does if `open`, the number of groups that are
+/// open before that token, is 0, and the token is the opening brace of a module or a closing brace.
 #[inline]
 pub fn ends_behind(least: Option<usize>, open: usize, tokens: &[Token]) -> Option<Stop> {
     if open == 0 && least.is_some() { ends_in_brace(tokens) } else { None }
 }
-/// How many groups are open behind a token of this kind.
+/// How many groups are open after a token of this kind.
 #[inline]
-pub fn open_behind(open: usize, kind: Kind) -> usize {
+pub fn open_behind(groups: usize, kind: Kind) -> usize {
     match kind {
-        Kind::Opener(_) => open.saturating_add(1),
-        Kind::Closer(_) => open.saturating_sub(1),
-        _ => open,
+        Kind::Opener(_) => groups.saturating_add(1),
+        Kind::Closer(_) => groups.saturating_sub(1),
+        _ => groups,
     }
 }
-/// Whether the last token is the opening brace of a module, or a closing brace.
+/// How a window ends after its last token, if that is the opening brace of a module or a closing
+/// brace.
 #[inline]
 fn ends_in_brace(tokens: &[Token]) -> Option<Stop> {
     match tokens.split_last() {
@@ -61,7 +64,7 @@ fn ends_in_module(tokens: &[Token]) -> bool {
         _ => false,
     }
 }
-/// Whether the last token may end an item, which goes on behind it in few ways.
+/// Whether the last token may end an item: it is a `}` or a `;`.
 fn ends_item(tokens: &[Token]) -> bool {
     match tokens.split_last() {
         Some((last, _)) => {
@@ -74,7 +77,7 @@ fn ends_item(tokens: &[Token]) -> bool {
         None => false,
     }
 }
-/// Whether the piece begins an item, and goes on with none.
+/// Whether the piece may begin an item and can't go on with one after a `}`.
 fn begins_item(kind: Kind, piece: &str) -> bool {
     match kind {
         Kind::Ident => !matches!(piece.as_bytes(), b"else" | b"as" | b"where"),

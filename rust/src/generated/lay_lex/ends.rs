@@ -1,6 +1,6 @@
 //! Made by scripts/rust.sh from crates/lay_lex/src/ends.rt, which is proved: change that.
 //!
-//! The ends of texts, and texts without them.
+//! A text without its first or last characters.
 use crate::generated::lay_token::piece::chars::first;
 /// The text without its first character.
 pub fn behind_first(s: &str) -> &str {
@@ -17,7 +17,7 @@ pub fn before_last(s: &str) -> &str {
         None => s,
     }
 }
-/// The bytes of the text without this ASCII character at its end, as often as it stands there.
+/// The bytes of the text without this ASCII character at its end, however often it stands there.
 pub fn without_end(byte: u8, s: &str) -> &[u8] {
     let mut bytes = s.as_bytes();
     while let Some((last, front)) = bytes.split_last() {

@@ -2,50 +2,51 @@
 //!
 //! Gaps: white space and plain comments.
 use crate::generated::lay_token::piece::chars::first;
-/// White space (Rust Reference, "Whitespace"). Most characters are a blank or can be seen, and are told first.
+/// Whether the character is white space (Rust Reference, "Whitespace"). Blanks and printable ASCII
+/// are tested first.
 #[inline]
 pub fn is_white(c: char) -> bool {
     c == ' ' || (!c.is_ascii_graphic() && is_rare_white(c))
 }
-/// White space, of a character that is no blank.
+/// Whether a character other than a blank is white space.
 fn is_rare_white(c: char) -> bool {
     matches!(
         c, '\t'..= '\r' | '\u{85}' | '\u{200e}' | '\u{200f}' | '\u{2028}' | '\u{2029}'
     )
 }
-/// How far a gap is read.
+/// The state within a gap.
 #[derive(Clone, Copy,)]
 enum State {
     /// Between comments.
     Outside,
-    /// Behind `/`.
+    /// After `/`.
     Opening,
-    /// Behind `//`.
+    /// After `//`.
     Two,
-    /// Behind `///`.
+    /// After `///`.
     Three,
     /// In a plain line comment.
     Line,
-    /// Behind `/*`.
+    /// After `/*`.
     Block,
-    /// Behind `/**`.
+    /// After `/**`.
     BlockStar,
     /// In a plain block comment.
     Within(InBlock),
-    /// In what is no gap.
+    /// Not inside white space or a comment.
     Spoilt,
 }
-/// How far a block comment is read, within so many more.
+/// The state within a block comment; the number counts the comments that are open around this one.
 #[derive(Clone, Copy,)]
 enum InBlock {
     Deep(usize),
-    /// Behind a star.
+    /// After a star.
     Star(usize),
-    /// Behind a slash.
+    /// After a slash.
     Slash(usize),
 }
 impl State {
-    /// Behind one more character.
+    /// The state after one more character.
     fn step(self, c: char) -> State {
         match self {
             State::Outside => {
@@ -88,7 +89,7 @@ impl State {
             State::Spoilt => State::Spoilt,
         }
     }
-    /// Whether a text may end there.
+    /// Whether a text may end in this state.
     fn may_end(self) -> bool {
         match self {
             State::Outside => true,
@@ -99,7 +100,7 @@ impl State {
     }
 }
 impl InBlock {
-    /// Behind one more character.
+    /// The state after one more character.
     fn step(self, c: char) -> State {
         match self {
             InBlock::Deep(more) => InBlock::lone(more, c),
@@ -115,7 +116,7 @@ impl InBlock {
             }
         }
     }
-    /// Behind a character that goes with none before it.
+    /// The state after a character that makes no token with the one before it.
     fn lone(more: usize, c: char) -> State {
         match c {
             '*' => State::Within(InBlock::Star(more)),
@@ -124,7 +125,7 @@ impl InBlock {
         }
     }
 }
-/// What follows the longest gap at the front; nothing where a gap ends the whole text.
+/// The text after the longest gap at the beginning; `None` if a gap reaches the end of the text.
 #[inline(always)]
 pub fn after_gap(s: &str) -> Option<&str> {
     let mut rest = s;
@@ -139,7 +140,8 @@ pub fn after_gap(s: &str) -> Option<&str> {
     }
     None
 }
-/// What follows the longest gap at the front, which may hold comments.
+/// The text after the longest gap at the beginning, which may hold comments; `None` if it reaches
+/// the end.
 fn after_comments(s: &str) -> Option<&str> {
     let mut state = State::Outside;
     let mut closed = s;

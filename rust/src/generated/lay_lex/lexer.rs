@@ -1,6 +1,6 @@
 //! Made by scripts/rust.sh from crates/lay_lex/src/lexer.rt, which is proved: change that.
 //!
-//! The tokens of a text.
+//! Lexing: the tokens of a text.
 use crate::generated::lay_lex::border::{ends_before, ends_behind, open_behind};
 use crate::generated::lay_lex::gap::after_gap;
 use crate::generated::lay_lex::source::Source;
@@ -8,14 +8,14 @@ use crate::generated::lay_lex::tokens::Tokens;
 use crate::generated::lay_lex::window::{Stop, Window};
 use crate::generated::lay_token::{FormatError, List, Refusal, Token, piece_at};
 use crate::shims::Global;
-/// The tokens of a text, from its start on (Rust Reference, "Lexical structure").
+/// Lexes a text from where its shebang line ends (Rust Reference, "Lexical structure").
 ///
-/// It refuses the first place past gaps where no token is had.
+/// The only syntax error is `NoToken`, at the first place after a gap where no token begins.
 pub fn lex(alloc: Global, source: &Source) -> Result<List<Token>, FormatError> {
     let text = crate::shims::text(source.text.as_slice());
     tokens_of(alloc, text, source.start)
 }
-/// The tokens of a text from this place on.
+/// The tokens of a text from the byte `start` on.
 fn tokens_of(
     alloc: Global,
     text: &str,
@@ -26,11 +26,13 @@ fn tokens_of(
         Err(error) => Err(error),
     }
 }
-/// The tokens of a text from a place on, and how far they go: to the end, or, behind so many tokens at least, to where an item
-/// may end and another begin outside all groups. They end behind the opening brace of a module too, and behind a closing
-/// brace that is the partner of none of them.
+/// Lexes a window: the tokens of a text from the byte `start` on, and where they end. They end at
+/// the end of the text; or, after at least `least` tokens, where one item may end and another begin
+/// outside all groups; or after the opening brace of a module, or after a closing brace whose
+/// opener isn't among them.
 ///
-/// It refuses the first place past gaps where no token is had, if it comes to that.
+/// The only syntax error is `NoToken`, at the first place after a gap where no token begins, if
+/// lexing gets there.
 pub fn lex_window(
     alloc: Global,
     text: &str,
@@ -39,7 +41,7 @@ pub fn lex_window(
 ) -> Result<Window, FormatError> {
     window_of(alloc, text, start, Some(least))
 }
-/// The tokens of a text from this place on: all of them, or those of a window.
+/// The tokens of a text from the byte `start` on: all of them, or those of a window.
 fn window_of(
     alloc: Global,
     text: &str,
@@ -75,14 +77,14 @@ fn window_of(
     }
     Ok(tokens.window(Stop::End, text.len()))
 }
-/// The tokens for which room is taken at once, where so many bytes are ahead.
+/// For how many tokens memory is allocated at once, if `ahead` bytes are left.
 fn room(least: Option<usize>, ahead: usize) -> usize {
     match least {
         Some(least) => least.saturating_add(least / 4).min(ahead),
         None => 0,
     }
 }
-/// The characters that take so many bytes, and what follows them.
+/// The first `len` bytes of a text, and the text after them.
 pub fn cut(s: &str, len: usize) -> (&str, &str) {
     s.split_at(len)
 }

@@ -1,8 +1,8 @@
 //! Made by scripts/rust.sh from crates/lay_lex/src/one_by_one.rt, which is proved: change that.
 //!
-//! The tokens of a text one by one, with no list of them.
+//! Lexing token by token, without a list of tokens.
 //!
-//! A [`Cursor`] is a place in a text. [`Cursor::next`] lexes what is ahead as far as the next token, which lends its text, and goes past
-//! it. A cursor is copied to look ahead, and nothing is asked of memory.
+//! A [`Cursor`] is a place in a text. [`Cursor::next`] lexes the next token, whose text it borrows,
+//! and moves past it. A cursor can be copied to look ahead. Nothing is allocated.
 mod cursor;
 pub use cursor::{Cursor, Lexeme};

@@ -1,29 +1,30 @@
 //! Made by scripts/rust.sh from crates/lay_lex/src/source.rt, which is proved: change that.
 //!
-//! What is lexed of an input.
+//! From an input to the text that is lexed.
 use crate::shims::Vec;
 use crate::generated::lay_lex::ends::without_end;
 use crate::generated::lay_lex::gap::is_white;
 use crate::generated::lay_token::piece::chars::first;
 use crate::generated::lay_token::{FormatError, List, NoMemory, Refusal, Text};
 use crate::shims::Global;
-/// What is lexed of an input.
+/// An input, prepared for lexing.
 #[derive(Debug,)]
 pub struct Source {
-    /// The shebang line, without the LF that ends it and without CRs before that.
+    /// The shebang line, without the LF that ends it and without any CR before that.
     pub shebang: Option<Text>,
-    /// The whole text, without a byte order mark and with each CR LF as one LF.
+    /// The whole text, without a byte order mark and with one LF for each CR LF.
     pub text: List<u8>,
-    /// Where lexing begins, behind a shebang line.
+    /// The byte offset where lexing begins: after the shebang line.
     pub start: usize,
 }
 impl Source {
-    /// The whole text.
+    /// The whole text, as a `str`.
     pub fn as_str(&self) -> &str {
         crate::shims::text(self.text.as_slice())
     }
 }
-/// What is lexed of an input (Rust Reference, "Input format"). Bytes that are no UTF-8 are refused.
+/// Prepares an input for lexing (Rust Reference, "Input format"). The only syntax error is
+/// `NotUtf8`.
 pub fn normalise(alloc: Global, bytes: &[u8]) -> Result<Source, FormatError> {
     let text = match core::str::from_utf8(bytes) {
         Ok(text) => text,
@@ -37,21 +38,21 @@ pub fn normalise(alloc: Global, bytes: &[u8]) -> Result<Source, FormatError> {
         Err(_) => Err(FormatError::NoMemory),
     }
 }
-/// What is lexed of a text.
+/// Prepares a text for lexing.
 fn source_of(alloc: Global, s: &str) -> Result<Source, NoMemory> {
     let text = folded(alloc, without_mark(s))?;
     let whole = crate::shims::text(text.as_slice());
     let (shebang, start) = shebang(alloc, whole)?;
     Ok(Source { shebang, text: List::from_vec(text), start })
 }
-/// The text without a byte order mark at its start.
+/// The text without a byte order mark at its beginning.
 fn without_mark(s: &str) -> &str {
     match first(s) {
         Some(('\u{feff}', tail)) => tail,
         _ => s,
     }
 }
-/// The text with each CR LF as one LF.
+/// The text with one LF for each CR LF.
 fn folded(alloc: Global, s: &str) -> Result<Vec<u8>, NoMemory> {
     let mut text = Vec::with_capacity(alloc, s.len())?;
     let mut rest = s.as_bytes();
@@ -78,7 +79,7 @@ fn begins_line_feed(bytes: &[u8]) -> bool {
         None => false,
     }
 }
-/// The shebang of a text, and where lexing begins.
+/// The shebang line of a text, if it has one, and the byte offset where lexing begins.
 fn shebang(alloc: Global, text: &str) -> Result<(Option<Text>, usize), NoMemory> {
     if !begins_shebang(text) {
         return Ok((None, 0));
@@ -91,7 +92,8 @@ fn shebang(alloc: Global, text: &str) -> Result<(Option<Text>, usize), NoMemory>
     let start = if line.len() < text.len() { line.len() + 1 } else { line.len() };
     Ok((Some(shebang), start))
 }
-/// Whether the text begins with `#!`. Of others no line is looked for, which may be all of the text.
+/// Whether the text begins with `#!`. If it doesn't, no line end is searched, which might be far
+/// away.
 fn begins_shebang(text: &str) -> bool {
     match first(text) {
         Some(('#', tail)) => {
@@ -107,7 +109,7 @@ fn begins_shebang(text: &str) -> bool {
 fn first_line(s: &str) -> &str {
     &s[..s.len() - after_line(s).len()]
 }
-/// What follows the first line, from the LF on that ends it.
+/// The text after the first line, with the LF that ends the line.
 fn after_line(s: &str) -> &str {
     let mut rest = s;
     while let Some((c, tail)) = first(rest) {
@@ -130,7 +132,7 @@ fn is_shebang(line: &str) -> bool {
         _ => false,
     }
 }
-/// Whether nothing stands there, or what begins an attribute or a comment.
+/// Whether the text is empty, or begins an attribute or a comment.
 fn is_no_command(s: &str) -> bool {
     match first(s) {
         Some(('[', _)) | None => true,
@@ -143,7 +145,7 @@ fn is_no_command(s: &str) -> bool {
         _ => false,
     }
 }
-/// What follows the white space at the front.
+/// The text after the leading white space.
 fn after_white(s: &str) -> &str {
     let mut rest = s;
     while let Some((c, tail)) = first(rest) {

@@ -1,6 +1,6 @@
 //! Made by scripts/rust.sh from crates/lay_lex/src/tokens.rt, which is proved: change that.
 //!
-//! The tokens of pieces.
+//! From pieces to tokens: their texts, and which tokens are joint.
 use crate::shims::Vec;
 use crate::generated::lay_lex::ends::{
     before_last,
@@ -11,18 +11,19 @@ use crate::generated::lay_lex::ends::{
 use crate::generated::lay_lex::window::{Stop, Window};
 use crate::generated::lay_token::{Kind, List, NoMemory, Text, Token};
 use crate::shims::Global;
-/// What stands before a place.
+/// What stands before a place, as far as it decides whether a number there may be a tuple index.
 #[derive(Clone, Copy, Debug, PartialEq, Eq,)]
 pub enum Before {
     /// Anything but a point, or nothing.
     Other,
     /// A point.
     Point,
-    /// A point behind a joint point.
+    /// A point that is joint with a point before it.
     Points,
 }
 impl Before {
-    /// What stands behind punctuation, which is a point or isn't; `touches` says that no gap stands before it.
+    /// The state after punctuation; `point` says that it is a point, `touches` that no gap stands
+    /// before it.
     pub fn behind(self, point: bool, touches: bool) -> Before {
         if !point { Before::Other } else if touches && self != Before::Other {
             Before::Points
@@ -37,7 +38,7 @@ pub fn is_point(bytes: &[u8]) -> bool {
 fn is_separator(bytes: &[u8]) -> bool {
     matches!(bytes, b"," | b";")
 }
-/// The token of a piece, which is not joint.
+/// The token of a piece. It is not joint.
 fn token_of(
     alloc: Global,
     kind: Kind,
@@ -47,7 +48,7 @@ fn token_of(
     let text = Text::from_bytes(alloc, text_of_piece(kind, piece))?;
     Ok(Token { kind, text, joint: false, at, len: piece.len() })
 }
-/// The text of a token of this piece.
+/// The text of the token that a piece makes.
 #[inline(always)]
 pub fn text_of_piece(kind: Kind, piece: &str) -> &[u8] {
     match kind {
@@ -56,36 +57,36 @@ pub fn text_of_piece(kind: Kind, piece: &str) -> &[u8] {
         _ => piece.as_bytes(),
     }
 }
-/// What documentation says.
+/// The text of documentation, without its marks.
 fn doc_text(block: bool, piece: &str) -> &[u8] {
     let text = within(block, piece);
     if has_line_feed(text) { text.as_bytes() } else { without_end(b' ', text) }
 }
-/// What stands within the marks of documentation.
+/// What stands between the marks of documentation.
 fn within(block: bool, piece: &str) -> &str {
     let behind = behind_first(behind_first(behind_first(piece)));
     if block { before_last(before_last(behind)) } else { behind }
 }
-/// Whether what may be joint is joint with what follows it.
+/// Whether a token is joint with the next: both are punctuation, and no gap stands between them.
 fn is_joint(mark: bool, next: bool, touches: bool) -> bool {
     touches && next && mark
 }
-/// Makes the last of the tokens joint, if it is joint with what follows.
+/// Makes the last token joint, if `joint`.
 fn join_last(tokens: &mut Vec<Token>, joint: bool) {
     if joint {
         let last = tokens.len() - 1;
         tokens[last].joint = true;
     }
 }
-/// The tokens read so far. The next tells whether the last of them is joint.
+/// The tokens that were lexed so far. Whether the last of them is joint depends on the next.
 pub struct Tokens {
     read: Vec<Token>,
     before: Before,
-    /// Whether the last token may be joint.
+    /// Whether the last token may be joint with the next.
     mark: bool,
 }
 impl Tokens {
-    /// No tokens, before the first place, and room for so many.
+    /// No tokens, at the beginning of a text, with memory for `room` of them.
     pub fn new(alloc: Global, room: usize) -> Result<Tokens, NoMemory> {
         Ok(
             Tokens {
@@ -95,11 +96,11 @@ impl Tokens {
             },
         )
     }
-    /// Whether a number behind the tokens may be an index.
+    /// Whether a number after the tokens may be a tuple index.
     pub fn is_index_place(&self) -> bool {
         self.before == Before::Point
     }
-    /// Adds the token of a piece; `touches` says that no gap stands before it.
+    /// Appends the token of a piece; `touches` says that no gap stands before it.
     pub fn add(
         &mut self,
         alloc: Global,
@@ -114,14 +115,14 @@ impl Tokens {
             _ => self.push(token),
         }
     }
-    /// Adds a token that is no punctuation, and so is joint with nothing.
+    /// Appends a token that is no punctuation, and so is joint with nothing.
     fn push(&mut self, token: Token) -> Result<(), NoMemory> {
         self.read.push(token)?;
         self.before = Before::Other;
         self.mark = false;
         Ok(())
     }
-    /// Adds punctuation with this text, which is not joint.
+    /// Appends punctuation with this text. It is not joint yet.
     fn push_punct(
         &mut self,
         token: Token,
@@ -142,7 +143,7 @@ impl Tokens {
     pub fn as_slice(&self) -> &[Token] {
         self.read.as_slice()
     }
-    /// All the tokens, as a window that ends there.
+    /// A window of all the tokens, which ends at the byte `end` for the reason `stop`.
     pub fn window(self, stop: Stop, end: usize) -> Window {
         let Tokens { read, before: _, mark: _ } = self;
         Window { tokens: List::from_vec(read), stop, end }

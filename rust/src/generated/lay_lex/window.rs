@@ -1,24 +1,24 @@
 //! Made by scripts/rust.sh from crates/lay_lex/src/window.rt, which is proved: change that.
 //!
-//! Windows: some of the tokens of a text, one behind another.
+//! Windows: consecutive tokens of a text.
 use crate::generated::lay_token::{List, Token};
-/// Where a window ends.
+/// Why a window ends where it ends.
 #[derive(Clone, Copy, Debug,)]
 pub enum Stop {
-    /// With the text.
+    /// The text ends.
     End,
     /// Between two items.
     More,
-    /// Behind the opening brace of a module.
+    /// After the opening brace of a module.
     Opened,
-    /// Behind a closing brace that is the partner of none of its tokens.
+    /// After a closing brace whose opener isn't in the window.
     Closed,
 }
-/// Some of the tokens of a text.
+/// Consecutive tokens of a text.
 #[derive(Debug,)]
 pub struct Window {
     pub tokens: List<Token>,
     pub stop: Stop,
-    /// Where the text goes on.
+    /// The byte offset where the text goes on.
     pub end: usize,
 }

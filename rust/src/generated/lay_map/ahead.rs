@@ -1,18 +1,18 @@
 //! Made by scripts/rust.sh from crates/lay_map/src/ahead.rt, which is proved: change that.
 //!
-//! The tokens ahead, of a list or of a text.
+//! A cursor over tokens, of a list or of a text.
 use crate::generated::lay_lex::one_by_one::{Cursor, Lexeme};
 use crate::generated::lay_token::Token;
-/// Tokens that are given one by one. It is copied to look ahead.
+/// Gives tokens one by one. It is copied to look ahead.
 #[derive(Clone, Copy, Debug,)]
 pub(crate) enum Ahead<'a> {
-    /// Those of a list.
+    /// The tokens of a list.
     Tokens(&'a [Token]),
-    /// Those that a text lexes to, from a place on.
+    /// The tokens that a text lexes to, from a byte offset on.
     Text(Cursor<'a>),
 }
 impl<'a> Ahead<'a> {
-    /// Goes past the next token and tells it; or nothing, where there is none.
+    /// Gives the next token and moves past it; `None` if there is none.
     #[inline(always)]
     pub(crate) fn next(&mut self) -> Option<Lexeme<'a>> {
         match *self {
@@ -30,7 +30,7 @@ impl<'a> Ahead<'a> {
         }
     }
 }
-/// A token, lent.
+/// The token, with its text borrowed.
 fn lent(token: &Token) -> Lexeme<'_> {
     Lexeme {
         kind: token.kind,

@@ -10,11 +10,12 @@ use crate::generated::lay_nest::Nested;
 use crate::generated::lay_out_code::put_file;
 use crate::generated::lay_text::{List, NoMemory};
 use crate::shims::Global;
-/// Where the units of the tokens stand that spell the file, in their order: each token that says something of it, and the tokens of one
-/// documentation together. A mark that the grammar lets stand or not is in none.
+/// The units of the tokens, which spell the file, in order: each token that matters, and the tokens
+/// of one documentation together. Punctuation that the grammar allows but doesn't require is in no
+/// unit.
 ///
-/// The tokens are those that some text lexes to. There is no room, as where memory is wanting, for a unit that begins behind 2^32 bytes or is
-/// as long.
+/// The tokens are those that some text lexes to. If a unit begins after 2^32 bytes, or is as long,
+/// the error is `NoMemory`.
 pub fn units(
     alloc: Global,
     file: &File,
@@ -24,8 +25,8 @@ pub fn units(
     let spans = found(alloc, file, Ahead::Tokens(cursor.as_slice()))?;
     units_of_spans(alloc, spans.as_slice())
 }
-/// The same of a text, from a place on: where the units of the tokens stand that it lexes to. No list of these tokens is made, and each place
-/// is kept in 8 bytes.
+/// The units of the tokens of a text, lexed from the byte offset `start` on. No list of these
+/// tokens is made, and each unit is kept in 8 bytes.
 pub fn units_of_text(
     alloc: Global,
     file: &File,
@@ -34,7 +35,7 @@ pub fn units_of_text(
 ) -> Result<List<Span>, NoMemory> {
     found(alloc, file, Ahead::Text(Cursor::new(text, start)))
 }
-/// Where the units of these tokens stand.
+/// The units of these tokens.
 fn found(alloc: Global, file: &File, tokens: Ahead<'_>) -> Result<List<Span>, NoMemory> {
     let mut marker = Marker::new(alloc, tokens, file.shebang.is_some());
     put_file(&mut marker, file)?;

@@ -4,12 +4,12 @@
 use crate::shims::Vec;
 use crate::generated::lay_text::NoMemory;
 use crate::shims::Global;
-/// A stack of flags, seen with the last one first.
+/// A stack of flags. Contracts see it with the last one first.
 pub(crate) struct Flags {
     items: Vec<bool>,
 }
 impl Flags {
-    /// No flag. It takes no memory.
+    /// The empty stack. It doesn't allocate.
     pub(crate) fn new(alloc: Global) -> Flags {
         Flags { items: Vec::new(alloc) }
     }
@@ -19,11 +19,11 @@ impl Flags {
             Err(_) => Err(NoMemory),
         }
     }
-    /// Takes the last flag away, if there is one.
+    /// Pops the last flag, if there is one.
     pub(crate) fn pop(&mut self) {
         let _ = self.items.pop();
     }
-    /// The last flag, or `false` where there is none.
+    /// The last flag, or `false` if there is none.
     pub(crate) fn top(&self) -> bool {
         match self.items.last() {
             Some(flag) => *flag,

@@ -1,6 +1,6 @@
 //! Made by scripts/rust.sh from crates/lay_map/src/marker.rt, which is proved: change that.
 //!
-//! What takes the tokens of a layout and finds the units of a text by them.
+//! The `Emit` that finds the units of a text from a layout.
 use crate::generated::lay_map::ahead::Ahead;
 use crate::generated::lay_map::marking::Marking;
 use crate::generated::lay_map::unit::Span;
@@ -8,18 +8,18 @@ use crate::generated::lay_layout::Break;
 use crate::generated::lay_stream::Emit;
 use crate::generated::lay_text::{List, NoMemory};
 use crate::shims::Global;
-/// Finds the units of tokens by the layout of what they spell, which it is fed.
+/// Finds the units of tokens from the layout of the node that they spell, which it is fed.
 pub(crate) struct Marker<'a> {
     /// All the tokens.
     tokens: Ahead<'a>,
-    /// The first line is that of a shebang.
+    /// Whether the first line is a shebang line.
     shebang: bool,
     marking: Marking<'a>,
-    /// A call has failed.
+    /// Whether a call has failed.
     failed: bool,
 }
 impl<'a> Marker<'a> {
-    /// Nothing was fed. The flag says that the first line is that of a shebang.
+    /// A marker that was fed nothing. `shebang` says that the first line is a shebang line.
     pub(crate) fn new(alloc: Global, tokens: Ahead<'a>, shebang: bool) -> Marker<'a> {
         Marker {
             tokens,
@@ -28,12 +28,12 @@ impl<'a> Marker<'a> {
             failed: false,
         }
     }
-    /// The units, where nothing more is fed.
+    /// The units that were found: nothing more is fed.
     pub(crate) fn into_units(self) -> Result<List<Span>, NoMemory> {
         let Marker { tokens: _, shebang: _, marking, failed: _ } = self;
         marking.into_units()
     }
-    /// Keeps whether a call has failed.
+    /// Notes whether a call has failed, and gives its result back.
     fn answer(&mut self, given: Result<(), NoMemory>) -> Result<(), NoMemory> {
         match given {
             Ok(()) => Ok(()),

@@ -1,6 +1,6 @@
 //! Made by scripts/rust.sh from crates/lay_map/src/marking.rt, which is proved: change that.
 //!
-//! What the tokens of a layout tell of the tokens of a text.
+//! Matching of the tokens of a text against the tokens of a layout.
 use crate::generated::lay_map::ahead::Ahead;
 use crate::generated::lay_map::flags::Flags;
 use crate::generated::lay_map::unit::Span;
@@ -8,41 +8,42 @@ use crate::generated::lay_map::walk::{Walk, one_more};
 use crate::generated::lay_layout::Break;
 use crate::generated::lay_text::{List, NoMemory};
 use crate::shims::Global;
-/// Where a layout is in documentation.
+/// Where in documentation the layout is.
 #[derive(Clone, Copy, Debug, PartialEq, Eq,)]
 pub(crate) enum Within {
-    /// In none.
+    /// Outside documentation.
     Code,
-    /// In documentation on a line, or in the first line of a file, up to the next break.
+    /// In a line comment, or in the shebang line, up to the next break.
     Line,
-    /// The text of documentation in a block comes next.
+    /// Before the text of a block comment.
     Block,
-    /// The end of such a block comes next.
+    /// Before the end of a block comment.
     End,
 }
-/// What begins documentation.
+/// The beginning of documentation.
 #[derive(Clone, Copy, Debug, PartialEq, Eq,)]
 pub(crate) struct Opening {
-    /// It is that of what it stands in.
+    /// Whether it documents the item that it stands in.
     inner: bool,
-    /// It is a block.
+    /// Whether it is a block comment.
     block: bool,
 }
-/// A walk over tokens, and what was fed that isn't decided yet.
+/// The walk over the tokens, and the pending part of the layout.
 pub(crate) struct Marking<'a> {
     walk: Walk<'a>,
-    /// How many opening braces were fed in a row; the next word decides which ones they are.
+    /// The number of `{` that were fed in a row. The next word decides which of them are words.
     row: usize,
-    /// A text `,` was fed last; the next call decides whether it is a word.
+    /// Whether a text `,` was fed last. The next call decides whether it is a word.
     comma: bool,
     within: Within,
-    /// The arrow of an arm was fed in the group that is open.
+    /// Whether the `=>` of an arm was fed in the open group.
     arrow: bool,
-    /// The same of each group around it.
+    /// The same flag for each group around it.
     outer: Flags,
 }
 impl<'a> Marking<'a> {
-    /// Nothing was fed. The flag says that the first line is that of a shebang, which has no tokens.
+    /// The state before anything is fed. `shebang` says that the first line is a shebang line,
+    /// which has no tokens.
     pub(crate) fn new(alloc: Global, ahead: Ahead<'a>, shebang: bool) -> Marking<'a> {
         Marking {
             walk: Walk::new(alloc, ahead),
@@ -53,7 +54,7 @@ impl<'a> Marking<'a> {
             outer: Flags::new(alloc),
         }
     }
-    /// A text.
+    /// Takes a text.
     pub(crate) fn text(&mut self, text: &[u8]) -> Result<(), NoMemory> {
         match self.within {
             Within::Code => {
@@ -71,27 +72,27 @@ impl<'a> Marking<'a> {
             }
         }
     }
-    /// A break.
+    /// Takes a break.
     pub(crate) fn brk(&mut self, token: Break) -> Result<(), NoMemory> {
         self.within = behind_line(self.within);
         self.comma = self.comma && !is_free(token, self.arrow);
         self.settle_comma()
     }
-    /// The beginning of a group.
+    /// Takes the begin of a group.
     pub(crate) fn begin(&mut self) -> Result<(), NoMemory> {
         self.settle_comma()?;
         self.outer.push(self.arrow)?;
         self.arrow = false;
         Ok(())
     }
-    /// The end of a group.
+    /// Takes the end of a group.
     pub(crate) fn end(&mut self) -> Result<(), NoMemory> {
         self.settle_comma()?;
         self.arrow = self.outer.top();
         self.outer.pop();
         Ok(())
     }
-    /// The units that were found, where nothing more is fed.
+    /// The units that were found: nothing more is fed.
     pub(crate) fn into_units(self) -> Result<List<Span>, NoMemory> {
         let mut marking = self;
         marking.settle_comma()?;
@@ -99,7 +100,7 @@ impl<'a> Marking<'a> {
         let Marking { walk, row: _, comma: _, within: _, arrow: _, outer: _ } = marking;
         Ok(walk.into_units())
     }
-    /// Takes the `,` that waits, if one does, as a word.
+    /// Settles the pending `,`, if there is one, as a word.
     fn settle_comma(&mut self) -> Result<(), NoMemory> {
         if self.comma {
             self.comma = false;
@@ -107,7 +108,8 @@ impl<'a> Marking<'a> {
         }
         Ok(())
     }
-    /// Takes the opening braces that wait, before a word that isn't `;`, or that is.
+    /// Settles the pending `{`s before the next word. `loose`: that word isn't a `;`, so `;` may
+    /// stand between them.
     #[inline(always)]
     fn settle(&mut self, loose: bool) -> Result<(), NoMemory> {
         if self.row == 0 {
@@ -117,19 +119,20 @@ impl<'a> Marking<'a> {
         self.row = 0;
         self.walk.place(row, loose)
     }
-    /// Takes the token of a word that begins with this byte: how many bytes it has.
+    /// Takes the token of a word that begins with this byte, and gives the length of its text in
+    /// bytes.
     fn word(&mut self, byte: u8) -> Result<usize, NoMemory> {
         self.settle(byte != b';')?;
         self.walk.word(byte)
     }
-    /// A text that isn't within documentation.
+    /// Takes a text outside documentation.
     fn read(&mut self, text: &[u8]) -> Result<(), NoMemory> {
         match opening_of(text) {
             Some(opening) => self.document(opening),
             None => self.read_code(text),
         }
     }
-    /// A text that isn't of documentation.
+    /// Takes a text that isn't documentation.
     fn read_code(&mut self, text: &[u8]) -> Result<(), NoMemory> {
         if text == b"r#".as_slice() {
             return Ok(());
@@ -149,7 +152,7 @@ impl<'a> Marking<'a> {
         self.within = if opening.block { Within::Block } else { Within::Line };
         Ok(())
     }
-    /// The words of a text, with blanks between them or without.
+    /// Takes the words of a text, with or without blanks between them.
     fn words(&mut self, text: &[u8]) -> Result<(), NoMemory> {
         let mut rest = text;
         while let Some((byte, behind)) = rest.split_first() {
@@ -158,7 +161,7 @@ impl<'a> Marking<'a> {
         }
         Ok(())
     }
-    /// A byte of a text, where a word may begin: how many bytes more belong to the word.
+    /// Takes the first byte of a word, and gives how many more bytes belong to the word.
     fn begin_word(&mut self, byte: u8) -> Result<usize, NoMemory> {
         if byte == b'{' {
             self.raise()?;
@@ -169,28 +172,28 @@ impl<'a> Marking<'a> {
         }
         Ok(self.word(byte)?.saturating_sub(1))
     }
-    /// One more opening brace waits.
+    /// Adds a pending `{`.
     fn raise(&mut self) -> Result<(), NoMemory> {
         self.row = one_more(self.row)?;
         Ok(())
     }
 }
-/// What is behind so many bytes.
+/// The bytes without the first `count`.
 fn skip(bytes: &[u8], count: usize) -> &[u8] {
     &bytes[count.min(bytes.len())..]
 }
-/// Where a layout is behind a break.
+/// Where in documentation the layout is after a break.
 fn behind_line(within: Within) -> Within {
     match within {
         Within::Line => Within::Code,
         Within::Code | Within::Block | Within::End => within,
     }
 }
-/// Whether a `,` before the break is in no unit: that behind the last of several fields, or that of an arm.
+/// Whether a `,` before the break is in no unit: after the last of several fields, or after an arm.
 fn is_free(token: Break, arrow: bool) -> bool {
     token.blank == 65535 && (token.offset < 0 || arrow)
 }
-/// The documentation that a text begins, if it does.
+/// The documentation that a text begins, if it begins any.
 fn opening_of(text: &[u8]) -> Option<Opening> {
     let inner = text == b"//!".as_slice() || text == b"/*!".as_slice();
     let block = text == b"/**".as_slice() || text == b"/*!".as_slice();

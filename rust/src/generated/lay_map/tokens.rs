@@ -1,6 +1,6 @@
 //! Made by scripts/rust.sh from crates/lay_map/src/tokens.rt, which is proved: change that.
 //!
-//! What is told of single tokens.
+//! Facts about single tokens.
 use crate::generated::lay_map::ahead::Ahead;
 use crate::generated::lay_map::unit::Unit;
 use crate::generated::lay_map::walk::Sought;
@@ -22,7 +22,7 @@ pub(crate) fn is_semicolon(lexeme: &Lexeme<'_>) -> bool {
         _ => false,
     }
 }
-/// Whether the token says what is looked for, as far as its first byte tells.
+/// Whether the token matches what is searched, as far as its first byte tells.
 #[inline(always)]
 pub(crate) fn says(sought: Sought, lexeme: &Lexeme<'_>) -> bool {
     match sought {
@@ -41,12 +41,13 @@ fn begins(text: &[u8], byte: u8) -> bool {
         [] => false,
     }
 }
-/// How many tokens more documentation has that begins with a token of this kind: `#[doc = "text"]` is six tokens, and
-/// `#![doc = "text"]` seven.
+/// How many more tokens documentation has that begins with a token of this kind: `#[doc = "text"]`
+/// has six tokens, and `#![doc = "text"]` seven.
 pub(crate) fn more_doc(inner: bool, kind: Kind) -> usize {
     if is_doc(kind) { 0 } else if inner { 6 } else { 5 }
 }
-/// Goes past so many tokens, as far as they are: the last of them, or else the first one.
+/// Moves past `more` tokens, or as many as there are. Gives the last of them, or `first` if there
+/// are none.
 #[inline(always)]
 pub(crate) fn last_of<
     'a,
@@ -64,7 +65,7 @@ pub(crate) fn last_of<
     }
     last
 }
-/// The unit from a token to another.
+/// The unit that reaches from a token to another.
 #[inline(always)]
 pub(crate) fn unit_from(first: &Lexeme<'_>, last: &Lexeme<'_>) -> Unit {
     Unit { at: first.at, len: last.at.saturating_add(last.len).saturating_sub(first.at) }

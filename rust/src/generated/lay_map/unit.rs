@@ -1,22 +1,23 @@
 //! Made by scripts/rust.sh from crates/lay_map/src/unit.rt, which is proved: change that.
 //!
-//! Units and pairs of units: where they stand.
+//! Units and pairs of units, as byte ranges.
 use crate::generated::lay_text::{List, NoMemory};
 use crate::shims::Global;
-/// Where a unit stands: from the start of its first token to the end of its last one, in bytes of the text.
+/// The byte range of a unit in its text: from the start of its first token to the end of its last
+/// one.
 #[derive(Clone, Copy, Debug, PartialEq, Eq,)]
 pub struct Unit {
     pub at: usize,
     pub len: usize,
 }
-/// Where a unit stands, in 8 bytes, so that all units of a large text have room beside its tree. Contracts see the unit.
+/// The byte range of a unit in 8 bytes, to save memory. Contracts see the `Unit`.
 #[derive(Debug,)]
 pub struct Span {
     at: u32,
     len: u32,
 }
 impl Span {
-    /// The unit, kept. `Err` where it begins behind 2^32 bytes or has as many: there is no room for it.
+    /// Packs the unit. The error, `NoMemory`, means that it begins after 2^32 bytes or is as long.
     #[inline(always)]
     pub(crate) fn new(unit: Unit) -> Result<Span, NoMemory> {
         match (u32::try_from(unit.at), u32::try_from(unit.len)) {
@@ -30,13 +31,13 @@ impl Span {
         Unit { at: self.at as usize, len: self.len as usize }
     }
 }
-/// Where what one unit says stands in the source, and where in the output.
+/// A unit of the source and the unit of the output that says the same.
 #[derive(Clone, Copy, Debug, PartialEq, Eq,)]
 pub struct Pair {
     pub source: Unit,
     pub output: Unit,
 }
-/// Each unit of the source with the unit of the output that has the same number. There are as many of both.
+/// Pairs the units of the source and of the output by their index. There are equally many of both.
 pub fn pairs(
     alloc: Global,
     source: &[Unit],
@@ -57,7 +58,7 @@ pub fn pairs(
     }
     Ok(list)
 }
-/// The units that are kept so.
+/// Unpacks the units.
 pub(crate) fn units_of_spans(
     alloc: Global,
     spans: &[Span],

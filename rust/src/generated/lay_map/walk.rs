@@ -1,6 +1,6 @@
 //! Made by scripts/rust.sh from crates/lay_map/src/walk.rt, which is proved: change that.
 //!
-//! A walk over tokens, which finds the first one that begins as a word does.
+//! A walk over tokens that searches the next token of a word.
 use crate::generated::lay_map::ahead::Ahead;
 use crate::generated::lay_map::flags::Flags;
 use crate::generated::lay_map::tokens::{
@@ -17,7 +17,7 @@ use crate::generated::lay_lex::one_by_one::Lexeme;
 use crate::generated::lay_text::{List, NoMemory};
 use crate::generated::lay_token::Kind;
 use crate::shims::Global;
-/// What is looked for.
+/// What is searched.
 #[derive(Clone, Copy, Debug,)]
 pub(crate) enum Sought {
     /// A token whose text begins with this byte.
@@ -25,10 +25,10 @@ pub(crate) enum Sought {
     /// Documentation, or what begins an attribute.
     Docs,
 }
-/// A place in the tokens, and what was found before it.
+/// A place in the tokens, and the units that were found before it.
 pub(crate) struct Walk<'a> {
     ahead: Ahead<'a>,
-    /// Of each brace that is open, whether it is in a unit.
+    /// For each open brace, whether it is in a unit.
     braces: Flags,
     units: List<Span>,
 }
@@ -37,8 +37,8 @@ impl<'a> Walk<'a> {
     pub(crate) fn new(alloc: Global, ahead: Ahead<'a>) -> Walk<'a> {
         Walk { ahead, braces: Flags::new(alloc), units: List::new(alloc) }
     }
-    /// Takes the first token whose text begins with this byte as a unit: how many bytes its text has. The tokens before it are in no
-    /// unit.
+    /// Takes the next token whose text begins with this byte as a unit, and gives the length of its
+    /// text in bytes. The tokens before it are in no unit.
     pub(crate) fn word(&mut self, byte: u8) -> Result<usize, NoMemory> {
         let found = find(&mut self.braces, &mut self.ahead, Sought::First(byte))?;
         match found {
@@ -49,7 +49,7 @@ impl<'a> Walk<'a> {
             None => Ok(0),
         }
     }
-    /// Takes the first documentation as a unit. The tokens before it are in no unit.
+    /// Takes the next documentation as a unit. The tokens before it are in no unit.
     pub(crate) fn docs(&mut self, inner: bool) -> Result<(), NoMemory> {
         let found = find(&mut self.braces, &mut self.ahead, Sought::Docs)?;
         match found {
@@ -60,8 +60,8 @@ impl<'a> Walk<'a> {
             None => Ok(()),
         }
     }
-    /// Takes so many opening braces, each as a unit: of those that stand in a row the last ones. The flag says that `;` may stand
-    /// between them.
+    /// Takes `row` opening braces, each as a unit: the last ones of those that stand in a row.
+    /// `loose` says that `;` may stand between them.
     #[inline(never)]
     pub(crate) fn place(&mut self, row: usize, loose: bool) -> Result<(), NoMemory> {
         place(&mut self.braces, &mut self.units, &mut self.ahead, row, loose)
@@ -72,7 +72,7 @@ impl<'a> Walk<'a> {
         units
     }
 }
-/// Goes past the token that is looked for and tells it; or past all, where there is none.
+/// Moves past the token that is searched, and gives it; or past all tokens if there is none.
 #[inline(always)]
 fn find<
     'a,
@@ -89,21 +89,21 @@ fn find<
     }
     Ok(None)
 }
-/// Whether the token is the one that is looked for.
+/// Whether the token is the one that is searched.
 #[inline(always)]
 fn is_sought(braces: &Flags, sought: Sought, lexeme: &Lexeme<'_>) -> bool {
     if opens(lexeme.kind) { false } else if closes(lexeme.kind) {
         is_closing(sought) && braces.top()
     } else { says(sought, lexeme) }
 }
-/// Whether a closing brace is looked for.
+/// Whether a closing brace is searched.
 fn is_closing(sought: Sought) -> bool {
     match sought {
         Sought::First(byte) => byte == b'}',
         Sought::Docs => false,
     }
 }
-/// Goes past a token of this kind, which is in a unit or isn't.
+/// Moves past a token of this kind; `is_kept` says that it is in a unit.
 #[inline(always)]
 fn pass(braces: &mut Flags, kind: Kind, is_kept: bool) -> Result<(), NoMemory> {
     if opens(kind) {
@@ -114,7 +114,7 @@ fn pass(braces: &mut Flags, kind: Kind, is_kept: bool) -> Result<(), NoMemory> {
     }
     Ok(())
 }
-/// Takes a token, and so many more of those ahead, as a unit.
+/// Takes a token, and `more` of those ahead, as a unit.
 #[inline(always)]
 fn take<
     'a,
@@ -136,7 +136,7 @@ fn add(units: &mut List<Span>, unit: Unit) -> Result<(), NoMemory> {
         Err(_) => Err(NoMemory),
     }
 }
-/// Takes so many opening braces, each as a unit.
+/// Takes opening braces, each as a unit.
 fn place(
     braces: &mut Flags,
     units: &mut List<Span>,
@@ -165,11 +165,13 @@ fn place(
     }
     Ok(())
 }
-/// How many opening braces stand in a row ahead. They were counted before, or else the count is 0; so no row is counted twice.
+/// How many opening braces come next in a row. `count` is this number if they were counted before,
+/// else 0; so no row is counted twice.
 fn counted(count: usize, ahead: Ahead<'_>, loose: bool) -> Result<usize, NoMemory> {
     if count == 0 { count_openers(ahead, loose) } else { Ok(count) }
 }
-/// How many opening braces stand in a row, with any number of `;` between, or with none.
+/// How many opening braces come next in a row; if `loose`, any number of `;` may stand between
+/// them.
 fn count_openers(ahead: Ahead<'_>, loose: bool) -> Result<usize, NoMemory> {
     let mut count = 0;
     let mut rest = ahead;
@@ -182,7 +184,7 @@ fn count_openers(ahead: Ahead<'_>, loose: bool) -> Result<usize, NoMemory> {
     }
     Ok(count)
 }
-/// One more. There is no room to count beyond the greatest number.
+/// `count + 1`; `NoMemory` on overflow.
 pub(crate) fn one_more(count: usize) -> Result<usize, NoMemory> {
     match count.checked_add(1) {
         Some(more) => Ok(more),

@@ -1,6 +1,6 @@
 //! Made by scripts/rust.sh from crates/lay_map_lines/src/lines.rt, which is proved: change that.
 //!
-//! Units of a source and of an output, as lines.
+//! Pairs of units as lines of text.
 use crate::shims::Vec;
 use crate::shims::Buffer;
 use crate::generated::lay_io::{Failed, Sink};
@@ -8,7 +8,7 @@ use crate::generated::lay_map::{Span, Unit};
 use crate::generated::lay_printer::PrintError;
 use crate::generated::lay_token::NoMemory;
 use crate::shims::Global;
-/// Writes a line for each unit of the source and the unit of the output that has the same number.
+/// Writes a line for each unit of the source and the unit of the output with the same index.
 pub fn write_lines<
     K: Sink,
 >(
@@ -35,7 +35,8 @@ pub fn write_lines<
     }
     Ok(())
 }
-/// Writes the line of two units. What the text holds that is handed in is lost: it is there so that no line needs new memory.
+/// Writes the line of two units. `line` is only a buffer, so that no line allocates anew; its
+/// content is lost.
 fn write_line<
     K: Sink,
 >(
@@ -54,17 +55,17 @@ fn write_line<
         Err(Failed) => Err(PrintError::WriteFailed),
     }
 }
-/// Adds the line of two units: where the one stands, and where the other does.
+/// Appends the line of two units: the place of the one, and that of the other.
 fn add_line(line: &mut Vec<u8>, source: Unit, output: Unit) -> Result<(), NoMemory> {
     add_unit(line, source, b' ')?;
     add_unit(line, output, b'\n')
 }
-/// Adds where a unit stands, as its start, `+` and its length, and a byte behind it.
+/// Appends the place of a unit, as its start, `+` and its length, and then a byte.
 fn add_unit(line: &mut Vec<u8>, unit: Unit, behind: u8) -> Result<(), NoMemory> {
     add_number(line, unit.at, b'+')?;
     add_number(line, unit.len, behind)
 }
-/// Adds a number in decimal digits, and a byte behind it.
+/// Appends a number in decimal digits, and then a byte.
 fn add_number(line: &mut Vec<u8>, number: usize, behind: u8) -> Result<(), NoMemory> {
     line.extend_from_slice(Buffer::new().format(number).as_bytes())?;
     line.push(behind)?;

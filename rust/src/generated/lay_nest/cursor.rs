@@ -1,17 +1,19 @@
 //! Made by scripts/rust.sh from crates/lay_nest/src/cursor.rt, which is proved: change that.
 //!
-//! A walk over nested tokens.
+//! A cursor over nested tokens.
 use crate::generated::lay_nest::operator::is_op;
 use crate::generated::lay_token::{Kind, Token};
-/// A place in the tokens, seen as the list of the tokens ahead. It takes no memory.
+/// A cursor over tokens. Contracts see it as the list of the tokens ahead. It allocates nothing.
 #[derive(Debug,)]
 pub struct Cursor<'a> {
     tokens: &'a [Token],
-    /// Of each token ahead, if it is an opener, how many tokens stand between it and its partner, and else 0.
+    /// For each token ahead: the number of tokens between it and its partner if it is an opener,
+    /// else 0.
     spans: &'a [crate::shims::Span],
 }
 impl<'a> Cursor<'a> {
-    /// A cursor before the first of these tokens, which have these spans.
+    /// A cursor before the first of these tokens; `spans` has the distance of each opener to its
+    /// partner.
     pub(crate) fn new(
         tokens: &'a [Token],
         spans: &'a [crate::shims::Span],
@@ -22,7 +24,7 @@ impl<'a> Cursor<'a> {
     pub fn fork(&self) -> Cursor<'a> {
         Cursor { tokens: self.tokens, spans: self.spans }
     }
-    /// The token behind this many others, or `None` where no more than so many are ahead.
+    /// The token after `ahead` others, or `None` if there is none.
     pub fn peek(&self, ahead: usize) -> Option<&'a Token> {
         self.tokens.get(ahead)
     }
@@ -30,17 +32,19 @@ impl<'a> Cursor<'a> {
     pub fn is_end(&self) -> bool {
         self.tokens.is_empty()
     }
-    /// Whether the operator at the front is this one (Rust Reference, "Punctuation").
+    /// Whether the next tokens are this operator: the longest that they begin with (Rust Reference,
+    /// "Punctuation").
     pub fn op_is(&self, op: &[u8]) -> bool {
         is_op(self.tokens, op)
     }
-    /// Moves past one token, past an opener alone too. The closer of that is then ahead as any other token.
+    /// Moves past one token. Past an opener it moves into the group, whose closer is then ahead as
+    /// any other token.
     pub fn step(&mut self) {
         self.spans[0].pass();
         self.tokens = behind_first(self.tokens);
         self.spans = behind_first(self.spans);
     }
-    /// Moves past the group at the front, and gives what is inside its delimiters.
+    /// Moves past the next group, and gives a cursor over what is between its delimiters.
     pub fn group(&mut self) -> Cursor<'a> {
         let span = self.spans[0].get();
         let (tokens, tokens_behind) = split_group(self.tokens, span);
@@ -49,8 +53,8 @@ impl<'a> Cursor<'a> {
         self.spans = spans_behind;
         Cursor { tokens, spans }
     }
-    /// Moves past the token tree at the front, and gives its tokens: one token, or a group with its delimiters
-    /// (Rust Reference, "Macros": token trees).
+    /// Moves past the next token tree and gives its tokens: one token, or a group with its
+    /// delimiters (Rust Reference, "Macros": token trees).
     pub fn tree(&mut self) -> &'a [Token] {
         let (tokens, spans) = (self.as_slice(), self.spans);
         self.pass_tree();
@@ -58,7 +62,7 @@ impl<'a> Cursor<'a> {
         spans[count - 1].pass();
         &tokens[..count]
     }
-    /// Moves past the token tree at the front.
+    /// Moves past the next token tree.
     fn pass_tree(&mut self) {
         if is_opener(&self.tokens[0]) {
             self.group();
@@ -75,11 +79,12 @@ impl<'a> Cursor<'a> {
 fn is_opener(token: &Token) -> bool {
     matches!(token.kind, Kind::Opener(_))
 }
-/// What is behind the first item.
+/// The items without the first.
 fn behind_first<T>(items: &[T]) -> &[T] {
     &items[1..]
 }
-/// What stands between the delimiters of the group at the front, which has this span, and what is behind it.
+/// The items between the delimiters of the leading group, which has this span, and the items after
+/// the group.
 fn split_group<T>(items: &[T], span: usize) -> (&[T], &[T]) {
     let (inside, behind) = behind_first(items).split_at(span);
     (inside, behind_first(behind))

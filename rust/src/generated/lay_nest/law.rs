@@ -1,3 +1,3 @@
 //! Made by scripts/rust.sh from crates/lay_nest/src/law.rt, which is proved: change that.
 //!
-//! The laws of delimiters.
+//! The theorem about balanced delimiters.

@@ -1,15 +1,15 @@
 //! Made by scripts/rust.sh from crates/lay_nest/src/nesting.rt, which is proved: change that.
 //!
-//! Balanced tokens, and the partner of each delimiter.
+//! Balanced tokens, with the partner of each delimiter.
 use crate::generated::lay_nest::cursor::Cursor;
 use crate::generated::lay_nest::partners::spans_of;
 use crate::generated::lay_token::{FormatError, List, Token};
 use crate::shims::Global;
-/// Tokens whose delimiters are balanced, and each delimiter's partner. Contracts see the tokens alone.
+/// Tokens whose delimiters are balanced, with the partner of each. Contracts see the tokens only.
 #[derive(Debug,)]
 pub struct Nested {
     tokens: List<Token>,
-    /// Of each token, if it is an opener, how many tokens stand between it and its partner, and else 0.
+    /// For each token: the number of tokens between it and its partner if it is an opener, else 0.
     spans: List<crate::shims::Span>,
 }
 impl Nested {
@@ -24,10 +24,10 @@ impl Nested {
         Cursor::new(self.tokens.as_slice(), self.spans.as_slice())
     }
 }
-/// The tokens with each delimiter's partner (Rust Reference, "Macros": token trees).
+/// Finds the partner of each delimiter (Rust Reference, "Macros": token trees).
 ///
-/// It refuses the place of the first closer that isn't the partner of the last opener still open; with no such
-/// closer, that of the last opener left open.
+/// The only syntax error is `Unbalanced`, at the first closer that isn't the partner of the last
+/// opener that is open; without such a closer, at the last opener that is never closed.
 pub fn nest(alloc: Global, tokens: List<Token>) -> Result<Nested, FormatError> {
     match spans_of(alloc, tokens.as_slice()) {
         Ok(spans) => Ok(Nested { tokens, spans }),

@@ -1,8 +1,8 @@
 //! Made by scripts/rust.sh from crates/lay_nest/src/operator.rt, which is proved: change that.
 //!
-//! The operator at the front of tokens.
+//! Which operator the next tokens are.
 use crate::generated::lay_token::{Kind, Token};
-/// Whether the operator at the front of the tokens is this one: the longest that they begin with (Rust Reference,
+/// Whether the tokens begin with this operator, and with no longer one (Rust Reference,
 /// "Punctuation").
 pub fn is_op(tokens: &[Token], op: &[u8]) -> bool {
     match tokens.split_first() {
@@ -10,14 +10,15 @@ pub fn is_op(tokens: &[Token], op: &[u8]) -> bool {
         None => false,
     }
 }
-/// Whether the operator may begin with the token: it is punctuation, and their first characters are the same.
+/// Whether the operator may begin with the token: the token is punctuation, and their first
+/// characters are equal.
 fn may_begin(token: &Token, op: &[u8]) -> bool {
     match token.kind {
         Kind::Punct => is_same_first(token.text.as_bytes(), op),
         _ => false,
     }
 }
-/// Whether two texts have the same first byte, or neither has any.
+/// Whether two texts have the same first byte, or both are empty.
 fn is_same_first(text: &[u8], op: &[u8]) -> bool {
     match (text, op) {
         ([], []) => true,
@@ -25,12 +26,12 @@ fn is_same_first(text: &[u8], op: &[u8]) -> bool {
         _ => false,
     }
 }
-/// Whether the operator at the front of the tokens is this one.
+/// Whether the tokens `front` and then `behind` begin with this operator, and with no longer one.
 #[inline(never)]
 fn is_begun(front: &Token, behind: &[Token], op: &[u8]) -> bool {
     if front.joint { is_longest(front, behind, op) } else { is_alone(front, op) }
 }
-/// Whether the longest operator that begins with a joint token is this one.
+/// Whether the longest operator that begins with the joint token `front` is this one.
 fn is_longest(front: &Token, behind: &[Token], op: &[u8]) -> bool {
     let first = mark(front);
     let second = first_mark(behind);
@@ -41,21 +42,21 @@ fn is_longest(front: &Token, behind: &[Token], op: &[u8]) -> bool {
         is_alone(front, op)
     }
 }
-/// Whether the token alone is this operator.
+/// Whether the token by itself is this operator.
 fn is_alone(token: &Token, op: &[u8]) -> bool {
     match token.kind {
         Kind::Punct => op == token.text.as_bytes(),
         _ => false,
     }
 }
-/// The character of a token that is punctuation, and else 0.
+/// The character of a token that is punctuation, else 0.
 fn mark(token: &Token) -> u8 {
     match token.kind {
         Kind::Punct => one(token.text.as_bytes()),
         _ => 0,
     }
 }
-/// The one byte of a text, or else 0.
+/// The only byte of a text that has one byte, else 0.
 fn one(text: &[u8]) -> u8 {
     match text {
         [byte] => *byte,
@@ -74,7 +75,7 @@ fn second_mark(tokens: &[Token]) -> u8 {
         _ => 0,
     }
 }
-/// Whether the characters are an operator.
+/// Whether the three characters are an operator.
 fn is_three(first: u8, second: u8, third: u8) -> bool {
     match third {
         b'=' => {
@@ -87,7 +88,7 @@ fn is_three(first: u8, second: u8, third: u8) -> bool {
         _ => false,
     }
 }
-/// Whether the characters are an operator.
+/// Whether the two characters are an operator.
 fn is_two(first: u8, second: u8) -> bool {
     match second {
         b'=' => is_before_equals(first),

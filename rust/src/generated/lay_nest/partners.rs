@@ -1,10 +1,10 @@
 //! Made by scripts/rust.sh from crates/lay_nest/src/partners.rt, which is proved: change that.
 //!
-//! How far each opener is from its partner.
+//! The distance of each opener to its partner.
 use crate::shims::Vec;
 use crate::generated::lay_token::{FormatError, Kind, List, NoMemory, Refusal, Token};
 use crate::shims::Global;
-/// Of each token, if it is an opener, how many tokens stand between it and its partner, and else 0.
+/// For each token: the number of tokens between it and its partner if it is an opener, else 0.
 pub fn spans_of(
     alloc: Global,
     tokens: &[Token],
@@ -25,30 +25,30 @@ pub fn spans_of(
         None => Ok(List::from_vec(spans)),
     }
 }
-/// The token at this place.
+/// The token with this index.
 fn token_at(tokens: &[Token], place: usize) -> &Token {
     &tokens[place]
 }
-/// The refusal of a delimiter that has no partner.
+/// The error for a delimiter that has no partner.
 fn unbalanced(token: &Token) -> FormatError {
     FormatError::Refused(Refusal::Unbalanced { at: token.at })
 }
-/// Whether the second is the partner of the first.
+/// Whether the kinds are an opener and the closer that matches it.
 fn is_pair(first: Kind, second: Kind) -> bool {
     match (first, second) {
         (Kind::Opener(opened), Kind::Closer(closed)) => opened == closed,
         _ => false,
     }
 }
-/// The partners among the tokens read so far.
+/// The partners among the tokens that were read so far.
 struct Reading {
-    /// The spans of the tokens; of an opener that is still open, 0.
+    /// The spans of the tokens; 0 for an opener that is still open.
     spans: Vec<crate::shims::Span>,
-    /// Where the openers stand that are still open, the last one last.
+    /// The indices of the openers that are still open, the innermost last.
     places: Vec<usize>,
 }
 impl Reading {
-    /// Before the first of so many tokens.
+    /// The state before the first of `len` tokens.
     fn new(alloc: Global, len: usize) -> Result<Reading, NoMemory> {
         let spans = Vec::with_capacity(alloc, len)?;
         Ok(Reading { spans, places: Vec::new(alloc) })
@@ -78,7 +78,7 @@ impl Reading {
         self.places.push(self.spans.len())?;
         self.pass()
     }
-    /// Adds the partner of the opener at this place, which is no longer among the open ones.
+    /// Adds the closer of the opener with this index, which was taken from the open ones.
     fn close(&mut self, place: usize) -> Result<(), NoMemory> {
         self.spans[place] = crate::shims::Span::new(self.spans.len() - place - 1);
         self.pass()

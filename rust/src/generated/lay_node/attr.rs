@@ -4,11 +4,12 @@
 use crate::generated::lay_node::simple_path::SimplePath;
 use crate::generated::lay_node::tokens::{Group, Tokens};
 use crate::generated::lay_token::Text;
-/// An attribute (Rust Reference, "Attributes"). An inner one says something of what it stands in.
+/// An attribute (Rust Reference, "Attributes"). An inner one documents or changes the item that it
+/// stands in.
 #[derive(Debug, Clone, PartialEq, Eq)]
 #[non_exhaustive]
 pub enum Attr {
-    /// Documentation. It may be spelled as a comment or as `#[doc = "text"]`.
+    /// Documentation. It can be spelled as a comment or as `#[doc = "text"]`.
     Doc {
         inner: bool,
         text: Text,
@@ -20,7 +21,7 @@ pub enum Attr {
         input: MetaInput,
     },
 }
-/// What an attribute is called.
+/// The name of an attribute.
 #[derive(Debug, Clone, PartialEq, Eq)]
 #[non_exhaustive]
 pub enum MetaPath {
@@ -29,7 +30,7 @@ pub enum MetaPath {
     /// `unsafe`
     Unsafe,
 }
-/// What an attribute is given.
+/// The input of an attribute.
 #[derive(Debug, Clone, PartialEq, Eq)]
 #[non_exhaustive]
 pub enum MetaInput {
@@ -37,6 +38,6 @@ pub enum MetaInput {
     Bare,
     /// `(a, b = "x")`
     Group(Group),
-    /// ` = "x"`, of one token at least.
+    /// ` = "x"`, with at least one token
     Value(Tokens),
 }

@@ -21,7 +21,8 @@ pub enum Fields {
         fields: List<Field>,
     },
 }
-/// A field without a name. Behind `pub` its type is no `(crate)`, `(self)` or `(super)`, which would restrict it.
+/// A field without a name. After `pub` its type is not `(crate)`, `(self)` or `(super)`, which
+/// would be read as part of the visibility.
 #[derive(Clone, Debug, PartialEq, Eq)]
 pub struct TupleField {
     pub attrs: List<Attr>,
@@ -43,6 +44,6 @@ pub struct Variant {
     pub vis: Vis,
     pub name: Name,
     pub fields: Fields,
-    /// ` = 1`, of one token at least, and without a `,` outside its groups
+    /// ` = 1`, with at least one token, and without a `,` outside its groups
     pub discriminant: Option<Tokens>,
 }

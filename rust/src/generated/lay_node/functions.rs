@@ -7,16 +7,16 @@ use crate::generated::lay_node::patterns::Pat;
 use crate::generated::lay_node::token::{Lifetime, Name};
 use crate::generated::lay_node::types::{Abi, Ty};
 use crate::generated::lay_token::List;
-/// What a function says of its safety.
+/// The word before `fn` that says whether a function is safe to call.
 #[derive(Clone, Copy, Debug, PartialEq, Eq)]
 #[non_exhaustive]
 pub enum Safety {
     /// `unsafe`
     Unsafe,
-    /// `safe`, which a function of a foreign block may say
+    /// `safe`, which only a function in a foreign block may have
     Safe,
 }
-/// The head of a function (Rust Reference, "Functions"): all up to its where clause.
+/// The head of a function (Rust Reference, "Functions"): everything before its where clause.
 #[derive(Clone, Debug, PartialEq, Eq)]
 pub struct FnHead {
     pub is_const: bool,
@@ -25,7 +25,7 @@ pub struct FnHead {
     pub abi: Option<Abi>,
     pub name: Name,
     pub generics: Generics,
-    /// A receiver stands first alone, and `...` last alone.
+    /// A receiver may only stand first, and `...` only last.
     pub params: List<Param>,
     pub output: Option<Ty>,
 }
@@ -35,7 +35,7 @@ pub struct Param {
     pub attrs: List<Attr>,
     pub kind: ParamKind,
 }
-/// What a parameter of a function is.
+/// The pattern and type of a parameter, or a receiver.
 #[derive(Clone, Debug, PartialEq, Eq)]
 #[non_exhaustive]
 pub enum ParamKind {

@@ -33,19 +33,19 @@ pub enum GenericParam {
         default: Option<ConstDefault>,
     },
 }
-/// What a parameter that is a constant is by default.
+/// The default of a const parameter.
 #[derive(Clone, Debug, PartialEq, Eq)]
 #[non_exhaustive]
 pub enum ConstDefault {
     Arg(ConstArg),
     Name(Name),
 }
-/// A where clause (Rust Reference, "Where clauses"), of no predicates where there is none.
+/// A where clause (Rust Reference, "Where clauses"). Without one there are no predicates.
 #[derive(Clone, Debug, PartialEq, Eq)]
 pub struct Wheres {
     pub predicates: List<Predicate>,
 }
-/// What a where clause says of a lifetime or of a type.
+/// A predicate of a where clause.
 #[derive(Clone, Debug, PartialEq, Eq)]
 #[non_exhaustive]
 pub enum Predicate {

@@ -1,12 +1,12 @@
 //! Made by scripts/rust.sh from crates/lay_node/src/heads.rt, which is proved: change that.
 //!
-//! The heads of items, and the items that are heads alone.
+//! The heads of items, and the items that consist of a head alone.
 use crate::generated::lay_node::fields::{Field, Fields, Variant};
 use crate::generated::lay_node::generics::{Generics, Wheres};
 use crate::generated::lay_node::token::{GivenName, Name, Word};
 use crate::generated::lay_node::types::{Bound, Path, Ty};
 use crate::generated::lay_token::List;
-/// Where an item stands.
+/// Where an item stands, which decides what kinds of items are allowed.
 #[derive(Clone, Copy, Debug, PartialEq, Eq)]
 pub enum Site {
     /// In a file or a module.
@@ -34,8 +34,8 @@ pub struct Alias {
     pub ty: Option<Ty>,
     pub wheres: Wheres,
 }
-/// `struct A<B>(C) where D` (Rust Reference, "Structs"). The where clause stands before fields with names, and behind
-/// others.
+/// `struct A<B>(C) where D` (Rust Reference, "Structs"). The where clause stands before named
+/// fields, and after all others.
 #[derive(Clone, Debug, PartialEq, Eq)]
 pub struct Struct {
     pub name: Name,
@@ -59,7 +59,8 @@ pub struct Enum {
     pub wheres: Wheres,
     pub variants: List<Variant>,
 }
-/// The head of a constant or of a static (Rust Reference, "Constant items", "Static items"): all up to its value.
+/// The head of a constant or of a static (Rust Reference, "Constant items", "Static items"):
+/// everything before its value.
 #[derive(Clone, Debug, PartialEq, Eq)]
 #[non_exhaustive]
 pub enum ValueHead {
@@ -75,7 +76,7 @@ pub enum ValueHead {
         ty: Ty,
     },
 }
-/// The head of a trait (Rust Reference, "Traits"): all up to its where clause.
+/// The head of a trait (Rust Reference, "Traits"): everything before its where clause.
 #[derive(Clone, Debug, PartialEq, Eq)]
 pub struct TraitHead {
     pub is_unsafe: bool,
@@ -83,7 +84,8 @@ pub struct TraitHead {
     pub generics: Generics,
     pub bounds: List<Bound>,
 }
-/// The head of an implementation (Rust Reference, "Implementations"): all up to its where clause.
+/// The head of an implementation (Rust Reference, "Implementations"): everything before its where
+/// clause.
 #[derive(Clone, Debug, PartialEq, Eq)]
 pub struct ImplHead {
     pub is_unsafe: bool,
@@ -91,7 +93,7 @@ pub struct ImplHead {
     pub of: Option<TraitRef>,
     pub ty: Ty,
 }
-/// The trait that is implemented: `A for` or, where it is said that it isn't, `!A for`.
+/// The trait of an implementation: `A for`, or `!A for` of a negative one.
 #[derive(Clone, Debug, PartialEq, Eq)]
 pub struct TraitRef {
     pub negative: bool,

@@ -1,3 +1,3 @@
 //! Made by scripts/rust.sh from crates/lay_node/src/laws.rt, which is proved: change that.
 //!
-//! What holds of every node.
+//! The theorems about nodes. (No code runs.)

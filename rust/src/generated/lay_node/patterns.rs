@@ -7,17 +7,17 @@ use crate::generated::lay_node::token::{Literal, Name};
 use crate::generated::lay_node::tokens::MacroCall;
 use crate::generated::lay_node::types::Path;
 use crate::generated::lay_token::{List, Text};
-/// Where a pattern stands: where several alternatives may stand, or where one may.
+/// Where a pattern stands: where alternatives may stand without parentheses, or where they may not.
 #[derive(Clone, Copy, Debug, PartialEq, Eq)]
 pub enum PatPlace {
     Alternatives,
     Single,
 }
-/// A pattern (Rust Reference, "Patterns"). One within another stands one level deeper.
+/// A pattern (Rust Reference, "Patterns"). A pattern within another counts one level of depth more.
 #[derive(Clone, Debug, PartialEq, Eq)]
 #[non_exhaustive]
 pub enum Pat {
-    /// `A | B`, of two alternatives at least
+    /// `A | B`, with at least two alternatives
     Or {
         alternatives: List<Pat>,
     },
@@ -33,7 +33,7 @@ pub enum Pat {
     Call {
         call: MacroCall,
     },
-    /// `a::B`, `A::<B>::C`: no name by itself, which would be bound
+    /// `a::B`, `A::<B>::C`, but not a single name: that is `Bind`
     Path {
         path: Path,
     },
@@ -44,7 +44,7 @@ pub enum Pat {
         name: Name,
         of: Option<Boxed<Pat>>,
     },
-    /// `1..=2`, `a::B..`, `..1`, with one end at least. The boxes keep other patterns small.
+    /// `1..=2`, `a::B..`, `..1`, with at least one end. The ends are boxed to keep `Pat` small.
     Span {
         start: Boxed<Option<SpanEnd>>,
         inclusive: bool,
@@ -79,7 +79,7 @@ pub enum Pat {
         elements: List<Pat>,
     },
 }
-/// A field in the pattern of a struct.
+/// A field in a struct pattern.
 #[derive(Clone, Debug, PartialEq, Eq)]
 #[non_exhaustive]
 pub enum FieldPat {
@@ -95,24 +95,24 @@ pub enum FieldPat {
         index: Text,
         pat: Pat,
     },
-    /// `ref mut a`: a name that is bound to the field of that name
+    /// `ref mut a`: the field of this name, bound to the name
     Short {
         attrs: List<Attr>,
         pat: Pat,
     },
 }
-/// A literal in a pattern, or a number behind a `-`.
+/// A literal in a pattern, or a negative number.
 #[derive(Clone, Debug, PartialEq, Eq)]
 pub struct PatValue {
     pub negative: bool,
     pub literal: Literal,
 }
-/// An end of a span of values.
+/// An end of a range pattern.
 #[derive(Clone, Debug, PartialEq, Eq)]
 #[non_exhaustive]
 pub enum SpanEnd {
     /// `1`, `-1`
     Value(PatValue),
-    /// `a::B`, in the style of code
+    /// `a::B`, with generic arguments after `::` as in expressions
     Path(Path),
 }

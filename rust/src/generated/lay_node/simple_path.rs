@@ -3,10 +3,10 @@
 //! Simple paths.
 use crate::generated::lay_node::token::Word;
 use crate::generated::lay_token::List;
-/// A path of words alone (Rust Reference, "Simple paths"), of one at least.
+/// A path without generic arguments (Rust Reference, "Simple paths"), with at least one word.
 #[derive(Debug, Clone, PartialEq, Eq)]
 pub struct SimplePath {
-    /// It begins with `::`.
+    /// Whether it begins with `::`.
     pub global: bool,
     pub words: List<Word>,
 }

@@ -1,14 +1,14 @@
 //! Made by scripts/rust.sh from crates/lay_node/src/token.rt, which is proved: change that.
 //!
-//! Tokens of a tree: names, words, and the tokens of token lists.
+//! The tokens that trees hold: names, words, lifetimes, literals, and the tokens of token lists.
 use crate::generated::lay_token::{Kind, Text};
-/// A name: an identifier that is no keyword, or a raw identifier, whose text is without `r#`.
+/// A name: an identifier that is no keyword, or a raw identifier. The text has no `r#`.
 #[derive(Debug, Clone, PartialEq, Eq)]
 pub struct Name {
     pub raw: bool,
     pub text: Text,
 }
-/// A name that is given, or `_` where none is.
+/// A name, or `_` in its place.
 #[derive(Debug, Clone, PartialEq, Eq)]
 pub enum GivenName {
     Name(Name),
@@ -21,10 +21,11 @@ pub struct Word {
     pub raw: bool,
     pub text: Text,
 }
-/// A token of a token list. Where it stood isn't in the tree, nor whether documentation was a block.
+/// A token of a token list. The tree doesn't keep its place in the text, nor whether documentation
+/// was a block.
 #[derive(Debug, Clone, PartialEq, Eq)]
 pub enum Listed {
-    /// Any token but documentation, with its joint mark: another punctuation token stands directly behind it.
+    /// Any token but documentation. `joint`: another punctuation token follows directly.
     Token {
         kind: Kind,
         text: Text,
@@ -47,8 +48,8 @@ pub struct Literal {
     pub kind: Kind,
     pub text: Text,
 }
-/// Whether each byte of a text is a decimal digit, as in the index of a tuple's field (Rust Reference, "Tuple index"). So it is
-/// of an empty text.
+/// Whether each byte of the text is a decimal digit, as in the index of a tuple field (Rust
+/// Reference, "Tuple index"). True of an empty text.
 pub fn are_digits(text: &[u8]) -> bool {
     for byte in text {
         if !byte.is_ascii_digit() {

@@ -1,22 +1,23 @@
 //! Made by scripts/rust.sh from crates/lay_node/src/tokens.rt, which is proved: change that.
 //!
-//! Token lists, and what is made of them.
+//! Token lists, delimited groups and macro calls.
 use crate::shims::Vec;
 use crate::generated::lay_node::simple_path::SimplePath;
 use crate::generated::lay_node::token::Listed;
 use crate::generated::lay_token::{Delim, Kind, List, NoMemory};
 use crate::shims::Global;
-/// A token list (Rust Reference, "Macros": token trees): tokens whose delimiters are balanced, as a flat list.
+/// A token list (Rust Reference, "Macros": token trees): tokens with balanced delimiters, kept
+/// flat.
 #[derive(Debug, Clone, PartialEq, Eq)]
 pub struct Tokens {
     list: List<Listed>,
 }
 impl Tokens {
-    /// The list of these tokens.
+    /// The list of these tokens, which are balanced.
     pub fn new(list: List<Listed>) -> Tokens {
         Tokens { list }
     }
-    /// The list of these tokens, or none where their delimiters aren't balanced.
+    /// The list of these tokens, or `None` if their delimiters aren't balanced.
     pub fn from_list(
         alloc: Global,
         list: List<Listed>,
@@ -40,8 +41,8 @@ fn are_balanced(alloc: Global, tokens: &[Listed]) -> Result<bool, NoMemory> {
     }
     Ok(open.is_empty())
 }
-/// Opens what a token opens, or closes what it closes, where these delimiters are open before it, the last one last. Answers
-/// whether it may stand there.
+/// Updates the stack of open delimiters by one token. Gives `false` if the token is a closer that
+/// doesn't match the innermost open delimiter.
 fn turn(opened: &mut Vec<Delim>, token: &Listed) -> Result<bool, NoMemory> {
     match token {
         Listed::Token { kind: Kind::Opener(delim), .. } => {
@@ -54,11 +55,11 @@ fn turn(opened: &mut Vec<Delim>, token: &Listed) -> Result<bool, NoMemory> {
         _ => Ok(true),
     }
 }
-/// One delimited group.
+/// A delimited group of tokens.
 #[derive(Debug, Clone, PartialEq, Eq)]
 pub struct Group {
     pub delim: Delim,
-    /// What stands between the delimiters.
+    /// The tokens between the delimiters.
     pub tokens: Tokens,
 }
 /// A macro call (Rust Reference, "Macro invocation"): `a::m!(b, c)`.

@@ -1,25 +1,25 @@
 //! Made by scripts/rust.sh from crates/lay_node/src/types.rt, which is proved: change that.
 //!
-//! Types, and the paths, generic arguments and bounds that they are made of.
+//! Types, paths, generic arguments and bounds.
 use crate::generated::lay_node::attr::Attr;
 use crate::generated::lay_node::boxed::Boxed;
 use crate::generated::lay_node::token::{GivenName, Lifetime, Literal, Name, Word};
 use crate::generated::lay_node::tokens::{MacroCall, Tokens};
 use crate::generated::lay_token::List;
-/// How generic arguments are spelled in a path: in code behind `::`, and in what names a kind of things, as a type,
-/// behind an optional `::`, where they may also stand in parentheses.
+/// How a path spells generic arguments: in expressions after `::`; in types after an optional `::`,
+/// where they may also be in parentheses, as in `Fn(A) -> B`.
 #[derive(Clone, Copy, Debug, PartialEq, Eq)]
 pub enum PathStyle {
     Code,
     Kind,
 }
-/// Where a type stands: where several bounds may stand, or where one may.
+/// Where a type stands: where `A + B` may stand without parentheses, or where it may not.
 #[derive(Clone, Copy, Debug, PartialEq, Eq)]
 pub enum TypePlace {
     Bounds,
     NoBounds,
 }
-/// A type (Rust Reference, "Types"). One within another stands one level deeper.
+/// A type (Rust Reference, "Types"). A type within another counts one level of depth more.
 #[derive(Clone, Debug, PartialEq, Eq)]
 #[non_exhaustive]
 pub enum Ty {
@@ -58,12 +58,12 @@ pub enum Ty {
     Slice {
         inner: Boxed<Ty>,
     },
-    /// `[A; n]`, with one token at least behind the `;`
+    /// `[A; n]`, with at least one token after the `;`
     Array {
         inner: Boxed<Ty>,
         length: Tokens,
     },
-    /// `for<'a> unsafe extern "C" fn(a: A, ...) -> B` The boxes keep other types small.
+    /// `for<'a> unsafe extern "C" fn(a: A, ...) -> B`. Its parts are boxed to keep `Ty` small.
     Func {
         binder: Boxed<Option<Binder>>,
         is_unsafe: bool,
@@ -72,7 +72,7 @@ pub enum Ty {
         variadic: bool,
         output: Option<Boxed<Ty>>,
     },
-    /// `impl A + B` or, where it is dynamic, `dyn A + B`; of one bound at least
+    /// `impl A + B`, or `dyn A + B` if it is dynamic, with at least one bound
     Bounds {
         dynamic: bool,
         bounds: List<Bound>,
@@ -85,14 +85,15 @@ pub struct FuncParam {
     pub name: Option<GivenName>,
     pub ty: Ty,
 }
-/// A path (Rust Reference, "Paths"), of one segment at least.
+/// A path (Rust Reference, "Paths"), with at least one segment.
 #[derive(Clone, Debug, PartialEq, Eq)]
 pub struct Path {
     pub start: PathStart,
-    /// Each word with its arguments. (A struct of their own can't stand in a list of another one of this cycle.)
+    /// Each word with its generic arguments. (They are a pair, since in this cycle of types a list
+    /// can't hold a struct of the cycle.)
     pub segments: List<(Word, Args)>,
 }
-/// What a path begins with, before its segments.
+/// What a path begins with.
 #[derive(Clone, Debug, PartialEq, Eq)]
 #[non_exhaustive]
 pub enum PathStart {
@@ -100,7 +101,7 @@ pub enum PathStart {
     Local,
     /// `::`
     Global,
-    /// `<A as B>::`, where the trait may be left out
+    /// `<A as B>::` or `<A>::`
     Qualified {
         ty: Boxed<Ty>,
         of: Option<Boxed<Path>>,
@@ -144,7 +145,8 @@ pub enum Arg {
         constraint: Constraint,
     },
 }
-/// What is asked of a name among generic arguments. With the name it stands one level deeper.
+/// What a generic argument says of an associated item, as in `Iterator<Item = A>`. With the name it
+/// counts one level of depth more.
 #[derive(Clone, Debug, PartialEq, Eq)]
 #[non_exhaustive]
 pub enum Constraint {
@@ -156,7 +158,7 @@ pub enum Constraint {
     EqualConst {
         value: ConstArg,
     },
-    /// `: A + B`, of one bound at least
+    /// `: A + B`, with at least one bound
     Limit {
         bounds: List<Bound>,
     },
@@ -181,7 +183,7 @@ pub enum Bound {
         captured: List<Capture>,
     },
 }
-/// What a bound of captures names: a lifetime, a name, or `Self` (Rust Reference, "Use bounds").
+/// What `use<..>` names: a lifetime, a type parameter, or `Self` (Rust Reference, "Use bounds").
 #[derive(Clone, Debug, PartialEq, Eq)]
 #[non_exhaustive]
 pub enum Capture {
@@ -194,15 +196,15 @@ pub enum Capture {
         word: Word,
     },
 }
-/// A generic argument that is a constant.
+/// A const generic argument.
 #[derive(Clone, Debug, PartialEq, Eq)]
 #[non_exhaustive]
 pub enum ConstArg {
     /// `1`, `true`
     Literal(Literal),
-    /// `-1`: a number behind a `-`
+    /// `-1`: a number after a `-`
     Negative(Literal),
-    /// `{ n }`: a group in braces
+    /// `{ n }`: a group of tokens in braces
     Braces(Tokens),
 }
 /// `for<'a, 'b: 'a>`

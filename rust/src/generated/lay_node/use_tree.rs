@@ -1,18 +1,19 @@
 //! Made by scripts/rust.sh from crates/lay_node/src/use_tree.rt, which is proved: change that.
 //!
-//! Use trees, which imports are made of.
+//! Use trees, the argument of `use`.
 use crate::generated::lay_node::token::{GivenName, Word};
 use crate::generated::lay_token::List;
-/// What an import names (Rust Reference, "Use declarations"). One in a group stands one level deeper.
+/// A use tree (Rust Reference, "Use declarations"). A tree in a group counts one level of depth
+/// more.
 #[derive(Debug, Clone, PartialEq, Eq)]
 pub struct UseTree {
-    /// It begins with `::`.
+    /// Whether it begins with `::`.
     pub global: bool,
-    /// The words that have a `::` behind them.
+    /// The words before the end, each of which has a `::` after it.
     pub path: List<Word>,
     pub end: UseEnd,
 }
-/// What a use tree names behind its path.
+/// The end of a use tree, after its path.
 #[derive(Debug, Clone, PartialEq, Eq)]
 #[non_exhaustive]
 pub enum UseEnd {

@@ -2,11 +2,11 @@
 //!
 //! Visibilities.
 use crate::generated::lay_node::simple_path::SimplePath;
-/// Where an item or a field may be named (Rust Reference, "Visibility and privacy").
+/// The visibility of an item or a field (Rust Reference, "Visibility and privacy").
 #[derive(Debug, Clone, PartialEq, Eq)]
 #[non_exhaustive]
 pub enum Vis {
-    /// Nothing: where it stands.
+    /// None written: private, or as visible as the trait or the enumeration around it.
     Inherited,
     /// `pub`
     Public,

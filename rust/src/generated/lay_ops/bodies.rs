@@ -1,21 +1,21 @@
 //! Made by scripts/rust.sh from crates/lay_ops/src/bodies.rt, which is proved: change that.
 //!
-//! What is told of blocks, statements and items by their roots.
+//! Facts about blocks, statements and items, decided by their roots.
 use crate::generated::lay_ops::roots::{is_block_like, is_macro};
 use crate::generated::lay_ops::structs::is_structless;
 use crate::generated::lay_code::{Attr, Block, Expr, Item, ItemKind, Lifetime, Stmt};
-/// Whether another statement may stand behind it.
+/// Whether another statement may follow the statement.
 pub fn ends(stmt: &Stmt) -> bool {
     match stmt {
         Stmt::Let { .. } | Stmt::Item { .. } => true,
         Stmt::Expr { expr, ended, .. } => *ended || is_block_like(expr.get()),
     }
 }
-/// Whether an expression with these attributes is no macro call, and has neither attributes nor a `;`.
+/// Whether the expression is plain: no macro call, without attributes and without a `;`.
 fn is_lone_expr(attrs: &[Attr], ended: bool, expr: &Expr) -> bool {
     attrs.is_empty() && !ended && !is_macro(expr)
 }
-/// Whether it is such an expression.
+/// Whether the statement is such a plain expression.
 fn is_lone_stmt(stmt: &Stmt) -> bool {
     match stmt {
         Stmt::Expr { attrs, expr, ended } => {
@@ -24,14 +24,14 @@ fn is_lone_stmt(stmt: &Stmt) -> bool {
         _ => false,
     }
 }
-/// Whether it is one statement, which is such an expression.
+/// Whether the list is a single statement that is a plain expression.
 fn is_lone_list(stmts: &[Stmt]) -> bool {
     match stmts {
         [stmt] => is_lone_stmt(stmt),
         _ => false,
     }
 }
-/// Whether a block holds such an expression and nothing else.
+/// Whether a block holds a plain expression and nothing else.
 fn is_lone(block: &Block) -> bool {
     block.attrs.as_slice().is_empty() && is_lone_list(block.stmts.as_slice())
 }
@@ -42,30 +42,30 @@ pub(crate) fn is_unlabelled(label: &Option<Lifetime>) -> bool {
         None => true,
     }
 }
-/// Whether it is a block whose braces are dropped where it is the body of an arm.
+/// Whether the expression is a block whose braces are dropped as the body of an arm.
 pub fn is_lone_body(expr: &Expr) -> bool {
     match expr {
         Expr::Block { label, body } => is_unlabelled(label) && is_lone(body),
         _ => false,
     }
 }
-/// Whether it is a block whose braces are dropped where it is the body of a closure. The flag says that no struct literal may
-/// stand there.
+/// Whether the expression is a block whose braces are dropped as the body of a closure; `no_struct`
+/// says that no struct literal may stand there.
 pub fn sheds(expr: &Expr, no_struct: bool) -> bool {
     match expr {
         Expr::Block { label, body } => is_unlabelled(label) && is_shed(body, no_struct),
         _ => false,
     }
 }
-/// Whether such a block without a label is one.
+/// Whether an unlabelled block is one whose braces are dropped.
 fn is_shed(block: &Block, no_struct: bool) -> bool {
     is_lone(block) && (!no_struct || is_block_structless(block))
 }
-/// Whether no expression of a block's statements holds a struct literal outside delimiters.
+/// Whether no expression among a block's statements has a struct literal outside delimiters.
 fn is_block_structless(block: &Block) -> bool {
     are_stmts_structless(block.stmts.as_slice())
 }
-/// Whether none of the statements is such an expression.
+/// Whether no expression among the statements has a struct literal outside delimiters.
 fn are_stmts_structless(stmts: &[Stmt]) -> bool {
     for stmt in stmts {
         if !is_stmt_structless(stmt) {
@@ -74,7 +74,7 @@ fn are_stmts_structless(stmts: &[Stmt]) -> bool {
     }
     true
 }
-/// Whether a statement is no expression that holds one.
+/// Whether the statement is no expression with a struct literal outside delimiters.
 fn is_stmt_structless(stmt: &Stmt) -> bool {
     match stmt {
         Stmt::Expr { expr, .. } => is_structless(expr.get()),

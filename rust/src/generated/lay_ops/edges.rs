@@ -1,24 +1,25 @@
 //! Made by scripts/rust.sh from crates/lay_ops/src/edges.rt, which is proved: change that.
 //!
-//! What stands at the edges of the body of a closure: what decides whether it gets braces where it is broken.
+//! Facts about the left and the right edge of the body of a closure, which decide whether it gets
+//! braces when it is broken.
 use crate::generated::lay_ops::bodies::{is_lone_body, is_unlabelled};
 use crate::generated::lay_ops::roots::is_block_like;
 use crate::generated::lay_code::{Expr, Step};
-/// What an edge of an expression tells.
+/// What the node at an edge of an expression decides.
 #[derive(Clone, Copy,)]
 enum Edge<'a> {
     /// The answer.
     Told(bool),
-    /// That the answer is the one of an operand.
+    /// The answer is that of this operand.
     In(&'a Expr),
 }
-/// Whether braces that aren't in the tree may stand round an expression where it is the body of a closure: it may be a
-/// statement, and the closures that it ends in keep no braces which they would lose within these. Two walks tell it, down the
-/// left edge and down the right one, so that closures in one another take no more than the square of their number.
+/// Whether the body of a closure may get braces that aren't in the tree: it may stand as a
+/// statement, and the closures that it ends in don't keep braces that they would lose within these.
+/// Two walks decide it, one down each edge, so nested closures take at most quadratic time.
 pub fn may_wear_braces(expr: &Expr) -> bool {
     starts(expr) && is_tight(expr)
 }
-/// Whether each expression that begins where it begins may stand there where it begins a statement.
+/// Whether everything on the left edge of the expression may begin a statement.
 fn starts(expr: &Expr) -> bool {
     let mut first = expr;
     loop {
@@ -33,7 +34,8 @@ fn starts(expr: &Expr) -> bool {
         }
     }
 }
-/// Whether what begins an expression may begin a statement. An operand that would end a statement by itself begins none.
+/// Whether the root of the expression may begin a statement, or which operand on the left edge
+/// decides it.
 fn starting_edge(expr: &Expr) -> Edge<'_> {
     match expr {
         Expr::Chain { first, .. } => Edge::In(first.get()),
@@ -53,7 +55,7 @@ fn starting_edge(expr: &Expr) -> Edge<'_> {
         _ => Edge::Told(true),
     }
 }
-/// Whether the first of the steps is one that goes on with an expression everywhere.
+/// Whether the first of the steps begins with `.` or is `?`.
 pub fn begins_dotted(steps: &[Step]) -> bool {
     match steps {
         [step, ..] => is_dotted(step),
@@ -64,7 +66,8 @@ pub fn begins_dotted(steps: &[Step]) -> bool {
 fn is_dotted(step: &Step) -> bool {
     !matches!(step, Step::Apply { .. } | Step::Index { .. })
 }
-/// Whether no closure ends where it ends whose body keeps braces only since no struct literal may stand there.
+/// `false` if the expression ends in a closure whose body keeps its braces only because no struct
+/// literal may stand at this position.
 fn is_tight(expr: &Expr) -> bool {
     let mut last = expr;
     loop {
@@ -74,7 +77,7 @@ fn is_tight(expr: &Expr) -> bool {
         }
     }
 }
-/// Whether what ends an expression is no such closure.
+/// Whether the root of the expression is no such closure, or which operand decides it.
 fn closing_edge(expr: &Expr) -> Edge<'_> {
     match expr {
         Expr::Chain { rest, .. } => {
@@ -106,7 +109,7 @@ pub(crate) fn begins_with_brace(expr: &Expr) -> bool {
         }
     }
 }
-/// Whether what begins an expression is a `{`.
+/// Whether the root of the expression begins with a `{`, or which operand decides it.
 fn leading_edge(expr: &Expr) -> Edge<'_> {
     match expr {
         Expr::Chain { first, .. } => Edge::In(first.get()),

@@ -1,22 +1,23 @@
 //! Made by scripts/rust.sh from crates/lay_ops/src/expr_ends.rt, which is proved: change that.
 //!
-//! What expressions end in, found along their right edge.
+//! What an expression ends in, found along its right edge.
 use crate::generated::lay_ops::roots::last_lacks_args;
 use crate::generated::lay_ops::type_ends::path_lacks_args;
 use crate::generated::lay_code::Expr;
 /// What an expression ends in.
 #[derive(Clone, Copy,)]
 enum ExprEnd<'a> {
-    /// What may stand before each operator.
+    /// What any operator may follow.
     Shut,
-    /// What takes the operators behind it, or lacks an operand.
+    /// What would take an operator that follows as a part of its operand, or lacks an operand.
     Open,
-    /// A type that lacks generic arguments at its end.
+    /// A type after which `<` would open generic arguments.
     Typed,
     /// An operand.
     In(&'a Expr),
 }
-/// Whether an operator may stand behind an expression, if one does, and `<` or `<<`, if that does.
+/// Whether what follows may follow the expression; `op` says that it is an operator, `angle` that
+/// it is `<` or `<<`.
 pub fn may_precede(expr: &Expr, op: bool, angle: bool) -> bool {
     let mut last = expr;
     loop {
@@ -48,7 +49,7 @@ fn expr_end(expr: &Expr) -> ExprEnd<'_> {
         _ => ExprEnd::Shut,
     }
 }
-/// A type at the end, which lacks generic arguments there or doesn't.
+/// The end of an expression in a type; `lacks` says that `<` would open generic arguments there.
 fn typed_if(lacks: bool) -> ExprEnd<'static> {
     if lacks { ExprEnd::Typed } else { ExprEnd::Shut }
 }

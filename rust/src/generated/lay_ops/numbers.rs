@@ -3,24 +3,24 @@
 //! Numbers without suffix.
 use crate::generated::lay_code::Expr;
 use crate::generated::lay_token::Kind;
-/// How far a number without suffix is read.
+/// The state of the automaton that recognizes numbers without suffix.
 #[derive(Clone, Copy,)]
 pub enum Reading {
-    /// Nothing of an integer.
+    /// Before the first character of an integer.
     Start,
     /// `0`
     Zero,
-    /// Digits, and nothing else can follow.
+    /// Digits after which only digits can follow.
     Digits,
     /// `0x` and hexadecimal digits.
     Hex,
-    /// Digits of a float.
+    /// The digits of a float before its point or exponent.
     Whole,
-    /// Digits behind a point.
+    /// The digits after a point.
     Fraction,
-    /// The letter of an exponent.
+    /// After the letter of an exponent.
     Exponent,
-    /// What is no number without suffix.
+    /// This is no number without suffix.
     Refused,
 }
 /// Whether an expression is a number without suffix.
@@ -38,7 +38,7 @@ fn is_bare_number(kind: Kind, text: &[u8]) -> bool {
         _ => false,
     }
 }
-/// Whether the text goes on to its end with what is read.
+/// Whether the rest of the text completes a number from this state.
 fn reads(text: &[u8], start: Reading) -> bool {
     let mut reading = start;
     let mut rest = text;
@@ -48,7 +48,7 @@ fn reads(text: &[u8], start: Reading) -> bool {
     }
     !matches!(reading, Reading::Refused)
 }
-/// How far a number is read with one more byte. Nothing but ASCII is read.
+/// The state after one more byte. Only ASCII makes a number.
 fn leads_to(reading: Reading, byte: u8) -> Reading {
     match reading {
         Reading::Start => if byte == b'0' { Reading::Zero } else { digits(byte) },
@@ -73,11 +73,11 @@ fn leads_to(reading: Reading, byte: u8) -> Reading {
         Reading::Refused => Reading::Refused,
     }
 }
-/// Digits, if the byte is one.
+/// `Digits`, if the byte is one, else `Refused`.
 fn digits(byte: u8) -> Reading {
     if in_digits(byte) { Reading::Digits } else { Reading::Refused }
 }
-/// An exponent, if the byte is its letter.
+/// `Exponent`, if the byte is its letter, else `Refused`.
 fn exponent(byte: u8) -> Reading {
     if byte == b'e' || byte == b'E' { Reading::Exponent } else { Reading::Refused }
 }

@@ -1,39 +1,39 @@
 //! Made by scripts/rust.sh from crates/lay_ops/src/operands.rt, which is proved: change that.
 //!
-//! What the tokens ahead begin, if it is an expression.
+//! Lookahead: how an expression begins with the next tokens.
 use crate::generated::lay_ops::operators::is_word;
 use crate::generated::lay_code::Place;
 use crate::generated::lay_nest::Cursor;
 use crate::generated::lay_token::word::{Class, word_class};
 use crate::generated::lay_token::{Delim, Kind, Token};
-/// What begins an expression.
+/// The tokens that can begin an expression.
 #[derive(Clone, Copy,)]
 pub enum ExprLead {
     Literal,
     /// A path, or a macro call.
     Path,
     Underscore,
-    /// A lifetime, which names a block or a loop.
+    /// A lifetime, which labels a block or a loop.
     Label,
     Paren,
     Bracket,
     Brace,
-    /// An operator before its operand.
+    /// A prefix operator.
     Prefix,
     /// `..` or `..=`
     Range,
     Continue,
     Break,
     Return,
-    /// A word of an expression that holds a block.
+    /// A word of an expression that contains a block.
     BlockWord,
     Closure,
 }
-/// Whether an operand begins at the front, at this place.
+/// Whether an operand comes next that may stand at this place.
 pub fn begins_operand(at: &Cursor<'_>, place: Place) -> bool {
     is_operand_lead(expr_lead_at(at), place.no_struct)
 }
-/// Whether this begins an operand, where no struct literal may stand or where one may.
+/// Whether an operand can begin like this; `no_struct` says that no struct literal may stand there.
 pub(crate) fn is_operand_lead(lead: Option<ExprLead>, no_struct: bool) -> bool {
     match lead {
         None => false,
@@ -41,14 +41,14 @@ pub(crate) fn is_operand_lead(lead: Option<ExprLead>, no_struct: bool) -> bool {
         Some(_) => true,
     }
 }
-/// What the tokens ahead begin, if it is an expression.
+/// How an expression begins with the next tokens, if one does.
 pub fn expr_lead_at(at: &Cursor<'_>) -> Option<ExprLead> {
     match at.peek(0) {
         Some(token) => expr_lead_by(token.kind, token.text.as_bytes(), at),
         None => None,
     }
 }
-/// What a token of this kind and this text begins, which is the first of those ahead.
+/// How an expression begins with the next token, which has this kind and this text.
 fn expr_lead_by(kind: Kind, text: &[u8], at: &Cursor<'_>) -> Option<ExprLead> {
     match kind {
         Kind::Ident => lead_of_word(text, at),
@@ -63,7 +63,7 @@ fn expr_lead_by(kind: Kind, text: &[u8], at: &Cursor<'_>) -> Option<ExprLead> {
         _ => Some(ExprLead::Literal),
     }
 }
-/// What a word begins.
+/// How an expression begins with this word, which comes next.
 fn lead_of_word(word: &[u8], at: &Cursor<'_>) -> Option<ExprLead> {
     if matches!(word_class(word), Class::Plain | Class::PathWord) {
         Some(ExprLead::Path)
@@ -81,15 +81,16 @@ fn lead_of_word(word: &[u8], at: &Cursor<'_>) -> Option<ExprLead> {
         Some(async_lead(at))
     } else if is_block_word(word, at) { Some(ExprLead::BlockWord) } else { None }
 }
-/// What the word `async` begins, which is the first token: a closure before its bars, and else a block.
+/// How an expression begins with `async`, which comes next: as a closure before its bars, else as a
+/// block.
 fn async_lead(at: &Cursor<'_>) -> ExprLead {
     if is_before_closure(at) { ExprLead::Closure } else { ExprLead::BlockWord }
 }
-/// Whether a `|` stands behind the first token, or `move` and a `|`.
+/// Whether a closure's bars follow the next token, with or without a `move`.
 fn is_before_closure(at: &Cursor<'_>) -> bool {
     is_bar_behind(at, 1) || is_word(at, 1, b"move") && is_bar_behind(at, 2)
 }
-/// Whether a `|` stands behind this many tokens.
+/// Whether a `|` comes next after `others` tokens.
 fn is_bar_behind(at: &Cursor<'_>, others: usize) -> bool {
     match at.peek(others) {
         Some(token) => is_bar(token),
@@ -100,17 +101,18 @@ fn is_bar_behind(at: &Cursor<'_>, others: usize) -> bool {
 fn is_bar(token: &Token) -> bool {
     matches!(token.kind, Kind::Punct) && token.text.as_bytes() == b"|".as_slice()
 }
-/// Whether a word begins an expression that holds a block. `const` does so before a `{` alone.
+/// Whether an expression that contains a block begins with the word. With `const` it does only
+/// before a `{`.
 fn is_block_word(word: &[u8], at: &Cursor<'_>) -> bool {
     holds_block(word) || word == b"const".as_slice() && is_before_brace(at)
 }
-/// Whether the word begins an expression that holds a block, whatever stands behind it.
+/// Whether an expression that contains a block begins with the word, whatever follows.
 fn holds_block(word: &[u8]) -> bool {
     word == b"for".as_slice() || word == b"if".as_slice() || word == b"loop".as_slice()
         || word == b"match".as_slice() || word == b"unsafe".as_slice()
         || word == b"while".as_slice()
 }
-/// Whether a `{` stands behind the first token.
+/// Whether a `{` follows the next token.
 fn is_before_brace(at: &Cursor<'_>) -> bool {
     match at.peek(1) {
         Some(token) => is_brace(token),
@@ -121,7 +123,7 @@ fn is_before_brace(at: &Cursor<'_>) -> bool {
 fn is_brace(token: &Token) -> bool {
     matches!(token.kind, Kind::Opener(Delim::Brace))
 }
-/// What punctuation begins.
+/// How an expression begins with this punctuation, which comes next.
 fn lead_of_punct(character: &[u8], at: &Cursor<'_>) -> Option<ExprLead> {
     match character {
         b"-" | b"*" | b"!" | b"&" => Some(ExprLead::Prefix),
@@ -130,7 +132,7 @@ fn lead_of_punct(character: &[u8], at: &Cursor<'_>) -> Option<ExprLead> {
         _ => lead_of_run(at),
     }
 }
-/// What `::`, `..` and `..=` begin.
+/// How an expression begins with `::`, `..` or `..=`, if one of these comes next.
 fn lead_of_run(at: &Cursor<'_>) -> Option<ExprLead> {
     if at.op_is(b"::") {
         Some(ExprLead::Path)

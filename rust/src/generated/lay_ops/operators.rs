@@ -1,11 +1,11 @@
 //! Made by scripts/rust.sh from crates/lay_ops/src/operators.rt, which is proved: change that.
 //!
-//! The operators at the front of tokens.
+//! Lookahead: which operator comes next.
 use crate::generated::lay_code::{Op, Prefix};
 use crate::generated::lay_nest::Cursor;
 use crate::generated::lay_read_tokens::front::is_keyword;
 use crate::generated::lay_token::Kind;
-/// The level of an operator between operands, from 0 of an assignment to 10 of a product.
+/// The precedence level of a binary operator: 0 for assignments, up to 10 for `*`.
 pub(crate) fn op_level(op: Op) -> u8 {
     match op {
         Op::Upto | Op::UptoEq => 1,
@@ -21,7 +21,8 @@ pub(crate) fn op_level(op: Op) -> u8 {
         _ => 0,
     }
 }
-/// The operator between operands at the front, if there is one. The first character tells which it can be.
+/// The binary operator that comes next, if one does. The first character limits which ones it can
+/// be.
 pub fn binary(at: &Cursor<'_>) -> Option<Op> {
     match at.peek(0) {
         Some(token) => {
@@ -52,7 +53,7 @@ fn led_by(character: u8) -> &'static [Op] {
         _ => &[],
     }
 }
-/// The first of the operators that is at the front.
+/// The operator of the list that comes next, if one does.
 fn first_of(at: &Cursor<'_>, ops: &[Op]) -> Option<Op> {
     let mut rest = ops;
     while let [op, others @ ..] = rest {
@@ -63,14 +64,14 @@ fn first_of(at: &Cursor<'_>, ops: &[Op]) -> Option<Op> {
     }
     None
 }
-/// Whether the keyword stands behind this many other tokens.
+/// Whether the keyword comes next after `others` tokens.
 pub(crate) fn is_word(at: &Cursor<'_>, others: usize, word: &[u8]) -> bool {
     match at.peek(others) {
         Some(token) => is_keyword(token, word),
         None => false,
     }
 }
-/// The operator before an operand at the front, if there is one.
+/// The prefix operator that comes next, if one does.
 pub fn prefix(at: &Cursor<'_>) -> Option<Prefix> {
     match at.peek(0) {
         Some(token) if matches!(token.kind, Kind::Punct) => {
@@ -85,7 +86,7 @@ pub fn prefix(at: &Cursor<'_>) -> Option<Prefix> {
         _ => None,
     }
 }
-/// The operator that the `&` at the front begins.
+/// The prefix operator that begins with `&`, which comes next.
 fn reference(at: &Cursor<'_>) -> Prefix {
     if is_word(at, 1, b"mut") { Prefix::AmpMut } else if !is_word(at, 1, b"raw") {
         Prefix::Amp
@@ -93,7 +94,7 @@ fn reference(at: &Cursor<'_>) -> Prefix {
         Prefix::RawConst
     } else if is_word(at, 2, b"mut") { Prefix::RawMut } else { Prefix::Amp }
 }
-/// How many tokens an operator before an operand is.
+/// The number of tokens of a prefix operator.
 pub fn prefix_length(prefix: Prefix) -> usize {
     match prefix {
         Prefix::AmpMut => 2,

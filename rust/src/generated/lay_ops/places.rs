@@ -1,6 +1,6 @@
 //! Made by scripts/rust.sh from crates/lay_ops/src/places.rt, which is proved: change that.
 //!
-//! Where expressions may stand, and the places of the parts of expressions.
+//! Places: the contexts of expressions.
 use crate::generated::lay_ops::expr_ends::may_precede;
 use crate::generated::lay_ops::roots::{
     is_block_like,
@@ -11,7 +11,7 @@ use crate::generated::lay_ops::roots::{
     level,
 };
 use crate::generated::lay_code::{Expr, Place, Start};
-/// Within delimiters, and where nothing is asked.
+/// Within delimiters, or wherever any expression may stand.
 pub const FREE: Place = Place {
     level: 0,
     no_struct: false,
@@ -27,17 +27,17 @@ pub const STATEMENT: Place = Place {
     op_after: false,
     lt_after: false,
 };
-/// A place of this level, where no struct literal may stand if it is said.
+/// A place of this precedence level; `no_struct` says that no struct literal may stand there.
 pub fn plain(level: u8, no_struct: bool) -> Place {
     Place { level, no_struct, start: Start::No, op_after: false, lt_after: false }
 }
-/// An operand that an operator follows. It begins a part of what begins a statement, and the operator is `<` or `<<`, if
-/// it is said.
+/// The place of an operand before an operator. `first` says that it begins a statement, `angle`
+/// that the operator is `<` or `<<`.
 pub fn before_op(level: u8, no_struct: bool, first: bool, angle: bool) -> Place {
     let start = if first { Start::Part } else { Start::No };
     Place { level, no_struct, start, op_after: true, lt_after: angle }
 }
-/// A link of a condition with a `let`, behind which a further link follows if it is said.
+/// The place of a link in a condition with a `let`; `more` says that another link follows.
 pub fn link_place(more: bool) -> Place {
     Place {
         level: 4,
@@ -47,7 +47,7 @@ pub fn link_place(more: bool) -> Place {
         lt_after: false,
     }
 }
-/// Whether an expression may stand in a place, by its root alone.
+/// Whether the root of an expression may stand at a place.
 pub fn may(expr: &Expr, place: Place) -> bool {
     place.level <= level(expr)
         && !(place.op_after && (is_jump(expr) || is_endless(expr)))
@@ -55,13 +55,13 @@ pub fn may(expr: &Expr, place: Place) -> bool {
         && !(is_part(place.start) && is_block_like(expr))
         && !(place.no_struct && is_struct(expr))
 }
-/// Whether an expression may stand in a place, and so may each expression that ends where it ends.
+/// Whether an expression may stand at a place, and so may each expression that ends where it ends.
 pub fn stands(expr: &Expr, place: Place) -> bool {
     place.level <= level(expr) && may_precede(expr, place.op_after, place.lt_after)
         && !(is_part(place.start) && is_block_like(expr))
         && !(place.no_struct && is_struct(expr))
 }
-/// Whether a place begins a part of what begins a statement.
+/// Whether an expression here begins a statement and is only a part of it.
 fn is_part(start: Start) -> bool {
     matches!(start, Start::Part)
 }

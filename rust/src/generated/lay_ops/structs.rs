@@ -3,7 +3,7 @@
 //! Struct literals outside delimiters.
 use crate::generated::lay_ops::edges::begins_with_brace;
 use crate::generated::lay_code::{Boxed, Expr, Op};
-/// Whether an expression holds no struct literal outside delimiters.
+/// Whether an expression has no struct literal outside delimiters.
 pub(crate) fn is_structless(expr: &Expr) -> bool {
     match expr {
         Expr::Struct { .. } => false,
@@ -26,7 +26,7 @@ pub(crate) fn is_structless(expr: &Expr) -> bool {
         _ => true,
     }
 }
-/// Whether none of the operands behind operators holds one.
+/// Whether no operand of the chain has a struct literal outside delimiters.
 fn are_operands_structless(operands: &[(Op, Boxed<Expr>)]) -> bool {
     for (_, operand) in operands {
         if !is_structless(operand.get()) {
@@ -35,7 +35,7 @@ fn are_operands_structless(operands: &[(Op, Boxed<Expr>)]) -> bool {
     }
     true
 }
-/// Whether none of the targets of an assignment holds one.
+/// Whether no target of the assignment has a struct literal outside delimiters.
 fn are_targets_structless(targets: &[(Boxed<Expr>, Op)]) -> bool {
     for (target, _) in targets {
         if !is_structless(target.get()) {
@@ -44,14 +44,15 @@ fn are_targets_structless(targets: &[(Boxed<Expr>, Op)]) -> bool {
     }
     true
 }
-/// Whether the start of a range holds none, if it has one.
+/// Whether the start of a range, if present, has no struct literal outside delimiters.
 fn is_start_structless(start: &Option<Boxed<Expr>>) -> bool {
     match start {
         Some(start) => is_structless(start.get()),
         None => true,
     }
 }
-/// Whether an operand that may be left out holds none and begins with no `{`.
+/// Whether an optional operand, if present, has no struct literal outside delimiters and does not
+/// start with `{`.
 fn is_end_structless(end: &Option<Boxed<Expr>>) -> bool {
     match end {
         Some(end) => is_structless(end.get()) && !begins_with_brace(end.get()),

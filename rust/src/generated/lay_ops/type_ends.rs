@@ -1,13 +1,13 @@
 //! Made by scripts/rust.sh from crates/lay_ops/src/type_ends.rt, which is proved: change that.
 //!
-//! What types end in, found along their right edge.
+//! Whether `<` after a type would open generic arguments, found along the type's right edge.
 use crate::generated::lay_code::{Args, Bound, Path, Ty};
 /// What a type ends in.
 #[derive(Clone, Copy,)]
 enum TypeEnd<'a> {
     /// What takes no generic arguments.
     Shut,
-    /// A word without generic arguments, which takes them.
+    /// A word that could take generic arguments and has none.
     Bare,
     /// A type.
     In(&'a Ty),
@@ -51,7 +51,7 @@ fn args_end(args: &Args) -> TypeEnd<'_> {
         _ => TypeEnd::Shut,
     }
 }
-/// Whether a type lacks generic arguments at its end.
+/// Whether `<` after the type would open generic arguments.
 pub fn type_lacks_args(ty: &Ty) -> bool {
     let mut last = ty;
     loop {
@@ -62,14 +62,15 @@ pub fn type_lacks_args(ty: &Ty) -> bool {
         }
     }
 }
-/// Whether a path in code ends in a type that lacks generic arguments at its end.
+/// Whether `<` after the path, as it is in an expression, would open generic arguments of a type
+/// that it ends in.
 pub fn path_lacks_args(path: &Path) -> bool {
     match path.segments.as_slice().last() {
         Some((_, args)) => code_args_lack(args),
         None => false,
     }
 }
-/// Whether the generic arguments of the last segment of a path in code end in such a type.
+/// The same question for the generic arguments of the last segment of such a path.
 fn code_args_lack(args: &Args) -> bool {
     match args {
         Args::Round { output: Some(output), .. } => type_lacks_args(output.get()),

@@ -1,13 +1,14 @@
 //! Made by scripts/rust.sh from crates/lay_ops_ends/src/brace_ends.rt, which is proved: change that.
 //!
-//! Where an `else` may stand behind a value: it ends neither in a `}` nor in a closure, which is found along its right edge.
+//! Whether an `else` may follow a value: the value ends neither in a `}` nor in a closure, which is
+//! found along its right edge.
 use crate::generated::lay_code::{Args, Block, Bound, Branch, Expr, Path, Ty};
 use crate::generated::lay_ops::level;
 use crate::generated::lay_token::{Delim, Kind};
 /// What a type ends in.
 #[derive(Clone, Copy,)]
 enum TypeEdge<'a> {
-    /// A token of its own, which is a `}` or is none.
+    /// A token of its own; the flag says that it is a `}`.
     Token(bool),
     /// A type.
     In(&'a Ty),
@@ -15,14 +16,14 @@ enum TypeEdge<'a> {
 /// What an expression ends in.
 #[derive(Clone, Copy,)]
 enum Edge<'a> {
-    /// A token of its own, which is a `}` or is none.
+    /// A token of its own; the flag says that it is a `}`.
     Token(bool),
     /// A type.
     Ty(&'a Ty),
     /// An expression.
     In(&'a Expr),
 }
-/// What an expression ends in, where that may be a closure.
+/// What an expression ends in, as far as it may be a closure.
 #[derive(Clone, Copy,)]
 enum ClosureEdge<'a> {
     /// What is no closure.
@@ -32,7 +33,7 @@ enum ClosureEdge<'a> {
     /// An operand.
     In(&'a Expr),
 }
-/// Whether an `else` may stand behind a value.
+/// Whether an `else` may follow the value.
 pub fn may_precede_else(expr: &Expr) -> bool {
     let level = level(expr);
     level != 2 && level != 3 && !ends_in_closure(expr) && !ends_in_brace(expr)
@@ -48,7 +49,7 @@ fn ends_in_closure(expr: &Expr) -> bool {
         }
     }
 }
-/// What an expression ends in, where that may be a closure.
+/// Whether an expression ends in a closure by its root, or in which operand it ends.
 fn closure_edge(expr: &Expr) -> ClosureEdge<'_> {
     match expr {
         Expr::Chain { rest, .. } => {
@@ -116,21 +117,21 @@ fn last_part(expr: &Expr) -> Edge<'_> {
         _ => Edge::Token(false),
     }
 }
-/// Whether there is a branch or an `else`.
+/// Whether the list of branches isn't empty or there is an `else`.
 fn has_block(branches: &[Branch], otherwise: &Option<Block>) -> bool {
     match branches {
         [] => otherwise.is_some(),
         _ => true,
     }
 }
-/// The same of what ends as a type does.
+/// What an expression ends in that ends as this type does.
 fn type_edge_of(edge: TypeEdge<'_>) -> Edge<'_> {
     match edge {
         TypeEdge::Token(brace) => Edge::Token(brace),
         TypeEdge::In(ty) => Edge::Ty(ty),
     }
 }
-/// Whether it is that of braces.
+/// Whether the delimiter is a brace.
 fn is_brace(delim: Delim) -> bool {
     matches!(delim, Delim::Brace)
 }
@@ -180,7 +181,7 @@ fn path_edge(path: &Path) -> TypeEdge<'_> {
         None => TypeEdge::Token(false),
     }
 }
-/// What a path in code ends in.
+/// What a path in an expression ends in.
 fn code_edge(path: &Path) -> TypeEdge<'_> {
     match path.segments.as_slice().last() {
         Some((_, args)) => args_edge(args),

@@ -1,6 +1,6 @@
 //! Made by scripts/rust.sh from crates/lay_out_code/src/blocks.rt, which is proved: change that.
 //!
-//! Blocks and statements.
+//! The layout of blocks and statements.
 use crate::generated::lay_out_code::exprs::{add_expr, add_whole};
 use crate::generated::lay_out_code::items::{add_inner_attrs, add_item};
 use crate::generated::lay_code::{Block, Boxed, Expr, Stmt};
@@ -16,13 +16,13 @@ use crate::generated::lay_out_tokens::notation::{NEVER_BREAK, SPACE_BREAK};
 use crate::generated::lay_out_types::calls::{add_either, add_if, add_text};
 use crate::generated::lay_paren_defs::{AsIs, Enclose};
 use crate::generated::lay_stream::Emit;
-/// Feeds the layout of a block, whose braces have a leading blank or not.
+/// Emits the layout of a block, whose braces have a leading blank or not.
 pub fn put_block<
     E: Emit,
 >(out: &mut E, block: &Block, lead: bool) -> Result<(), E::Fault> {
     add_block::<E, AsIs>(out, Ok(()), lead, block)
 }
-/// A block, with each statement on a line of its own. The braces have a leading blank or not.
+/// Emits a block, with each statement on a line of its own. The braces have a leading blank or not.
 pub fn add_block<
     E: Emit,
     X: Enclose,
@@ -42,7 +42,7 @@ pub fn add_block<
     let stmts = add_stmts::<E, X>(out, attrs, HARD_BREAK, stmts);
     close_body(out, stmts)
 }
-/// A block that may stand on one line where it is one expression.
+/// Emits a block that may stand on one line if it is a single expression.
 pub fn add_soft<
     E: Emit,
     X: Enclose,
@@ -54,7 +54,7 @@ pub fn add_soft<
     }
     add_block::<E, X>(out, before, true, block)
 }
-/// Statements, each behind a break.
+/// Emits statements, each after a break.
 fn add_stmts<
     E: Emit,
     X: Enclose,
@@ -71,11 +71,11 @@ fn add_stmts<
     }
     done
 }
-/// Feeds the layout of a statement.
+/// Emits the layout of a statement.
 pub fn put_stmt<E: Emit>(out: &mut E, stmt: &Stmt) -> Result<(), E::Fault> {
     add_stmt::<E, AsIs>(out, Ok(()), stmt)
 }
-/// A statement.
+/// Emits a statement.
 fn add_stmt<
     E: Emit,
     X: Enclose,
@@ -98,7 +98,7 @@ fn add_stmt<
         }
     }
 }
-/// The block that a binding leads to where its pattern isn't matched, if there is one, behind its `else`.
+/// Emits the `else` of a `let` and its block, if it has one.
 fn add_otherwise<
     E: Emit,
     X: Enclose,
@@ -115,7 +115,7 @@ fn add_otherwise<
         }
     }
 }
-/// A value, if there is one, behind its `=`.
+/// Emits a `=` and a value, if there is one.
 pub fn add_value<
     E: Emit,
     X: Enclose,

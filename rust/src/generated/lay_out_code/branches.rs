@@ -1,6 +1,6 @@
 //! Made by scripts/rust.sh from crates/lay_out_code/src/branches.rt, which is proved: change that.
 //!
-//! Branches and arms.
+//! The layout of branches and arms.
 use crate::generated::lay_out_code::blocks::add_soft;
 use crate::generated::lay_out_code::conditions::add_condition;
 use crate::generated::lay_out_code::exprs::{add_body_part, add_expr};
@@ -18,7 +18,7 @@ use crate::generated::lay_out_types::calls::add_text;
 use crate::generated::lay_out_types::lists::add_end;
 use crate::generated::lay_paren_defs::{AsIs, Enclose};
 use crate::generated::lay_stream::Emit;
-/// What is matched, behind its word, in a group of its own.
+/// Emits `match` and the expression that is matched, in a group of their own.
 pub fn add_scrutinee<
     E: Emit,
     X: Enclose,
@@ -27,7 +27,7 @@ pub fn add_scrutinee<
     let scrutinee = add_expr::<E, X>(out, lead, false, scrutinee);
     add_end(out, scrutinee)
 }
-/// Branches, with `else` between them.
+/// Emits branches, with `else` between them.
 pub fn add_branches<
     E: Emit,
     X: Enclose,
@@ -44,7 +44,7 @@ pub fn add_branches<
     }
     done
 }
-/// The block behind the last branch, if there is one, behind its `else`.
+/// Emits the last `else` and its block, if there is one.
 pub fn add_else<
     E: Emit,
     X: Enclose,
@@ -61,7 +61,7 @@ pub fn add_else<
         }
     }
 }
-/// Inner attributes and arms in braces, each on a line of its own.
+/// Emits inner attributes and arms in braces, each on a line of its own.
 pub fn add_arms<
     E: Emit,
     X: Enclose,
@@ -79,7 +79,7 @@ pub fn add_arms<
     let arms = add_arm_lines::<E, X>(out, attrs, arms);
     close_body(out, arms)
 }
-/// Arms, each behind a newline.
+/// Emits arms, each after a newline.
 fn add_arm_lines<
     E: Emit,
     X: Enclose,
@@ -91,11 +91,11 @@ fn add_arm_lines<
     }
     done
 }
-/// Feeds the layout of an arm, which is the same whether or not it is the last.
+/// Emits the layout of an arm, which is the same whether or not it is the last.
 pub fn put_arm<E: Emit>(out: &mut E, arm: &Arm) -> Result<(), E::Fault> {
     add_arm::<E, AsIs>(out, Ok(()), arm)
 }
-/// An arm.
+/// Emits an arm.
 fn add_arm<
     E: Emit,
     X: Enclose,
@@ -112,7 +112,7 @@ fn add_arm<
     let inner = add_body_part::<E, X>(out, opened, arm.body.get());
     close_arm(out, inner, braces)
 }
-/// The guard of an arm, if it has one, behind its `if`.
+/// Emits the guard of an arm, if it has one, after its `if`.
 fn add_guard<
     E: Emit,
     X: Enclose,

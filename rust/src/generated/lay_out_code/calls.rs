@@ -1,6 +1,6 @@
 //! Made by scripts/rust.sh from crates/lay_out_code/src/calls.rt, which is proved: change that.
 //!
-//! Attributes, groups, use trees and the items that are heads alone, behind what was fed before.
+//! The `add` functions of attributes, groups, use trees and the items that consist of a head alone.
 use crate::generated::lay_code::{
     Alias,
     Attr,
@@ -22,28 +22,28 @@ use crate::generated::lay_out_heads::{
 };
 use crate::generated::lay_out_tokens::{put_bare_attr, put_group};
 use crate::generated::lay_stream::Emit;
-/// An attribute.
+/// Emits an attribute.
 pub fn add_bare_attr<
     E: Emit,
 >(out: &mut E, before: Result<(), E::Fault>, attr: &Attr) -> Result<(), E::Fault> {
     before?;
     put_bare_attr(out, attr)
 }
-/// A group in its delimiters.
+/// Emits a group in its delimiters.
 pub fn add_group<
     E: Emit,
 >(out: &mut E, before: Result<(), E::Fault>, group: &Group) -> Result<(), E::Fault> {
     before?;
     put_group(out, group)
 }
-/// A use tree.
+/// Emits a use tree.
 pub fn add_use<
     E: Emit,
 >(out: &mut E, before: Result<(), E::Fault>, tree: &UseTree) -> Result<(), E::Fault> {
     before?;
     put_use(out, tree)
 }
-/// An `extern crate`.
+/// Emits an `extern crate`.
 pub fn add_extern_crate<
     E: Emit,
 >(
@@ -55,7 +55,7 @@ pub fn add_extern_crate<
     before?;
     put_extern_crate(out, vis, node)
 }
-/// A type alias, which is the same wherever it stands.
+/// Emits a type alias, which is the same wherever it stands.
 pub fn add_alias<
     E: Emit,
 >(
@@ -67,7 +67,7 @@ pub fn add_alias<
     before?;
     put_alias(out, vis, node)
 }
-/// A struct.
+/// Emits a struct.
 pub fn add_struct<
     E: Emit,
 >(
@@ -79,7 +79,7 @@ pub fn add_struct<
     before?;
     put_struct(out, vis, node)
 }
-/// A union.
+/// Emits a union.
 pub fn add_union<
     E: Emit,
 >(
@@ -91,7 +91,7 @@ pub fn add_union<
     before?;
     put_union(out, vis, node)
 }
-/// An enumeration.
+/// Emits an enumeration.
 pub fn add_enum<
     E: Emit,
 >(

@@ -1,6 +1,6 @@
 //! Made by scripts/rust.sh from crates/lay_out_code/src/conditions.rt, which is proved: change that.
 //!
-//! Conditions and their links.
+//! The layout of conditions and their links.
 use crate::generated::lay_out_code::exprs::add_expr;
 use crate::generated::lay_code::{Condition, Link};
 use crate::generated::lay_out_exprs::blocks::{
@@ -11,7 +11,7 @@ use crate::generated::lay_out_exprs::blocks::{
 use crate::generated::lay_out_types::lists::{add_begin, add_end};
 use crate::generated::lay_paren_defs::Enclose;
 use crate::generated::lay_stream::Emit;
-/// A condition behind its word, in a group of its own.
+/// Emits a condition after its word, in a group of its own.
 pub fn add_condition<
     E: Emit,
     X: Enclose,
@@ -25,7 +25,7 @@ pub fn add_condition<
     let links = add_links::<E, X>(out, lead, condition.links.as_slice());
     add_end(out, links)
 }
-/// The links of a condition. Two or more are in a group of their own.
+/// Emits the links of a condition. Two or more are in a group of their own.
 fn add_links<
     E: Emit,
     X: Enclose,
@@ -40,7 +40,7 @@ fn add_links<
         }
     }
 }
-/// Links, with `&&` between them.
+/// Emits links, with `&&` between them.
 fn add_link_row<
     E: Emit,
     X: Enclose,
@@ -52,7 +52,7 @@ fn add_link_row<
     }
     done
 }
-/// A link.
+/// Emits a link.
 fn add_link<
     E: Emit,
     X: Enclose,

@@ -1,6 +1,6 @@
 //! Made by scripts/rust.sh from crates/lay_out_code/src/enclosed.rt, which is proved: change that.
 //!
-//! An expression with its parts in parentheses, as the value of a constant.
+//! The layout of an expression with each part in parentheses, as the value of a constant.
 use crate::generated::lay_out_code::exprs::add_expr;
 use crate::generated::lay_code::Expr;
 use crate::generated::lay_out_heads::calls::add_break;
@@ -11,8 +11,9 @@ use crate::generated::lay_out_types::calls::add_text;
 use crate::generated::lay_out_types::lists::add_end;
 use crate::generated::lay_paren_defs::Enclosed;
 use crate::generated::lay_stream::Emit;
-/// Feeds the layout of the file of one constant, `const _: () = (..);`, whose value is an expression in which each part
-/// stands in parentheses. It takes no memory: the tree with the parentheses is never made.
+/// Emits the layout of the file of one constant, `const _: () = (..);`, whose value is an
+/// expression with each part in parentheses. It allocates nothing: the tree with the parentheses is
+/// never built.
 pub fn put_enclosed_constant<E: Emit>(out: &mut E, expr: &Expr) -> Result<(), E::Fault> {
     let group = add_group(out, Ok(()));
     let word = add_text(out, group, b"const ");

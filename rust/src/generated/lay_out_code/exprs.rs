@@ -1,6 +1,6 @@
 //! Made by scripts/rust.sh from crates/lay_out_code/src/exprs.rt, which is proved: change that.
 //!
-//! Expressions.
+//! The layout of expressions.
 use crate::generated::lay_out_code::blocks::{add_block, add_soft};
 use crate::generated::lay_out_code::branches::{
     add_arms,
@@ -52,12 +52,12 @@ use crate::generated::lay_out_types::lists::{add_begin, add_close, add_end, add_
 use crate::generated::lay_out_types::{add_path, add_type};
 use crate::generated::lay_paren_defs::{AsIs, Enclose, is_body_enclosed};
 use crate::generated::lay_stream::Emit;
-/// Feeds the layout of an expression.
+/// Emits the layout of an expression.
 pub fn put_expr<E: Emit>(out: &mut E, node: &Expr) -> Result<(), E::Fault> {
     add_expr::<E, AsIs>(out, Ok(()), false, node)
 }
-/// An expression that is a part of another node: in parentheses, where parts get them. The flag says that a point stands
-/// before it.
+/// Emits an expression that is a part of another node: in parentheses, if parts get them. The flag
+/// says that the text before it ends in a `.`.
 pub fn add_expr<
     E: Emit,
     X: Enclose,
@@ -74,7 +74,7 @@ pub fn add_expr<
     }
     add_whole::<E, X>(out, before, point, node)
 }
-/// The body of an arm or of a closure, which is a part, unless it gets no parentheses.
+/// Emits the body of an arm or of a closure, in parentheses, if it gets them.
 pub fn add_body_part<
     E: Emit,
     X: Enclose,
@@ -84,7 +84,8 @@ pub fn add_body_part<
     }
     add_whole::<E, X>(out, before, false, body)
 }
-/// An expression by itself, in which parts get their parentheses or don't. The flag says that a point stands before it.
+/// Emits an expression, whose parts are put in parentheses or not. The flag says that the text
+/// before it ends in a `.`.
 pub fn add_whole<
     E: Emit,
     X: Enclose,
@@ -252,7 +253,7 @@ pub fn add_whole<
         }
     }
 }
-/// A tuple, which has a comma behind a single element.
+/// Emits a tuple, which has a comma after a single element.
 fn add_tuple<
     E: Emit,
     X: Enclose,
@@ -267,7 +268,8 @@ fn add_tuple<
         [_, _, ..] => add_exprs::<E, X>(out, before, elements, b"(", b"()", b")"),
     }
 }
-/// Expressions in brackets, with a `,` between them. Without an expression the brackets are one text.
+/// Emits expressions in brackets, with a `,` between them. Without an expression the brackets are
+/// one text.
 pub fn add_exprs<
     E: Emit,
     X: Enclose,
@@ -286,7 +288,7 @@ pub fn add_exprs<
     }
     add_close(out, done, true, exprs.is_empty(), both, closer)
 }
-/// An expression, if there is one.
+/// Emits an expression, if there is one.
 pub fn add_optional<
     E: Emit,
     X: Enclose,
@@ -301,7 +303,7 @@ pub fn add_optional<
         Some(node) => add_expr::<E, X>(out, before, point, node.get()),
     }
 }
-/// The body of a closure, in braces where it is broken and may stand in them.
+/// Emits the body of a closure. If it is broken, it gets braces, if it may stand in them.
 fn add_closure_body<
     E: Emit,
     X: Enclose,
@@ -311,7 +313,7 @@ fn add_closure_body<
     let inner = add_body_part::<E, X>(out, opened, body);
     close_closure(out, inner, braces)
 }
-/// The operand of a `return` or a `break` behind its blank, if there is one.
+/// Emits a blank and the operand of a `return` or a `break`, if there is one.
 fn add_operand<
     E: Emit,
     X: Enclose,

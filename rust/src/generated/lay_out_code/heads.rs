@@ -1,6 +1,6 @@
 //! Made by scripts/rust.sh from crates/lay_out_code/src/heads.rt, which is proved: change that.
 //!
-//! The heads of items, each with its visibility in a group of its own.
+//! The layout of the heads of items, each with its visibility in a group of its own.
 use crate::generated::lay_out_code::calls::add_use;
 use crate::generated::lay_code::{
     FnHead,
@@ -24,14 +24,14 @@ use crate::generated::lay_out_heads::{
 use crate::generated::lay_out_types::calls::{add_if, add_literal, add_text, add_word};
 use crate::generated::lay_out_types::lists::add_end;
 use crate::generated::lay_stream::Emit;
-/// What an item begins with behind its visibility.
+/// The head of an item, after its visibility.
 pub trait Head {
-    /// Its layout.
+    /// Emits the layout of the head.
     fn add<
         E: Emit,
     >(&self, out: &mut E, before: Result<(), E::Fault>) -> Result<(), E::Fault>;
 }
-/// A head, behind its visibility.
+/// Emits a head, after its visibility.
 pub fn add_head<
     E: Emit,
     H: Head,
@@ -45,7 +45,7 @@ pub fn add_head<
     let head = head.add(out, opened);
     add_end(out, head)
 }
-/// A head, and a `;`.
+/// Emits a head, and a `;`.
 pub fn add_ended<
     E: Emit,
     H: Head,
@@ -58,7 +58,7 @@ pub fn add_ended<
     let head = add_head(out, before, vis, head);
     add_text(out, head, b";")
 }
-/// A head, a where clause, and a `;`.
+/// Emits a head, a where clause, and a `;`.
 pub fn add_ended_clause<
     E: Emit,
     H: Head,
@@ -72,7 +72,7 @@ pub fn add_ended_clause<
     let head = add_head(out, before, vis, head);
     add_semicolon(out, head, wheres)
 }
-/// A head, and a where clause before a body.
+/// Emits a head, and a where clause before a body.
 pub fn add_clause<
     E: Emit,
     H: Head,
@@ -134,7 +134,7 @@ impl Head for ImplHead {
         put_impl_head(out, self)
     }
 }
-/// The head of a foreign block.
+/// Emits the head of a foreign block.
 pub fn add_foreign_head<
     E: Emit,
 >(
@@ -150,7 +150,7 @@ pub fn add_foreign_head<
     let head = add_foreign_abi(out, word, abi);
     add_end(out, head)
 }
-/// The string that names an ABI, if one does, behind a blank.
+/// Emits a blank and the string of an ABI, if it has one.
 fn add_foreign_abi<
     E: Emit,
 >(

@@ -1,6 +1,6 @@
 //! Made by scripts/rust.sh from crates/lay_out_code/src/items.rt, which is proved: change that.
 //!
-//! Items.
+//! The layout of items.
 use crate::generated::lay_out_code::blocks::{add_block, add_value};
 use crate::generated::lay_out_code::calls::{
     add_alias,
@@ -41,11 +41,11 @@ use crate::generated::lay_out_types::calls::{add_either, add_text};
 use crate::generated::lay_out_types::lists::add_end;
 use crate::generated::lay_paren_defs::{AsIs, Enclose};
 use crate::generated::lay_stream::Emit;
-/// Feeds the layout of an item, with its attributes, each on a line of its own.
+/// Emits the layout of an item, with its attributes, each on a line of its own.
 pub fn put_item<E: Emit>(out: &mut E, item: &Item) -> Result<(), E::Fault> {
     add_item::<E, AsIs>(out, Ok(()), item)
 }
-/// An item.
+/// Emits an item.
 pub fn add_item<
     E: Emit,
     X: Enclose,
@@ -53,7 +53,7 @@ pub fn add_item<
     let attrs = add_attrs(out, before, item.attrs.as_slice());
     add_kind::<E, X>(out, attrs, &item.vis, item.kind.get())
 }
-/// An item without its attributes.
+/// Emits an item without its attributes.
 fn add_kind<
     E: Emit,
     X: Enclose,
@@ -105,7 +105,7 @@ fn add_kind<
         ItemKind::Call { call } => add_call_item(out, before, call),
     }
 }
-/// A function, with its body or without one.
+/// Emits a function, with its body or without one.
 fn add_function<
     E: Emit,
     X: Enclose,
@@ -125,7 +125,7 @@ fn add_function<
         }
     }
 }
-/// A constant or a static, and a `;`.
+/// Emits a constant or a static, and a `;`.
 fn add_valued<
     E: Emit,
     X: Enclose,
@@ -142,7 +142,8 @@ fn add_valued<
     let whole = add_end(out, value);
     add_text(out, whole, b";")
 }
-/// Inner attributes and items in braces, each on a line of its own. The braces have a leading blank or not.
+/// Emits inner attributes and items in braces, each on a line of its own. The braces have a leading
+/// blank or not.
 fn add_body<
     E: Emit,
     X: Enclose,
@@ -161,7 +162,7 @@ fn add_body<
     let items = add_lines::<E, X>(out, attrs, items);
     close_body(out, items)
 }
-/// Items, each behind a newline.
+/// Emits items, each after a newline.
 fn add_lines<
     E: Emit,
     X: Enclose,
@@ -173,7 +174,7 @@ fn add_lines<
     }
     done
 }
-/// Attributes, each behind a newline.
+/// Emits attributes, each after a newline.
 pub fn add_inner_attrs<
     E: Emit,
 >(out: &mut E, before: Result<(), E::Fault>, attrs: &[Attr]) -> Result<(), E::Fault> {

@@ -1,12 +1,12 @@
 //! Made by scripts/rust.sh from crates/lay_out_code/src/macros.rt, which is proved: change that.
 //!
-//! The macros among items, which have no head.
+//! The layout of macro calls and macro definitions as items.
 use crate::generated::lay_out_code::calls::add_group;
 use crate::generated::lay_code::{Group, MacroCall, Name};
 use crate::generated::lay_out_types::calls::{add_call, add_text, add_word};
 use crate::generated::lay_piece::Delim;
 use crate::generated::lay_stream::Emit;
-/// A macro by its rules.
+/// Emits a macro definition.
 pub fn add_macro_rules<
     E: Emit,
 >(
@@ -21,7 +21,7 @@ pub fn add_macro_rules<
     let group = add_group(out, blank, rules);
     add_item_end(out, group, rules.delim)
 }
-/// The blank before rules in braces.
+/// Emits the blank before rules in braces.
 fn add_before_rules<
     E: Emit,
 >(out: &mut E, before: Result<(), E::Fault>, delim: Delim) -> Result<(), E::Fault> {
@@ -30,14 +30,14 @@ fn add_before_rules<
         _ => before,
     }
 }
-/// A macro call as an item.
+/// Emits a macro call as an item.
 pub fn add_call_item<
     E: Emit,
 >(out: &mut E, before: Result<(), E::Fault>, call: &MacroCall) -> Result<(), E::Fault> {
     let group = add_call(out, before, call);
     add_item_end(out, group, call.tokens.delim)
 }
-/// What ends an item behind a group: nothing behind braces, and else a `;`.
+/// Emits the end of an item after a group: nothing after braces, else a `;`.
 fn add_item_end<
     E: Emit,
 >(out: &mut E, before: Result<(), E::Fault>, delim: Delim) -> Result<(), E::Fault> {

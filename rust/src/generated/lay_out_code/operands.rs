@@ -1,6 +1,6 @@
 //! Made by scripts/rust.sh from crates/lay_out_code/src/operands.rt, which is proved: change that.
 //!
-//! Operands, targets and steps, and the fields of struct literals.
+//! The layout of operands, targets and steps, and of the fields of struct literals.
 use crate::generated::lay_out_code::exprs::{add_expr, add_exprs, add_optional};
 use crate::generated::lay_code::{Boxed, Expr, FieldExpr, Op, Step};
 use crate::generated::lay_out_exprs::add_generics;
@@ -12,7 +12,7 @@ use crate::generated::lay_out_types::calls::{add_either, add_text, add_word};
 use crate::generated::lay_out_types::lists::{add_close, add_lead};
 use crate::generated::lay_paren_defs::Enclose;
 use crate::generated::lay_stream::Emit;
-/// The fields of a struct literal, behind what opens their braces.
+/// Emits the fields of a struct literal, after its `{`.
 pub fn add_fields<
     E: Emit,
     X: Enclose,
@@ -28,7 +28,7 @@ pub fn add_fields<
     }
     done
 }
-/// The `..` behind the fields of a struct literal, and its base, if it has one.
+/// Emits the `..` after the fields of a struct literal, and its base, if it has one.
 pub fn add_base<
     E: Emit,
     X: Enclose,
@@ -42,7 +42,7 @@ pub fn add_base<
     let dots = add_text(out, lead, b"..");
     add_optional::<E, X>(out, dots, true, base)
 }
-/// A field of a struct literal, behind its attributes.
+/// Emits a field of a struct literal, after its attributes.
 fn add_field<
     E: Emit,
     X: Enclose,
@@ -66,7 +66,7 @@ fn add_field<
         }
     }
 }
-/// The operands behind the first one, each behind its operator.
+/// Emits the operands after the first one, each after its operator.
 pub fn add_operands<
     E: Emit,
     X: Enclose,
@@ -82,7 +82,7 @@ pub fn add_operands<
     }
     done
 }
-/// The targets of an assignment, each before its operator.
+/// Emits the targets of an assignment, each before its operator.
 pub fn add_targets<
     E: Emit,
     X: Enclose,
@@ -101,8 +101,8 @@ pub fn add_targets<
     }
     done
 }
-/// Steps. The flags say that a point stands before them, and that several of them are methods: then a break stands
-/// before each method but the first.
+/// Emits postfix steps. The flags say that the text before them ends in a `.`, and that several of
+/// them are method calls: then a break stands before each method call but the first.
 pub fn add_steps<
     E: Emit,
     X: Enclose,
@@ -125,7 +125,7 @@ pub fn add_steps<
     }
     done
 }
-/// A step.
+/// Emits a step.
 fn add_step<
     E: Emit,
     X: Enclose,

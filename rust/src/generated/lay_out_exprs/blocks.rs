@@ -1,6 +1,6 @@
 //! Made by scripts/rust.sh from crates/lay_out_exprs/src/blocks.rt, which is proved: change that.
 //!
-//! What stands round blocks, and before them.
+//! What is laid out around blocks, and before them.
 use crate::generated::lay_out_exprs::flags::both;
 use crate::generated::lay_code::{Attr, Block, Lifetime, Pat, Stmt};
 use crate::generated::lay_out_heads::calls::add_break;
@@ -9,7 +9,7 @@ use crate::generated::lay_out_tokens::notation::{CLOSING_SPACE_BREAK, SPACE_BREA
 use crate::generated::lay_out_types::calls::add_text;
 use crate::generated::lay_out_types::lists::add_end;
 use crate::generated::lay_stream::Emit;
-/// A label before a loop or a block, if there is one.
+/// Emits a label before a loop or a block, if there is one.
 pub fn add_labelled<
     E: Emit,
 >(
@@ -25,14 +25,14 @@ pub fn add_labelled<
         }
     }
 }
-/// What stands before a condition: what opens its group, and the word.
+/// Emits what stands before a condition: what opens its group, and the word.
 pub fn add_condition_lead<
     E: Emit,
 >(out: &mut E, before: Result<(), E::Fault>, word: &[u8]) -> Result<(), E::Fault> {
     let group = add_group(out, before);
     add_text(out, group, word)
 }
-/// What stands before a value that is matched with a pattern: the word `let`, the pattern and an `=`.
+/// Emits what stands before the value of a `let` link: the word `let`, the pattern and an `=`.
 pub fn add_let_lead<
     E: Emit,
 >(out: &mut E, before: Result<(), E::Fault>, pat: &Pat) -> Result<(), E::Fault> {
@@ -40,7 +40,8 @@ pub fn add_let_lead<
     let pat = add_pat(out, word, pat);
     add_text(out, pat, b" = ")
 }
-/// What stands before a link of a condition: a break, and the operator with its blank, unless it is the first one.
+/// Emits what stands before a link of a condition: a break, and the operator with its blank, unless
+/// it is the first one.
 pub fn add_link_lead<
     E: Emit,
 >(out: &mut E, before: Result<(), E::Fault>, first: bool) -> Result<(), E::Fault> {
@@ -50,7 +51,7 @@ pub fn add_link_lead<
     let line = add_break(out, before, SPACE_BREAK);
     add_text(out, line, b"&& ")
 }
-/// What stands before a branch: the word `else`, unless it is the first one.
+/// Emits what stands before a branch: the word `else`, unless it is the first one.
 pub fn add_else_word<
     E: Emit,
 >(out: &mut E, before: Result<(), E::Fault>, first: bool) -> Result<(), E::Fault> {

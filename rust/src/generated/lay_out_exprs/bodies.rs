@@ -1,6 +1,6 @@
 //! Made by scripts/rust.sh from crates/lay_out_exprs/src/bodies.rt, which is proved: change that.
 //!
-//! What stands round the bodies of arms and of closures.
+//! What is laid out around the bodies of arms and closures.
 use crate::generated::lay_code::Expr;
 use crate::generated::lay_layout::{Break, Mark};
 use crate::generated::lay_ops::may_wear_braces;
@@ -14,40 +14,41 @@ use crate::generated::lay_out_types::calls::add_text;
 use crate::generated::lay_out_types::lists::add_end;
 use crate::generated::lay_paren_defs::{Enclose, is_body_enclosed};
 use crate::generated::lay_stream::Emit;
-/// How the body of an arm or of a closure is laid out.
+/// The layout of the body of an arm or of a closure.
 #[derive(Clone, Copy,)]
 pub enum BodyBraces {
-    /// As it stands, and with a comma behind it that of an arm.
+    /// As it is; in an arm with a comma after it.
     Bare,
-    /// As it stands.
+    /// As it is.
     Unseen,
-    /// In braces where it is broken, and else with a comma behind it that of an arm.
+    /// In braces if it is broken; otherwise as it is, in an arm with a comma after it.
     Marked,
 }
 /// The break before a body, with a `{` before its newline.
 const OPENING_BRACE_BREAK: Break = Break { before: Mark::OpenBrace, ..SOFT_BREAK };
-/// The break behind a body, with a `}` behind its newline.
+/// The break after a body, with a `}` after its newline.
 const CLOSING_BRACE_BREAK: Break = Break {
     after: Mark::CloseBrace,
     ..CLOSING_SOFT_BREAK
 };
-/// The same behind the body of an arm, with a `,` where it is no newline.
+/// The break after the body of an arm, with a `}` after its newline, or a `,` if it is no newline.
 const CLOSING_ARM_BREAK: Break = Break { instead: Mark::Comma, ..CLOSING_BRACE_BREAK };
-/// How the body of an arm is laid out, where one in parentheses is laid out in braces.
+/// The layout of the body of an arm, if parts get parentheses: in braces if it gets them.
 pub fn arm_body_braces<X: Enclose>(body: &Expr) -> BodyBraces {
     if is_body_enclosed::<X>(body) {
         return BodyBraces::Marked;
     }
     arm_braces(body)
 }
-/// How the body of a closure is laid out, where one in parentheses is laid out in braces.
+/// The layout of the body of a closure, if parts get parentheses: in braces if it gets them.
 pub fn closure_body_braces<X: Enclose>(body: &Expr) -> BodyBraces {
     if is_body_enclosed::<X>(body) {
         return BodyBraces::Marked;
     }
     closure_braces(body)
 }
-/// How the body of an arm is laid out: a macro call as it stands, so too a block without a label, and all else in braces.
+/// The layout of the body of an arm: a macro call and an unlabelled block as they are, all else in
+/// braces if it is broken.
 fn arm_braces(body: &Expr) -> BodyBraces {
     match body {
         Expr::Call { .. } => BodyBraces::Bare,
@@ -60,11 +61,11 @@ fn arm_braces(body: &Expr) -> BodyBraces {
         _ => BodyBraces::Marked,
     }
 }
-/// How the body of a closure is laid out: as that of an arm, or as it stands where no braces may stand round it.
+/// The layout of the body of a closure: as of an arm, but as it is if it can't have braces.
 fn closure_braces(body: &Expr) -> BodyBraces {
     if may_wear_braces(body) { arm_braces(body) } else { BodyBraces::Bare }
 }
-/// What opens the body of an arm.
+/// Emits what stands before the body of an arm.
 pub fn open_arm<
     E: Emit,
 >(
@@ -80,7 +81,7 @@ pub fn open_arm<
         _ => before,
     }
 }
-/// What closes the body of an arm.
+/// Emits what stands after the body of an arm.
 pub fn close_arm<
     E: Emit,
 >(
@@ -97,7 +98,7 @@ pub fn close_arm<
         }
     }
 }
-/// What opens the body of a closure.
+/// Emits what stands before the body of a closure.
 pub fn open_closure<
     E: Emit,
 >(
@@ -114,7 +115,7 @@ pub fn open_closure<
         _ => before,
     }
 }
-/// What closes the body of a closure.
+/// Emits what stands after the body of a closure.
 pub fn close_closure<
     E: Emit,
 >(

@@ -1,6 +1,6 @@
 //! Made by scripts/rust.sh from crates/lay_out_exprs/src/closures.rt, which is proved: change that.
 //!
-//! What stands before the body of a closure.
+//! The layout of closures before their bodies.
 use crate::generated::lay_code::ClosureParam;
 use crate::generated::lay_out_heads::add_self_type;
 use crate::generated::lay_out_pats::add_pat;
@@ -8,7 +8,7 @@ use crate::generated::lay_out_types::calls::add_if;
 use crate::generated::lay_out_types::lists::{add_close, add_lead};
 use crate::generated::lay_out_types::parts::add_param_attrs;
 use crate::generated::lay_stream::Emit;
-/// The words `async` and `move`, each if it is said, and parameters.
+/// Emits the head of a closure: `async` and `move`, as the flags say, and the parameters.
 pub fn add_closure_head<
     E: Emit,
 >(
@@ -22,7 +22,7 @@ pub fn add_closure_head<
     let words = add_if(out, word, moves, b"move ");
     add_params(out, words, params)
 }
-/// Parameters between bars, with a `,` between them.
+/// Emits parameters between bars, with a `,` between them.
 fn add_params<
     E: Emit,
 >(
@@ -37,7 +37,7 @@ fn add_params<
     }
     add_close(out, done, true, params.is_empty(), b"||", b"|")
 }
-/// A parameter, behind its attributes.
+/// Emits a parameter, after its attributes.
 fn add_param<
     E: Emit,
 >(

@@ -1,11 +1,11 @@
 //! Made by scripts/rust.sh from crates/lay_out_exprs/src/flags.rt, which is proved: change that.
 //!
-//! Two flags.
-/// Whether both hold.
+//! `&&` and `||` as functions, without short circuit.
+/// Whether both flags are set.
 pub fn both(first: bool, second: bool) -> bool {
     first && second
 }
-/// Whether one of them holds.
+/// Whether one of the flags is set.
 pub fn either(first: bool, second: bool) -> bool {
     first || second
 }

@@ -1,12 +1,12 @@
 //! Made by scripts/rust.sh from crates/lay_out_exprs/src/generics.rt, which is proved: change that.
 //!
-//! The generic arguments of a method.
+//! The layout of the generic arguments of a method call.
 use crate::generated::lay_code::Arg;
 use crate::generated::lay_out_types::add_angles;
 use crate::generated::lay_out_types::calls::add_text;
 use crate::generated::lay_stream::Emit;
 use crate::generated::lay_text::List;
-/// The generic arguments of a method behind `::`, if it has some.
+/// Emits the generic arguments of a method after `::`, if it has some.
 pub fn add_generics<
     E: Emit,
 >(

@@ -1,12 +1,12 @@
 //! Made by scripts/rust.sh from crates/lay_out_exprs/src/operators.rt, which is proved: change that.
 //!
-//! Operators, casts and labels.
+//! The layout of operators, casts and labels.
 use crate::generated::lay_code::{Lifetime, Op, Prefix, Ty};
 use crate::generated::lay_out_tokens::notation::{NEVER_BREAK, SPACE_BREAK};
 use crate::generated::lay_out_types::add_type;
 use crate::generated::lay_out_types::calls::add_text;
 use crate::generated::lay_stream::Emit;
-/// What stands between two operands: a break, the operator and a blank.
+/// Emits what stands between two operands: a break, the operator and a blank.
 pub fn add_operator<
     E: Emit,
 >(out: &mut E, before: Result<(), E::Fault>, op: Op) -> Result<(), E::Fault> {
@@ -15,8 +15,8 @@ pub fn add_operator<
     out.text(op.text())?;
     out.text(b" ")
 }
-/// What stands between the target of an assignment and its value: the operator between blanks, and a place where a
-/// measure ends.
+/// Emits what stands between the target of an assignment and its value: the operator between
+/// blanks, and a break that is never a newline, at which the measured width ends.
 pub fn add_assignment<
     E: Emit,
 >(out: &mut E, before: Result<(), E::Fault>, op: Op) -> Result<(), E::Fault> {
@@ -26,7 +26,7 @@ pub fn add_assignment<
     out.text(b" ")?;
     out.brk(NEVER_BREAK)
 }
-/// The operators before an operand.
+/// Emits prefix operators.
 pub fn add_prefixes<
     E: Emit,
 >(
@@ -40,7 +40,7 @@ pub fn add_prefixes<
     }
     done
 }
-/// The text of an operator before an operand, with the blank behind its last word.
+/// The text of a prefix operator, with a blank after its last word.
 fn prefix_text(prefix: Prefix) -> &'static [u8] {
     match prefix {
         Prefix::Neg => b"-",
@@ -52,7 +52,7 @@ fn prefix_text(prefix: Prefix) -> &'static [u8] {
         Prefix::RawMut => b"&raw mut ",
     }
 }
-/// The types that an operand is cast to, each behind its `as`.
+/// Emits the types of a cast, each after its `as`.
 pub fn add_casts<
     E: Emit,
 >(out: &mut E, before: Result<(), E::Fault>, types: &[Ty]) -> Result<(), E::Fault> {
@@ -63,7 +63,7 @@ pub fn add_casts<
     }
     done
 }
-/// A label behind `continue` or `break`, if there is one.
+/// Emits a label after `continue` or `break`, if there is one.
 pub fn add_label<
     E: Emit,
 >(

@@ -1,19 +1,19 @@
 //! Made by scripts/rust.sh from crates/lay_out_exprs/src/points.rt, which is proved: change that.
 //!
-//! Which expressions end in a point: the last one of a number, or a `..`.
+//! Which expressions end in a `.`: that of a number, or of a `..`.
 use crate::generated::lay_out_exprs::flags::both;
 use crate::generated::lay_code::{Boxed, Expr, Path, PathStart};
 use crate::generated::lay_out_pats::is_pointed;
 use crate::generated::lay_paren_defs::Enclose;
-/// Whether an expression that is a part ends in a point, which it doesn't in parentheses. The flag says that one stands
-/// before it.
+/// Whether a part ends in a `.`, which it doesn't in parentheses. `point` says that the text before
+/// it does.
 pub fn part_ends_in_point<X: Enclose>(point: bool, node: &Expr) -> bool {
     if X::on() {
         return false;
     }
     ends_in_point(point, node)
 }
-/// Whether a part that may be left out ends in a point.
+/// Whether an optional part ends in a `.`.
 pub fn optional_ends_in_point<
     X: Enclose,
 >(point: bool, node: &Option<Boxed<Expr>>) -> bool {
@@ -22,8 +22,8 @@ pub fn optional_ends_in_point<
         Some(node) => part_ends_in_point::<X>(point, node.get()),
     }
 }
-/// Whether an expression ends in a point. The flag says that one stands before it: what is empty, as nothing is that was
-/// read, leaves that point at the end.
+/// Whether an expression ends in a `.`. `point` says that the text before it does: an expression
+/// without any text, which no text reads to, leaves that as it is.
 fn ends_in_point(point: bool, node: &Expr) -> bool {
     match node {
         Expr::Lit { literal } => is_pointed(literal),
@@ -59,14 +59,14 @@ fn ends_in_point(point: bool, node: &Expr) -> bool {
         _ => false,
     }
 }
-/// Whether an operand that may be left out ends in a point.
+/// Whether an optional operand ends in a `.`.
 fn operand_ends_in_point(point: bool, operand: &Option<Boxed<Expr>>) -> bool {
     match operand {
         None => point,
         Some(operand) => ends_in_point(point, operand.get()),
     }
 }
-/// Whether a path is nothing at all, so that a point before it stands at its end.
+/// Whether a path has no text at all, so that a `.` before it stands at its end.
 fn is_nothing(path: &Path) -> bool {
     match &path.start {
         PathStart::Local => path.segments.as_slice().is_empty(),

@@ -1,13 +1,13 @@
 //! Made by scripts/rust.sh from crates/lay_out_exprs/src/steps.rt, which is proved: change that.
 //!
-//! What stands round the steps of a postfix expression: where it has several methods, each but the first can stand on
-//! its own line.
+//! What is laid out around postfix steps: with several method calls, each but the first can be on a
+//! line of its own.
 use crate::generated::lay_out_exprs::flags::{both, either};
 use crate::generated::lay_code::Step;
 use crate::generated::lay_out_tokens::notation::SOFT_BREAK;
 use crate::generated::lay_out_types::lists::add_end;
 use crate::generated::lay_stream::Emit;
-/// Whether several of the steps are methods.
+/// Whether several of the steps are method calls.
 pub fn are_several_methods(steps: &[Step]) -> bool {
     let mut found = false;
     for step in steps {
@@ -19,11 +19,11 @@ pub fn are_several_methods(steps: &[Step]) -> bool {
     }
     false
 }
-/// Whether a step is a method.
+/// Whether a step is a method call.
 pub fn is_method(step: &Step) -> bool {
     matches!(step, Step::Method { .. })
 }
-/// What opens a postfix expression: a group, where it has several methods.
+/// Emits what opens a postfix expression: a group, if it has several method calls.
 pub fn add_steps_start<
     E: Emit,
 >(out: &mut E, before: Result<(), E::Fault>, several: bool) -> Result<(), E::Fault> {
@@ -33,7 +33,8 @@ pub fn add_steps_start<
     }
     Ok(())
 }
-/// What stands before a step: a break, where there are several methods, one stands behind it and this is one.
+/// Emits what stands before a step: a break, if there are several method calls, this is one, and it
+/// isn't the first.
 pub fn add_step_break<
     E: Emit,
 >(
@@ -49,7 +50,7 @@ pub fn add_step_break<
     }
     Ok(())
 }
-/// What closes a postfix expression.
+/// Emits what closes a postfix expression.
 pub fn add_steps_end<
     E: Emit,
 >(out: &mut E, before: Result<(), E::Fault>, several: bool) -> Result<(), E::Fault> {

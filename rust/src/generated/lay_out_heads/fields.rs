@@ -1,6 +1,6 @@
 //! Made by scripts/rust.sh from crates/lay_out_heads/src/fields.rt, which is proved: change that.
 //!
-//! Fields, and the variants of enumerations.
+//! The layout of fields, and of the variants of enumerations.
 use crate::generated::lay_out_heads::loops::{Part, add_braces, add_parens};
 use crate::generated::lay_out_heads::vis::add_vis;
 use crate::generated::lay_node::{Field, Fields, Tokens, TupleField, Variant};
@@ -8,14 +8,14 @@ use crate::generated::lay_out_pats::add_attrs;
 use crate::generated::lay_out_types::add_type;
 use crate::generated::lay_out_types::calls::{add_text, add_tokens, add_word};
 use crate::generated::lay_stream::Emit;
-/// Feeds the layout of fields: in parentheses, or in braces with a leading blank or without it. It is nothing without
-/// fields.
+/// Emits the layout of fields: in parentheses, or in braces with a leading blank or without it.
+/// Nothing if there are no fields.
 pub fn put_fields<
     E: Emit,
 >(out: &mut E, fields: &Fields, lead: bool) -> Result<(), E::Fault> {
     add_fields(out, Ok(()), fields, lead)
 }
-/// Fields.
+/// Emits fields.
 fn add_fields<
     E: Emit,
 >(
@@ -50,7 +50,7 @@ impl Part for Field {
         add_type(out, colon, &self.ty)
     }
 }
-/// Feeds the layout of a variant.
+/// Emits the layout of a variant.
 pub fn put_variant<E: Emit>(out: &mut E, variant: &Variant) -> Result<(), E::Fault> {
     variant.add(out, Ok(()))
 }
@@ -65,7 +65,7 @@ impl Part for Variant {
         add_discriminant(out, fields, &self.discriminant)
     }
 }
-/// The number that a variant has, if it is given one.
+/// Emits the discriminant of a variant, if it has one.
 fn add_discriminant<
     E: Emit,
 >(

@@ -1,6 +1,6 @@
 //! Made by scripts/rust.sh from crates/lay_out_heads/src/functions.rt, which is proved: change that.
 //!
-//! The heads of functions.
+//! The layout of the heads of functions.
 use crate::generated::lay_out_heads::calls::add_generics;
 use crate::generated::lay_out_heads::loops::{Part, add_parens};
 use crate::generated::lay_node::{FnHead, Param, ParamKind, Safety, Ty};
@@ -9,7 +9,7 @@ use crate::generated::lay_out_types::add_type;
 use crate::generated::lay_out_types::calls::{add_if, add_text, add_word};
 use crate::generated::lay_out_types::parts::{add_abi, add_param_attrs, add_reference};
 use crate::generated::lay_stream::Emit;
-/// Feeds the layout of the head of a function.
+/// Emits the layout of the head of a function.
 pub fn put_fn_head<E: Emit>(out: &mut E, head: &FnHead) -> Result<(), E::Fault> {
     let word = add_if(out, Ok(()), head.is_const, b"const ");
     let word = add_if(out, word, head.is_async, b"async ");
@@ -18,7 +18,7 @@ pub fn put_fn_head<E: Emit>(out: &mut E, head: &FnHead) -> Result<(), E::Fault> 
     let word = add_text(out, abi, b"fn ");
     add_signature(out, word, head)
 }
-/// What a function says of its safety, and a blank behind it.
+/// Emits `unsafe` or `safe` and a blank, if the function has the word.
 fn add_safety<
     E: Emit,
 >(
@@ -32,7 +32,7 @@ fn add_safety<
         Some(Safety::Safe) => add_text(out, before, b"safe "),
     }
 }
-/// What stands behind `fn`.
+/// Emits the head of a function after its `fn`.
 fn add_signature<
     E: Emit,
 >(out: &mut E, before: Result<(), E::Fault>, head: &FnHead) -> Result<(), E::Fault> {
@@ -41,13 +41,13 @@ fn add_signature<
     let params = add_params(out, generics, head.params.as_slice());
     add_output(out, params, &head.output)
 }
-/// The parameters of a function in parentheses.
+/// Emits the parameters of a function in parentheses.
 fn add_params<
     E: Emit,
 >(out: &mut E, before: Result<(), E::Fault>, params: &[Param]) -> Result<(), E::Fault> {
     add_parens(out, before, params, !ends_variadic(params))
 }
-/// Whether the last parameter takes further arguments.
+/// Whether the last parameter is a `...`.
 fn ends_variadic(params: &[Param]) -> bool {
     let mut ends = false;
     for param in params {
@@ -55,7 +55,7 @@ fn ends_variadic(params: &[Param]) -> bool {
     }
     ends
 }
-/// Whether a parameter takes further arguments.
+/// Whether a parameter is a `...`.
 fn is_variadic(kind: &ParamKind) -> bool {
     matches!(kind, ParamKind::Variadic | ParamKind::NamedVariadic { .. })
 }
@@ -67,7 +67,7 @@ impl Part for Param {
         add_param_kind(out, attrs, &self.kind)
     }
 }
-/// A parameter without its attributes.
+/// Emits a parameter without its attributes.
 fn add_param_kind<
     E: Emit,
 >(out: &mut E, before: Result<(), E::Fault>, kind: &ParamKind) -> Result<(), E::Fault> {
@@ -94,7 +94,8 @@ fn add_param_kind<
         }
     }
 }
-/// A type behind its `:`, if there is one: that of a receiver, of a binding, or of a parameter of a closure.
+/// Emits a type after its `:`, if there is one: that of a receiver, of a binding, or of a parameter
+/// of a closure.
 pub fn add_self_type<
     E: Emit,
 >(out: &mut E, before: Result<(), E::Fault>, ty: &Option<Ty>) -> Result<(), E::Fault> {
@@ -106,7 +107,7 @@ pub fn add_self_type<
         }
     }
 }
-/// A return type, if there is one.
+/// Emits a return type, if there is one.
 fn add_output<
     E: Emit,
 >(

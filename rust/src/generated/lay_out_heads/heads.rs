@@ -1,6 +1,6 @@
 //! Made by scripts/rust.sh from crates/lay_out_heads/src/heads.rt, which is proved: change that.
 //!
-//! The heads of traits, of implementations, and of constants and statics.
+//! The layout of the heads of traits, implementations, constants and statics.
 use crate::generated::lay_out_heads::calls::add_generics;
 use crate::generated::lay_node::{
     Generics,
@@ -15,13 +15,13 @@ use crate::generated::lay_out_types::calls::{add_if, add_text, add_word};
 use crate::generated::lay_out_types::parts::add_given_name;
 use crate::generated::lay_out_types::{add_asked, add_path, add_type};
 use crate::generated::lay_stream::Emit;
-/// Feeds the layout of the head of a trait.
+/// Emits the layout of the head of a trait.
 pub fn put_trait_head<E: Emit>(out: &mut E, head: &TraitHead) -> Result<(), E::Fault> {
     let word = add_if(out, Ok(()), head.is_unsafe, b"unsafe ");
     let name = add_called(out, word, b"trait ", &head.name, &head.generics);
     add_asked(out, name, head.bounds.as_slice())
 }
-/// A word with a blank behind it, a name, and generic parameters.
+/// Emits a word with a blank after it, a name, and generic parameters.
 pub fn add_called<
     E: Emit,
 >(
@@ -35,7 +35,7 @@ pub fn add_called<
     let name = add_word(out, word, name.raw, &name.text);
     add_generics(out, name, generics)
 }
-/// Feeds the layout of the head of an implementation.
+/// Emits the layout of the head of an implementation.
 pub fn put_impl_head<E: Emit>(out: &mut E, head: &ImplHead) -> Result<(), E::Fault> {
     let word = add_if(out, Ok(()), head.is_unsafe, b"unsafe ");
     let word = add_text(out, word, b"impl");
@@ -44,7 +44,7 @@ pub fn put_impl_head<E: Emit>(out: &mut E, head: &ImplHead) -> Result<(), E::Fau
     let of = add_trait_ref(out, blank, &head.of);
     add_type(out, of, &head.ty)
 }
-/// The trait that is implemented, and `for`; nothing without it.
+/// Emits the trait of an implementation and `for`; nothing if it has none.
 fn add_trait_ref<
     E: Emit,
 >(
@@ -61,7 +61,7 @@ fn add_trait_ref<
         }
     }
 }
-/// Feeds the layout of the head of a constant or of a static.
+/// Emits the layout of the head of a constant or of a static.
 pub fn put_value_head<E: Emit>(out: &mut E, head: &ValueHead) -> Result<(), E::Fault> {
     match head {
         ValueHead::Const { name, ty } => {

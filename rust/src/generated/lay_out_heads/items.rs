@@ -1,6 +1,6 @@
 //! Made by scripts/rust.sh from crates/lay_out_heads/src/items.rt, which is proved: change that.
 //!
-//! The items that are heads alone, with their visibilities.
+//! The layout of items that consist of a head alone, with their visibilities.
 use crate::generated::lay_out_heads::calls::add_wheres;
 use crate::generated::lay_out_heads::heads::add_called;
 use crate::generated::lay_out_heads::loops::{Part, add_braces, add_parens};
@@ -21,7 +21,7 @@ use crate::generated::lay_out_types::calls::{add_text, add_word};
 use crate::generated::lay_out_types::lists::add_end;
 use crate::generated::lay_out_types::{add_asked, add_default};
 use crate::generated::lay_stream::Emit;
-/// Feeds the layout of a struct.
+/// Emits the layout of a struct.
 pub fn put_struct<
     E: Emit,
 >(out: &mut E, vis: &Vis, node: &Struct) -> Result<(), E::Fault> {
@@ -30,21 +30,21 @@ pub fn put_struct<
     let end = add_end(out, head);
     add_struct_tail(out, end, node)
 }
-/// Opens the group that a head has of its own, and feeds the visibility before the head.
+/// Opens the group of a head, and emits the visibility before the head.
 pub fn open_head<
     E: Emit,
 >(out: &mut E, before: Result<(), E::Fault>, vis: &Vis) -> Result<(), E::Fault> {
     let group = add_group(out, before);
     add_vis(out, group, vis)
 }
-/// The head of a struct.
+/// Emits the head of a struct.
 fn add_struct_head<
     E: Emit,
 >(out: &mut E, before: Result<(), E::Fault>, node: &Struct) -> Result<(), E::Fault> {
     let name = add_called(out, before, b"struct ", &node.name, &node.generics);
     add_head_fields(out, name, &node.fields)
 }
-/// Fields without names.
+/// Emits fields without names.
 fn add_head_fields<
     E: Emit,
 >(out: &mut E, before: Result<(), E::Fault>, fields: &Fields) -> Result<(), E::Fault> {
@@ -53,7 +53,7 @@ fn add_head_fields<
         _ => before,
     }
 }
-/// The rest of a struct.
+/// Emits the rest of a struct.
 fn add_struct_tail<
     E: Emit,
 >(out: &mut E, before: Result<(), E::Fault>, node: &Struct) -> Result<(), E::Fault> {
@@ -64,7 +64,8 @@ fn add_struct_tail<
         _ => add_semicolon(out, before, &node.wheres),
     }
 }
-/// A where clause, and parts in braces. Behind one that is there the braces have no leading blank.
+/// Emits a where clause, and parts in braces. After a where clause the braces have no leading
+/// blank.
 fn add_body<
     E: Emit,
     P: Part,
@@ -77,32 +78,32 @@ fn add_body<
     let clause = add_wheres(out, before, wheres, true);
     add_braces(out, clause, parts, leads(wheres))
 }
-/// Whether braces behind a where clause have a leading blank.
+/// Whether braces after a where clause have a leading blank.
 pub fn leads(wheres: &Wheres) -> bool {
     wheres.predicates.as_slice().is_empty()
 }
-/// A where clause, and a `;`.
+/// Emits a where clause, and a `;`.
 pub fn add_semicolon<
     E: Emit,
 >(out: &mut E, before: Result<(), E::Fault>, wheres: &Wheres) -> Result<(), E::Fault> {
     let clause = add_wheres(out, before, wheres, false);
     add_text(out, clause, b";")
 }
-/// Feeds the layout of a union.
+/// Emits the layout of a union.
 pub fn put_union<E: Emit>(out: &mut E, vis: &Vis, node: &Union) -> Result<(), E::Fault> {
     let opened = open_head(out, Ok(()), vis);
     let head = add_called(out, opened, b"union ", &node.name, &node.generics);
     let end = add_end(out, head);
     add_body(out, end, &node.wheres, node.fields.as_slice())
 }
-/// Feeds the layout of an enumeration.
+/// Emits the layout of an enumeration.
 pub fn put_enum<E: Emit>(out: &mut E, vis: &Vis, node: &Enum) -> Result<(), E::Fault> {
     let opened = open_head(out, Ok(()), vis);
     let head = add_called(out, opened, b"enum ", &node.name, &node.generics);
     let end = add_end(out, head);
     add_body(out, end, &node.wheres, node.variants.as_slice())
 }
-/// Feeds the layout of a type alias, which is the same wherever it stands.
+/// Emits the layout of a type alias, which is the same wherever it stands.
 pub fn put_alias<E: Emit>(out: &mut E, vis: &Vis, node: &Alias) -> Result<(), E::Fault> {
     let opened = open_head(out, Ok(()), vis);
     let name = add_called(out, opened, b"type ", &node.name, &node.generics);
@@ -111,7 +112,7 @@ pub fn put_alias<E: Emit>(out: &mut E, vis: &Vis, node: &Alias) -> Result<(), E:
     let end = add_end(out, head);
     add_semicolon(out, end, &node.wheres)
 }
-/// Feeds the layout of an `extern crate`.
+/// Emits the layout of an `extern crate`.
 pub fn put_extern_crate<
     E: Emit,
 >(out: &mut E, vis: &Vis, node: &ExternCrate) -> Result<(), E::Fault> {

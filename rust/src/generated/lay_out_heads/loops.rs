@@ -1,20 +1,21 @@
 //! Made by scripts/rust.sh from crates/lay_out_heads/src/loops.rt, which is proved: change that.
 //!
-//! The loops over what is laid out one after another, and what stands round it and round bodies.
+//! The loops over consecutive parts, and what is laid out around parts and bodies.
 use crate::generated::lay_out_heads::calls::{add_break, add_inside};
 use crate::generated::lay_out_tokens::HARD_BREAK;
 use crate::generated::lay_out_tokens::notation::{CLOSING_HARD_BREAK, NEVER_BREAK};
 use crate::generated::lay_out_types::calls::{add_either, add_text};
 use crate::generated::lay_out_types::lists::{add_close, add_end, add_lead};
 use crate::generated::lay_stream::Emit;
-/// What is laid out by itself, wherever it stands.
+/// A part whose layout doesn't depend on where it stands.
 pub trait Part {
-    /// Its layout.
+    /// Emits the layout of the part.
     fn add<
         E: Emit,
     >(&self, out: &mut E, before: Result<(), E::Fault>) -> Result<(), E::Fault>;
 }
-/// Parts in parentheses, with a `,` between them. Behind the last one a comma may stand or not.
+/// Emits parts in parentheses, with a `,` between them. The flag says whether a comma may follow
+/// the last one.
 pub(crate) fn add_parens<
     E: Emit,
     P: Part,
@@ -31,7 +32,8 @@ pub(crate) fn add_parens<
     }
     add_close(out, done, may, parts.is_empty(), b"()", b")")
 }
-/// Parts in braces, each on a line of its own with a `,` behind it. The braces have a leading blank or not.
+/// Emits parts in braces, each on a line of its own with a `,` after it. The braces have a leading
+/// blank or not.
 pub fn add_braces<
     E: Emit,
     P: Part,
@@ -48,7 +50,8 @@ pub fn add_braces<
     }
     close_braces(out, done, parts.is_empty(), lead)
 }
-/// What stands before a part in braces: before the first one what opens them, and else a comma; and a newline.
+/// Emits what stands before a part in braces: the `{` before the first one, else a comma; and a
+/// newline.
 fn add_line<
     E: Emit,
 >(
@@ -64,7 +67,8 @@ fn add_line<
     let comma = add_text(out, before, b",");
     add_break(out, comma, HARD_BREAK)
 }
-/// What closes the braces, on a line of its own, behind the last `,`. Without parts they are one text.
+/// Closes the braces, on a line of their own, after the last `,`. Without parts both braces are one
+/// text.
 fn close_braces<
     E: Emit,
 >(
@@ -79,7 +83,8 @@ fn close_braces<
     let last = add_text(out, before, b",");
     close_body(out, last)
 }
-/// Opens a body. What stands before its brace is measured up to the brace, which has a leading blank or not.
+/// Opens a body. What stands before its brace is measured up to the brace, which has a leading
+/// blank or not, as the flag says.
 pub fn open_body<
     E: Emit,
 >(out: &mut E, before: Result<(), E::Fault>, lead: bool) -> Result<(), E::Fault> {

@@ -1,15 +1,15 @@
 //! Made by scripts/rust.sh from crates/lay_out_heads/src/uses.rt, which is proved: change that.
 //!
-//! Use trees.
+//! The layout of use trees.
 use crate::generated::lay_node::{GivenName, UseEnd, UseTree, Word};
 use crate::generated::lay_out_types::calls::{add_if, add_text, add_word};
 use crate::generated::lay_out_types::lists::{add_close, add_lead};
 use crate::generated::lay_stream::Emit;
-/// Feeds the layout of a use tree.
+/// Emits the layout of a use tree.
 pub fn put_use<E: Emit>(out: &mut E, tree: &UseTree) -> Result<(), E::Fault> {
     add_use(out, Ok(()), tree)
 }
-/// A use tree.
+/// Emits a use tree.
 fn add_use<
     E: Emit,
 >(out: &mut E, before: Result<(), E::Fault>, tree: &UseTree) -> Result<(), E::Fault> {
@@ -17,7 +17,7 @@ fn add_use<
     let words = add_words(out, global, tree.path.as_slice());
     add_use_end(out, words, &tree.end)
 }
-/// What a use tree names behind its path.
+/// Emits the end of a use tree, after its path.
 fn add_use_end<
     E: Emit,
 >(out: &mut E, before: Result<(), E::Fault>, end: &UseEnd) -> Result<(), E::Fault> {
@@ -30,7 +30,7 @@ fn add_use_end<
         UseEnd::Group { trees } => add_trees(out, before, trees.as_slice()),
     }
 }
-/// Use trees in braces.
+/// Emits use trees in braces.
 fn add_trees<
     E: Emit,
 >(out: &mut E, before: Result<(), E::Fault>, trees: &[UseTree]) -> Result<(), E::Fault> {
@@ -41,7 +41,7 @@ fn add_trees<
     }
     add_close(out, done, true, trees.is_empty(), b"{}", b"}")
 }
-/// Words, each with a `::` behind it.
+/// Emits words, each with a `::` after it.
 fn add_words<
     E: Emit,
 >(out: &mut E, before: Result<(), E::Fault>, words: &[Word]) -> Result<(), E::Fault> {
@@ -52,7 +52,7 @@ fn add_words<
     }
     done
 }
-/// Another name, behind its `as`, or none; nothing where none is given.
+/// Emits `as` and another name, or `as _`; nothing if the name isn't changed.
 pub fn add_rename<
     E: Emit,
 >(

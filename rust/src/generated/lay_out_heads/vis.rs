@@ -1,15 +1,15 @@
 //! Made by scripts/rust.sh from crates/lay_out_heads/src/vis.rt, which is proved: change that.
 //!
-//! Visibilities.
+//! The layout of visibilities.
 use crate::generated::lay_out_heads::calls::add_simple_path;
 use crate::generated::lay_node::Vis;
 use crate::generated::lay_out_types::calls::add_text;
 use crate::generated::lay_stream::Emit;
-/// Feeds the layout of a visibility, with a blank behind it; nothing where none is said.
+/// Emits the layout of a visibility, with a blank after it; nothing if none is written.
 pub fn put_vis<E: Emit>(out: &mut E, vis: &Vis) -> Result<(), E::Fault> {
     add_vis(out, Ok(()), vis)
 }
-/// A visibility.
+/// Emits a visibility.
 pub fn add_vis<
     E: Emit,
 >(out: &mut E, before: Result<(), E::Fault>, vis: &Vis) -> Result<(), E::Fault> {

@@ -1,6 +1,6 @@
 //! Made by scripts/rust.sh from crates/lay_out_pats/src/patterns.rt, which is proved: change that.
 //!
-//! Patterns.
+//! The layout of patterns.
 use crate::generated::lay_layout::Break;
 use crate::generated::lay_node::{
     Attr,
@@ -30,11 +30,11 @@ use crate::generated::lay_out_types::lists::{
 };
 use crate::generated::lay_piece::Kind;
 use crate::generated::lay_stream::Emit;
-/// Feeds the layout of a pattern.
+/// Emits the layout of a pattern.
 pub fn put_pat<E: Emit>(out: &mut E, pat: &Pat) -> Result<(), E::Fault> {
     add_pat(out, Ok(()), pat)
 }
-/// A pattern.
+/// Emits a pattern.
 pub fn add_pat<
     E: Emit,
 >(out: &mut E, before: Result<(), E::Fault>, pat: &Pat) -> Result<(), E::Fault> {
@@ -94,7 +94,7 @@ pub fn add_pat<
         }
     }
 }
-/// Alternatives, with a `|` between them.
+/// Emits alternatives, with a `|` between them.
 fn add_alternatives<
     E: Emit,
 >(
@@ -109,7 +109,8 @@ fn add_alternatives<
     }
     add_end(out, done)
 }
-/// Patterns in brackets, with a `,` between them. Without a pattern the brackets are one text.
+/// Emits patterns in brackets, with a `,` between them. Without a pattern the brackets are one
+/// text.
 fn add_pats<
     E: Emit,
 >(
@@ -127,7 +128,7 @@ fn add_pats<
     }
     add_close(out, done, true, pats.is_empty(), both, closer)
 }
-/// The one element of a tuple, with its comma; a `..` alone has none.
+/// Emits the one element of a tuple, with its comma; a `..` alone has none.
 fn add_single<
     E: Emit,
 >(out: &mut E, before: Result<(), E::Fault>, element: &Pat) -> Result<(), E::Fault> {
@@ -136,7 +137,7 @@ fn add_single<
     let element = add_pat(out, opener, element);
     add_either(out, element, rest, b")", b",)")
 }
-/// The fields of a struct in braces, and the `..` behind them.
+/// Emits the fields of a struct in braces, and the `..` after them.
 fn add_fields<
     E: Emit,
 >(
@@ -157,7 +158,7 @@ fn add_fields<
     }
     add_closing_brace(out, done, true, fields.is_empty())
 }
-/// A field, behind its attributes.
+/// Emits a field, after its attributes.
 fn add_field<
     E: Emit,
 >(out: &mut E, before: Result<(), E::Fault>, field: &FieldPat) -> Result<(), E::Fault> {
@@ -180,7 +181,7 @@ fn add_field<
         }
     }
 }
-/// Attributes, each with a newline behind it.
+/// Emits attributes, each with a newline after it.
 pub fn add_attrs<
     E: Emit,
 >(out: &mut E, before: Result<(), E::Fault>, attrs: &[Attr]) -> Result<(), E::Fault> {
@@ -190,7 +191,7 @@ pub fn add_attrs<
     }
     done
 }
-/// An attribute, with a newline behind it.
+/// Emits an attribute, with a newline after it.
 fn add_attr_line<
     E: Emit,
 >(out: &mut E, before: Result<(), E::Fault>, attr: &Attr) -> Result<(), E::Fault> {
@@ -198,14 +199,14 @@ fn add_attr_line<
     put_bare_attr(out, attr)?;
     out.brk(HARD_BREAK)
 }
-/// A literal, or a number behind its `-`.
+/// Emits a literal, or a number after its `-`.
 fn add_value<
     E: Emit,
 >(out: &mut E, before: Result<(), E::Fault>, value: &PatValue) -> Result<(), E::Fault> {
     let minus = add_if(out, before, value.negative, b"-");
     add_literal(out, minus, &value.literal)
 }
-/// An end of a span.
+/// Emits an end of a range pattern.
 fn add_span_end<
     E: Emit,
 >(out: &mut E, before: Result<(), E::Fault>, end: &SpanEnd) -> Result<(), E::Fault> {
@@ -214,7 +215,7 @@ fn add_span_end<
         SpanEnd::Path(path) => add_path(out, before, path, PathStyle::Code),
     }
 }
-/// The first end of a span, if it has one, and the `..` or `..=` behind it.
+/// Emits the start of a range pattern, if it has one, and the `..` or `..=` after it.
 fn add_dots<
     E: Emit,
 >(
@@ -231,7 +232,7 @@ fn add_dots<
         }
     }
 }
-/// A `..` or `..=`, with a blank before it where it would stand directly behind the point of a number.
+/// Emits a `..` or `..=`, with a blank before it if it would directly follow the point of a number.
 pub fn add_dots_behind<
     E: Emit,
 >(
@@ -245,7 +246,7 @@ pub fn add_dots_behind<
     }
     add_either(out, before, inclusive, b"..=", b"..")
 }
-/// The last end of a span, if it has one.
+/// Emits the end of a range pattern, if it has one.
 fn add_last_end<
     E: Emit,
 >(
@@ -258,21 +259,21 @@ fn add_last_end<
         Some(end) => add_span_end(out, before, end),
     }
 }
-/// Whether an end of a span ends in the point of a number.
+/// Whether an end of a range pattern ends in the `.` of a number.
 fn ends_in_point(end: &SpanEnd) -> bool {
     match end {
         SpanEnd::Value(value) => is_pointed(&value.literal),
         SpanEnd::Path(_path) => false,
     }
 }
-/// Whether a literal is a number that ends in its point.
+/// Whether a literal is a number that ends in a `.`.
 pub fn is_pointed(literal: &Literal) -> bool {
     match literal.kind {
         Kind::Float => is_digits_and_point(literal.text.as_bytes()),
         _ => false,
     }
 }
-/// Whether a text is digits, with `_` among them, and a point behind them.
+/// Whether a text is digits and `_`, and then a `.`.
 fn is_digits_and_point(text: &[u8]) -> bool {
     let mut rest = text;
     while let [byte, tail @ ..] = rest {
@@ -287,14 +288,14 @@ fn is_digits_and_point(text: &[u8]) -> bool {
 fn is_rest(pat: &Pat) -> bool {
     matches!(pat, Pat::Rest)
 }
-/// What opens alternatives.
+/// Emits what opens alternatives.
 pub fn add_group<
     E: Emit,
 >(out: &mut E, before: Result<(), E::Fault>) -> Result<(), E::Fault> {
     before?;
     out.begin(false, 0)
 }
-/// What stands before an alternative: a `|`, unless it is the first one.
+/// Emits what stands before an alternative: a `|`, unless it is the first one.
 fn add_bar<
     E: Emit,
 >(out: &mut E, before: Result<(), E::Fault>, first: bool) -> Result<(), E::Fault> {
@@ -305,7 +306,7 @@ fn add_bar<
     out.brk(SPACE_BREAK)?;
     out.text(b"| ")
 }
-/// What stands before a field: before the first one what opens the braces, and else a comma.
+/// Emits what stands before a field: the `{` before the first one, else a comma.
 pub fn add_brace<
     E: Emit,
 >(out: &mut E, before: Result<(), E::Fault>, first: bool) -> Result<(), E::Fault> {
@@ -318,8 +319,8 @@ pub fn add_brace<
     out.text(b",")?;
     out.brk(SPACE_BREAK)
 }
-/// What closes the braces, with a `,` behind the last field where each stands on its own line and one may stand there.
-/// Without fields they are one text.
+/// Emits the `}`. If each field is on its own line, a `,` follows the last one, if one is allowed.
+/// Without fields both braces are emitted as one text.
 pub fn add_closing_brace<
     E: Emit,
 >(
@@ -336,7 +337,7 @@ pub fn add_closing_brace<
     out.end()?;
     out.text(b"}")
 }
-/// The break behind the last field.
+/// The break after the last field.
 fn closing_break(may: bool) -> Break {
     if may {
         return COMMA_CLOSING_SPACE_BREAK;

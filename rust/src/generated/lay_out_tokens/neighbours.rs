@@ -1,6 +1,6 @@
 //! Made by scripts/rust.sh from crates/lay_out_tokens/src/neighbours.rt, which is proved: change that.
 //!
-//! What stands beside a place of a token list.
+//! The neighbours of a place in a token list.
 use crate::generated::lay_out_tokens::words::is_block;
 use crate::generated::lay_node::{Listed, are_digits};
 use crate::generated::lay_token::{Class, Delim, Kind, word_class};
@@ -11,21 +11,21 @@ pub enum Neighbour<'a> {
     Single(&'a Listed),
     Enclosed(Delim),
 }
-/// The kind of a token of a list.
+/// The kind of a token in a token list.
 pub fn kind_of(token: &Listed) -> Kind {
     match token {
         Listed::Token { kind, .. } => *kind,
         Listed::Doc { inner, .. } => Kind::Doc { inner: *inner, block: false },
     }
 }
-/// Whether it is documentation that is laid out on a line.
+/// Whether the token is laid out as a line comment.
 pub fn is_line_doc(token: &Listed) -> bool {
     match token {
         Listed::Token { .. } => false,
         Listed::Doc { inner, text } => !is_block(*inner, text.as_bytes()),
     }
 }
-/// Whether it is a word that is no keyword.
+/// Whether the token is an identifier that is no keyword.
 pub fn is_free_word(token: &Listed) -> bool {
     match token {
         Listed::Token { kind, text, .. } => {
@@ -38,7 +38,7 @@ pub fn is_free_word(token: &Listed) -> bool {
         Listed::Doc { .. } => false,
     }
 }
-/// Whether it is a keyword.
+/// Whether the token is a keyword.
 pub fn is_keyword(token: &Listed) -> bool {
     match token {
         Listed::Token { kind, text, .. } => {
@@ -50,7 +50,7 @@ pub fn is_keyword(token: &Listed) -> bool {
         Listed::Doc { .. } => false,
     }
 }
-/// Whether it is a word.
+/// Whether the token is an identifier or a keyword.
 pub fn is_any_word(token: &Listed) -> bool {
     match token {
         Listed::Token { kind, .. } => matches!(kind, Kind::Ident | Kind::RawIdent),
@@ -61,7 +61,8 @@ pub fn is_any_word(token: &Listed) -> bool {
 fn is_strict(text: &[u8]) -> bool {
     matches!(word_class(text), Class::Strict)
 }
-/// Whether it is a number, where the place is one of an index or not: a Float, or an Int that is no index.
+/// Whether the token is a number: a Float, or an Int that is no tuple index. `place` says that it
+/// stands where it could be one.
 pub fn is_number(token: &Listed, place: bool) -> bool {
     match token {
         Listed::Token { kind, text, .. } => {
@@ -74,7 +75,7 @@ pub fn is_number(token: &Listed, place: bool) -> bool {
         Listed::Doc { .. } => false,
     }
 }
-/// Whether the text is an index, where the place is one of an index.
+/// Whether the text is a tuple index, if `place` says that it stands where it could be one.
 fn is_index_at(text: &[u8], place: bool) -> bool {
     place && is_index(text)
 }

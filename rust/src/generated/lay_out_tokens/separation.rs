@@ -1,26 +1,26 @@
 //! Made by scripts/rust.sh from crates/lay_out_tokens/src/separation.rt, which is proved: change that.
 //!
-//! What stands between two neighbours of a token list.
+//! What is laid out between two neighbours in a token list.
 use crate::generated::lay_out_tokens::neighbours::kind_of;
 use crate::generated::lay_out_tokens::told::Told;
 use crate::generated::lay_node::Listed;
 use crate::generated::lay_token::{Delim, Kind};
-/// What stands before a place of a token list.
+/// What precedes a place in a token list, as far as it decides the layout.
 #[derive(Clone, Copy,)]
 pub struct Seen<'a> {
-    /// The last two neighbours.
+    /// The last two neighbours before the place.
     pub before: Told<'a>,
     pub last: Told<'a>,
-    /// Whether the last one stands where a number may be an index.
+    /// Whether the last one stands where a number may be a tuple index.
     pub place: bool,
-    /// Whether it is a `<` of a turbofish.
+    /// Whether the last one is a `<` of a turbofish.
     pub opens: bool,
-    /// Whether it is the `>` that closes a turbofish.
+    /// Whether the last one is the `>` that closes a turbofish.
     pub closes: bool,
     /// How many `<` of a turbofish are open.
     pub count: usize,
 }
-/// What stands between two neighbours; a soft break is a blank or a newline.
+/// What is laid out between two neighbours. A soft break is a blank or a newline.
 #[derive(Clone, Copy,)]
 pub enum Separation {
     NoBreak,
@@ -28,7 +28,7 @@ pub enum Separation {
     HardBreak,
 }
 impl<'a> Seen<'a> {
-    /// At the start of a list or of a group.
+    /// The state at the beginning of a list or of a group.
     #[inline(always)]
     pub fn at_start(count: usize) -> Seen<'a> {
         Seen {
@@ -40,7 +40,7 @@ impl<'a> Seen<'a> {
             count,
         }
     }
-    /// Behind a group.
+    /// The state after a group.
     #[inline(always)]
     fn behind_group(delim: Delim, count: usize) -> Seen<'a> {
         Seen {
@@ -52,7 +52,7 @@ impl<'a> Seen<'a> {
             count,
         }
     }
-    /// What is seen behind one more token.
+    /// The state after one more token.
     #[inline(always)]
     pub fn behind(&self, token: &'a Listed, next: Told<'a>) -> Seen<'a> {
         match kind_of(token) {
@@ -61,7 +61,7 @@ impl<'a> Seen<'a> {
             _ => self.behind_single(next),
         }
     }
-    /// Behind a token that is no delimiter.
+    /// The state after a token that is no delimiter.
     #[inline(always)]
     fn behind_single(&self, next: Told<'a>) -> Seen<'a> {
         if is_angle(&next) {
@@ -76,7 +76,7 @@ impl<'a> Seen<'a> {
             count: self.count,
         }
     }
-    /// Behind a `<` or a `>`.
+    /// The state after a `<` or a `>`.
     #[inline(always)]
     fn behind_angle(&self, next: Told<'a>) -> Seen<'a> {
         Seen {
@@ -88,12 +88,12 @@ impl<'a> Seen<'a> {
             count: self.count_behind(&next),
         }
     }
-    /// Whether a number here may be an index: behind a point, but not behind `..`.
+    /// Whether a number here may be a tuple index: after a `.`, but not after `..`.
     #[inline(always)]
     fn is_index_place(&self) -> bool {
         self.last.is_mark(b'.') && !self.before.is_joint_mark(b'.')
     }
-    /// The turbofish's count behind this one.
+    /// The count of open `<` of a turbofish after this neighbour.
     #[inline(always)]
     fn count_behind(&self, next: &Told<'_>) -> usize {
         if next.is_mark(b'<') {
@@ -104,7 +104,7 @@ impl<'a> Seen<'a> {
         }
         self.count
     }
-    /// The turbofish's count behind a `<`.
+    /// The count of open `<` of a turbofish after a `<`.
     #[inline(always)]
     fn raised(&self) -> usize {
         if self.may_open_turbofish() {
@@ -117,7 +117,7 @@ impl<'a> Seen<'a> {
     fn may_open_turbofish(&self) -> bool {
         self.count > 0 || self.last.is_joint_mark(b':')
     }
-    /// The turbofish's count behind a `>`. That of an arrow closes none.
+    /// The count of open `<` of a turbofish after a `>`. The `>` of an arrow closes none.
     #[inline(always)]
     fn lowered(&self) -> usize {
         if self.is_arrow() {
@@ -130,23 +130,23 @@ impl<'a> Seen<'a> {
     fn is_arrow(&self) -> bool {
         self.last.is_joint_mark(b'-') || self.last.is_joint_mark(b'=')
     }
-    /// Whether this one is a `<` of a turbofish.
+    /// Whether this neighbour is a `<` of a turbofish.
     #[inline(always)]
     fn opens_turbofish(&self, next: &Told<'_>) -> bool {
         next.is_mark(b'<') && self.may_open_turbofish()
     }
-    /// Whether this one is a `>` within a turbofish.
+    /// Whether this neighbour is a `>` inside a turbofish.
     #[inline(always)]
     fn ends_turbofish(&self, next: &Told<'_>) -> bool {
         next.is_mark(b'>') && self.count > 0
     }
-    /// Whether this one is the `>` that closes a turbofish.
+    /// Whether this neighbour is the `>` that closes a turbofish.
     #[inline(always)]
     fn closes_turbofish(&self, next: &Told<'_>) -> bool {
         self.ends_turbofish(next) && self.lowered() == 0
     }
 }
-/// What stands between what was seen and this one: the first row of the table that fits.
+/// What is laid out before this neighbour: by the first row of the table that fits.
 #[inline(always)]
 pub fn between(seen: &Seen<'_>, next: &Told<'_>) -> Separation {
     if seen.last.is_nothing() {
@@ -163,7 +163,7 @@ pub fn between(seen: &Seen<'_>, next: &Told<'_>) -> Separation {
     }
     between_tokens(seen, next)
 }
-/// The rows of tokens, where neither is documentation and the first one isn't joint.
+/// The rows for neighbours that aren't documentation, if the first isn't joint.
 #[inline(always)]
 fn between_tokens(seen: &Seen<'_>, next: &Told<'_>) -> Separation {
     if next.is_punct() {
@@ -174,7 +174,7 @@ fn between_tokens(seen: &Seen<'_>, next: &Told<'_>) -> Separation {
     }
     around_group(seen, next)
 }
-/// The rows of a mark that follows.
+/// The rows for punctuation that follows.
 #[inline(always)]
 fn before_mark(seen: &Seen<'_>, next: &Told<'_>) -> Separation {
     if is_end_mark(next) {
@@ -194,7 +194,7 @@ fn before_mark(seen: &Seen<'_>, next: &Told<'_>) -> Separation {
     }
     around_group(seen, next)
 }
-/// The rows of a mark that stands before.
+/// The rows for punctuation that precedes.
 #[inline(always)]
 fn behind_mark(seen: &Seen<'_>, next: &Told<'_>) -> Separation {
     if is_behind_point_or_path(seen, next) {
@@ -211,7 +211,7 @@ fn behind_mark(seen: &Seen<'_>, next: &Told<'_>) -> Separation {
     }
     around_group(seen, next)
 }
-/// The rows of a turbofish, and of a group that follows.
+/// The rows for a turbofish, and for a group that follows.
 #[inline(always)]
 fn around_group(seen: &Seen<'_>, next: &Told<'_>) -> Separation {
     if is_within_turbofish(seen, next) {
@@ -226,12 +226,12 @@ fn around_group(seen: &Seen<'_>, next: &Told<'_>) -> Separation {
 fn is_beside_doc(seen: &Seen<'_>, next: &Told<'_>) -> bool {
     seen.last.is_doc() || next.is_doc()
 }
-/// `<` or `>`
+/// Whether the neighbour is `<` or `>`.
 #[inline(always)]
 fn is_angle(next: &Told<'_>) -> bool {
     next.is_mark(b'<') || next.is_mark(b'>')
 }
-/// `,` or `;`
+/// Whether the neighbour is `,` or `;`.
 #[inline(always)]
 fn is_end_mark(next: &Told<'_>) -> bool {
     next.is_mark(b',') || next.is_mark(b';')
@@ -240,17 +240,17 @@ fn is_end_mark(next: &Told<'_>) -> bool {
 fn is_point_behind_number(seen: &Seen<'_>, next: &Told<'_>) -> bool {
     next.is_mark(b'.') && seen.last.is_number(seen.place)
 }
-/// `.`, `?` or `:`
+/// Whether the neighbour is `.`, `?` or `:`.
 #[inline(always)]
 fn is_mark_without_gap(next: &Told<'_>) -> bool {
     next.is_mark(b'.') || next.is_mark(b'?') || next.is_mark(b':')
 }
-/// The `!` of `name!(..)`
+/// Whether the neighbour is the `!` of `name!(..)`.
 #[inline(always)]
 fn is_bang_of_call(seen: &Seen<'_>, next: &Told<'_>) -> bool {
     next.is_mark(b'!') && !next.is_joint() && seen.last.is_free_word()
 }
-/// Behind `.`, or a word behind `::`
+/// Whether the place follows a `.`, or precedes a word after `::`.
 #[inline(always)]
 fn is_behind_point_or_path(seen: &Seen<'_>, next: &Told<'_>) -> bool {
     seen.last.is_mark(b'.') || is_behind_path(seen, next)
@@ -263,18 +263,18 @@ fn is_behind_path(seen: &Seen<'_>, next: &Told<'_>) -> bool {
 fn is_behind_bang_or_dollar(seen: &Seen<'_>, next: &Told<'_>) -> bool {
     (seen.last.is_mark(b'!') || seen.last.is_mark(b'$')) && !next.is_brace()
 }
-/// The brackets of `#[..]`
+/// Whether the neighbour is the brackets of `#[..]`.
 #[inline(always)]
 fn is_attribute(seen: &Seen<'_>, next: &Told<'_>) -> bool {
     seen.last.is_mark(b'#') && next.is_bracket()
 }
-/// Behind `&`, `*` or `-` that has no left operand
+/// Whether the place follows a `&`, `*` or `-` that has no left operand.
 #[inline(always)]
 fn is_prefix(seen: &Seen<'_>) -> bool {
     is_prefix_mark(&seen.last) && !is_joint_punct(&seen.before)
         && has_no_operand(&seen.before)
 }
-/// `&`, `*` or `-`
+/// Whether the neighbour is `&`, `*` or `-`.
 #[inline(always)]
 fn is_prefix_mark(last: &Told<'_>) -> bool {
     last.is_mark(b'&') || last.is_mark(b'*') || last.is_mark(b'-')
@@ -283,7 +283,7 @@ fn is_prefix_mark(last: &Told<'_>) -> bool {
 fn is_joint_punct(before: &Told<'_>) -> bool {
     before.is_punct() && before.is_joint()
 }
-/// Whether it is no operand of an operator behind it
+/// Whether the neighbour is no left operand of an operator after it.
 #[inline(always)]
 fn has_no_operand(before: &Told<'_>) -> bool {
     before.is_nothing() || (before.is_punct() && !before.is_mark(b'?'))
@@ -294,7 +294,7 @@ fn is_within_turbofish(seen: &Seen<'_>, next: &Told<'_>) -> bool {
     seen.opens || seen.opens_turbofish(next) || seen.ends_turbofish(next)
         || (seen.closes && next.is_paren())
 }
-/// The group of `name(..)` and `name[..]`, or one behind another
+/// Whether the neighbour is the group of `name(..)` or `name[..]`, or a group after another.
 #[inline(always)]
 fn is_call_or_index(seen: &Seen<'_>, next: &Told<'_>) -> bool {
     (next.is_paren() || next.is_bracket()) && is_before_group(&seen.last)

@@ -1,6 +1,6 @@
 //! Made by scripts/rust.sh from crates/lay_out_tokens/src/tokens.rt, which is proved: change that.
 //!
-//! Token lists and groups.
+//! The layout of token lists and groups.
 use crate::generated::lay_out_tokens::neighbours::kind_of;
 use crate::generated::lay_out_tokens::notation::{
     CLOSING_HARD_BREAK,
@@ -16,25 +16,25 @@ use crate::generated::lay_out_tokens::words::{put_doc, put_token};
 use crate::generated::lay_node::{Group, Listed, Tokens};
 use crate::generated::lay_stream::Emit;
 use crate::generated::lay_token::{Break, Delim, Kind};
-/// Feeds the layout of a token list.
+/// Emits the layout of a token list.
 pub fn put_tokens<E: Emit>(out: &mut E, tokens: &Tokens) -> Result<(), E::Fault> {
     out.begin(false, 4)?;
     let line = put_list(out, tokens.as_slice())?;
     out.end()?;
     put_list_end(out, line)
 }
-/// A newline behind a list that ends in documentation on a line.
+/// Emits a newline after a list, if it ends in a line comment.
 fn put_list_end<E: Emit>(out: &mut E, line: bool) -> Result<(), E::Fault> {
     if line {
         return out.brk(HARD_BREAK);
     }
     Ok(())
 }
-/// Feeds the layout of a group.
+/// Emits the layout of a group.
 pub fn put_group<E: Emit>(out: &mut E, group: &Group) -> Result<(), E::Fault> {
     put_enclosed(out, group.delim, &group.tokens)
 }
-/// Feeds the layout of a token list in delimiters, which is that of a group.
+/// Emits the layout of a token list in delimiters, which is that of a group.
 pub fn put_enclosed<
     E: Emit,
 >(out: &mut E, delim: Delim, tokens: &Tokens) -> Result<(), E::Fault> {
@@ -44,7 +44,7 @@ pub fn put_enclosed<
     }
     put_full_group(out, delim, tokens)
 }
-/// A group of these tokens.
+/// Emits a group of these tokens.
 fn put_full_group<
     E: Emit,
 >(out: &mut E, delim: Delim, tokens: &[Listed]) -> Result<(), E::Fault> {
@@ -52,7 +52,7 @@ fn put_full_group<
     let line = put_list(out, tokens)?;
     close_group(out, delim, line)
 }
-/// Tokens whose delimiters are balanced. Answers whether the last one is documentation on a line.
+/// Emits tokens whose delimiters are balanced, and says whether the last one is a line comment.
 fn put_list<E: Emit>(out: &mut E, tokens: &[Listed]) -> Result<bool, E::Fault> {
     let mut seen = Seen::at_start(0);
     let mut rest = tokens;
@@ -64,7 +64,7 @@ fn put_list<E: Emit>(out: &mut E, tokens: &[Listed]) -> Result<bool, E::Fault> {
     }
     Ok(seen.last.is_line_doc())
 }
-/// One token, which others follow.
+/// Emits one token, which others follow.
 #[inline(always)]
 fn put_next<
     E: Emit,
@@ -81,7 +81,7 @@ fn put_next<
         _ => put_single(out, seen, token, next),
     }
 }
-/// Whether a closer is the next token.
+/// Whether the next token is a closer.
 fn closes_at_once(more: &[Listed]) -> bool {
     match more {
         [] => false,
@@ -91,7 +91,7 @@ fn closes_at_once(more: &[Listed]) -> bool {
 fn is_closer(kind: Kind) -> bool {
     matches!(kind, Kind::Closer(_))
 }
-/// What opens a group, or all of a group without tokens.
+/// Emits the opener of a group, or the whole of an empty group.
 #[inline(always)]
 fn put_opener<
     E: Emit,
@@ -102,7 +102,7 @@ fn put_opener<
     }
     open_group(out, delim)
 }
-/// What closes a group, unless it has no tokens.
+/// Emits the closer of a group, unless the group is empty.
 #[inline(always)]
 fn put_closer<
     E: Emit,
@@ -112,7 +112,7 @@ fn put_closer<
     }
     close_group(out, delim, seen.last.is_line_doc())
 }
-/// A token that is no delimiter.
+/// Emits a token that is no delimiter.
 #[inline(always)]
 fn put_single<
     E: Emit,
@@ -131,7 +131,7 @@ fn put_listed<E: Emit>(out: &mut E, token: &Listed) -> Result<(), E::Fault> {
         Listed::Doc { inner, text } => put_doc(out, *inner, text.as_bytes()),
     }
 }
-/// What stands between two neighbours.
+/// Emits what stands between two neighbours.
 fn put_gap<E: Emit>(out: &mut E, separation: Separation) -> Result<(), E::Fault> {
     match separation {
         Separation::NoBreak => Ok(()),
@@ -139,7 +139,7 @@ fn put_gap<E: Emit>(out: &mut E, separation: Separation) -> Result<(), E::Fault>
         Separation::HardBreak => out.brk(HARD_BREAK),
     }
 }
-/// A group without tokens is one text.
+/// Emits an empty group, which is one text.
 fn put_empty_group<E: Emit>(out: &mut E, delim: Delim) -> Result<(), E::Fault> {
     match delim {
         Delim::Paren => out.text(b"()"),
@@ -147,14 +147,14 @@ fn put_empty_group<E: Emit>(out: &mut E, delim: Delim) -> Result<(), E::Fault> {
         Delim::Brace => out.text(b"{}"),
     }
 }
-/// What opens a group with tokens.
+/// Opens a group that isn't empty.
 fn open_group<E: Emit>(out: &mut E, delim: Delim) -> Result<(), E::Fault> {
     out.begin(true, 4)?;
     out.text(opening(delim))?;
     out.brk(opening_break(delim))?;
     out.begin(false, 0)
 }
-/// What closes a group with tokens; the last one may be documentation on a line.
+/// Closes a group that isn't empty; `line` says that its last token is a line comment.
 fn close_group<E: Emit>(out: &mut E, delim: Delim, line: bool) -> Result<(), E::Fault> {
     out.end()?;
     out.brk(closing_break(delim, line))?;
@@ -175,7 +175,7 @@ fn closing(delim: Delim) -> &'static [u8] {
         Delim::Brace => b"}",
     }
 }
-/// The break behind an opener: braces have blanks within.
+/// The break after an opener; inside braces it is a blank if it is no newline.
 fn opening_break(delim: Delim) -> Break {
     match delim {
         Delim::Brace => SPACE_BREAK,

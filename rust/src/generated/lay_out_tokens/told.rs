@@ -1,9 +1,9 @@
 //! Made by scripts/rust.sh from crates/lay_out_tokens/src/told.rt, which is proved: change that.
 //!
-//! What is asked of a neighbour most, told once.
+//! Neighbours, with the facts that are asked most computed once.
 //!
-//! All of it, and the rows that ask it, carries `#[inline(always)]`: what is handed on by reference would be put together in
-//! memory for each token of a list.
+//! All of it, and the rows that use it, are `#[inline(always)]`: otherwise these values would be
+//! built in memory for each token of a list, to be passed by reference.
 use crate::generated::lay_out_tokens::neighbours::{
     Neighbour,
     is_any_word,
@@ -14,21 +14,21 @@ use crate::generated::lay_out_tokens::neighbours::{
 };
 use crate::generated::lay_node::Listed;
 use crate::generated::lay_token::{Delim, Kind};
-/// A neighbour, with what is told of it at once.
+/// A neighbour, with some facts about it.
 #[derive(Clone, Copy,)]
 pub struct Told<'a> {
     pub neighbour: Neighbour<'a>,
-    /// Its character, where it is punctuation of one, and else 0.
+    /// The character of punctuation, else 0.
     pub mark: u8,
     /// Whether it is punctuation.
     pub punct: bool,
     /// Whether it is documentation.
     pub doc: bool,
-    /// Whether it is joint to what follows it.
+    /// Whether it is joint with the token that follows.
     pub joint: bool,
 }
 impl<'a> Told<'a> {
-    /// Nothing.
+    /// No neighbour.
     #[inline(always)]
     pub fn nothing() -> Told<'a> {
         Told {
@@ -39,7 +39,7 @@ impl<'a> Told<'a> {
             joint: false,
         }
     }
-    /// A group.
+    /// A group as a neighbour.
     #[inline(always)]
     pub fn enclosed(delim: Delim) -> Told<'a> {
         Told {
@@ -50,7 +50,7 @@ impl<'a> Told<'a> {
             joint: false,
         }
     }
-    /// A single token.
+    /// A single token as a neighbour.
     #[inline(always)]
     pub fn single(token: &'a Listed) -> Told<'a> {
         match token {
@@ -92,17 +92,17 @@ impl<'a> Told<'a> {
     pub fn is_nothing(&self) -> bool {
         matches!(self.neighbour, Neighbour::Nothing)
     }
-    /// Whether it is the punctuation of this character.
+    /// Whether it is punctuation with this character.
     #[inline(always)]
     pub fn is_mark(&self, character: u8) -> bool {
         self.mark == character
     }
-    /// Whether it is joint to what follows it.
+    /// Whether it is joint with the token that follows.
     #[inline(always)]
     pub fn is_joint(&self) -> bool {
         self.joint
     }
-    /// Whether it is the punctuation of this character, and joint to what follows it.
+    /// Whether it is punctuation with this character, and joint with the token that follows.
     #[inline(always)]
     pub fn is_joint_mark(&self, character: u8) -> bool {
         self.is_mark(character) && self.is_joint()
@@ -117,12 +117,12 @@ impl<'a> Told<'a> {
     pub fn is_doc(&self) -> bool {
         self.doc
     }
-    /// Whether it is documentation that is laid out on a line.
+    /// Whether it is laid out as a line comment.
     #[inline(always)]
     pub fn is_line_doc(&self) -> bool {
         self.doc && self.is_line()
     }
-    /// The same, where it is documentation.
+    /// Whether documentation is laid out as a line comment.
     #[inline(always)]
     fn is_line(&self) -> bool {
         match self.neighbour {
@@ -130,7 +130,7 @@ impl<'a> Told<'a> {
             _ => false,
         }
     }
-    /// Whether it is a word that is no keyword.
+    /// Whether it is an identifier that is no keyword.
     #[inline(always)]
     pub fn is_free_word(&self) -> bool {
         match self.neighbour {
@@ -146,7 +146,7 @@ impl<'a> Told<'a> {
             _ => false,
         }
     }
-    /// Whether it is a word.
+    /// Whether it is an identifier or a keyword.
     #[inline(always)]
     pub fn is_any_word(&self) -> bool {
         match self.neighbour {
@@ -154,7 +154,8 @@ impl<'a> Told<'a> {
             _ => false,
         }
     }
-    /// Whether it is a number, where the place is one of an index or not: a Float, or an Int that is no index.
+    /// Whether it is a number: a Float, or an Int that is no tuple index. `place` says that it
+    /// stands where it could be one.
     #[inline(always)]
     pub fn is_number(&self, place: bool) -> bool {
         match self.neighbour {
@@ -178,7 +179,7 @@ impl<'a> Told<'a> {
         matches!(self.neighbour, Neighbour::Enclosed(Delim::Paren))
     }
 }
-/// The one byte of a text, or else 0.
+/// The only byte of a text that has one byte, else 0.
 #[inline(always)]
 fn one(text: &[u8]) -> u8 {
     match text {

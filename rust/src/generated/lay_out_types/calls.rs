@@ -1,6 +1,6 @@
 //! Made by scripts/rust.sh from crates/lay_out_types/src/calls.rt, which is proved: change that.
 //!
-//! Texts, words and token lists, behind what was fed before.
+//! The `add` functions of texts, words and token lists.
 use crate::generated::lay_node::{Attr, Literal, MacroCall, Tokens};
 use crate::generated::lay_out_tokens::{
     put_attr,
@@ -13,14 +13,14 @@ use crate::generated::lay_out_tokens::{
 use crate::generated::lay_piece::Delim;
 use crate::generated::lay_stream::Emit;
 use crate::generated::lay_text::Text;
-/// A text.
+/// Emits a text.
 pub fn add_text<
     E: Emit,
 >(out: &mut E, before: Result<(), E::Fault>, text: &[u8]) -> Result<(), E::Fault> {
     before?;
     out.text(text)
 }
-/// A text, where one is wanted.
+/// Emits a text, if `wanted`.
 pub fn add_if<
     E: Emit,
 >(
@@ -34,7 +34,7 @@ pub fn add_if<
     }
     before
 }
-/// One of two texts.
+/// Emits one of two texts.
 pub fn add_either<
     E: Emit,
 >(
@@ -49,7 +49,7 @@ pub fn add_either<
     }
     add_text(out, before, if_second)
 }
-/// A word or a name.
+/// Emits a word or a name.
 pub fn add_word<
     E: Emit,
 >(
@@ -61,35 +61,35 @@ pub fn add_word<
     before?;
     put_word(out, raw, text)
 }
-/// A literal.
+/// Emits a literal.
 pub fn add_literal<
     E: Emit,
 >(out: &mut E, before: Result<(), E::Fault>, literal: &Literal) -> Result<(), E::Fault> {
     before?;
     put_token(out, literal.kind, literal.text.as_bytes())
 }
-/// A token list.
+/// Emits a token list.
 pub fn add_tokens<
     E: Emit,
 >(out: &mut E, before: Result<(), E::Fault>, tokens: &Tokens) -> Result<(), E::Fault> {
     before?;
     put_tokens(out, tokens)
 }
-/// A token list in braces.
+/// Emits a token list in braces.
 pub fn add_braces<
     E: Emit,
 >(out: &mut E, before: Result<(), E::Fault>, tokens: &Tokens) -> Result<(), E::Fault> {
     before?;
     put_enclosed(out, Delim::Brace, tokens)
 }
-/// An attribute within other parts.
+/// Emits an attribute within other parts.
 pub(crate) fn add_attr<
     E: Emit,
 >(out: &mut E, before: Result<(), E::Fault>, attr: &Attr) -> Result<(), E::Fault> {
     before?;
     put_attr(out, attr, false)
 }
-/// A macro call.
+/// Emits a macro call.
 pub fn add_call<
     E: Emit,
 >(out: &mut E, before: Result<(), E::Fault>, call: &MacroCall) -> Result<(), E::Fault> {

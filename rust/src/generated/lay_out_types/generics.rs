@@ -1,6 +1,6 @@
 //! Made by scripts/rust.sh from crates/lay_out_types/src/generics.rt, which is proved: change that.
 //!
-//! Generic parameters.
+//! The layout of generic parameters.
 use crate::generated::lay_out_types::calls::{add_text, add_word};
 use crate::generated::lay_out_types::lists::{add_close, add_lead};
 use crate::generated::lay_out_types::parts::{
@@ -11,7 +11,7 @@ use crate::generated::lay_out_types::parts::{
 use crate::generated::lay_out_types::types::{add_bounds, add_type};
 use crate::generated::lay_node::{Bound, ConstDefault, GenericParam, Generics, Ty};
 use crate::generated::lay_stream::Emit;
-/// Feeds the layout of generic parameters: nothing where there are none.
+/// Emits the layout of generic parameters: nothing if there are none.
 pub fn put_generics<E: Emit>(out: &mut E, generics: &Generics) -> Result<(), E::Fault> {
     let params = generics.params.as_slice();
     if params.is_empty() {
@@ -19,7 +19,7 @@ pub fn put_generics<E: Emit>(out: &mut E, generics: &Generics) -> Result<(), E::
     }
     add_params(out, Ok(()), params)
 }
-/// Generic parameters in `<` and `>`.
+/// Emits generic parameters in `<` and `>`.
 fn add_params<
     E: Emit,
 >(
@@ -34,7 +34,7 @@ fn add_params<
     }
     add_close(out, done, true, params.is_empty(), b"<>", b">")
 }
-/// A generic parameter.
+/// Emits a generic parameter.
 fn add_param<
     E: Emit,
 >(
@@ -60,7 +60,7 @@ fn add_param<
         }
     }
 }
-/// What is asked of a type, behind a `:`; nothing without bounds.
+/// Emits a `:` and the bounds of a type; nothing if there are none.
 pub fn add_asked<
     E: Emit,
 >(out: &mut E, before: Result<(), E::Fault>, bounds: &[Bound]) -> Result<(), E::Fault> {
@@ -70,7 +70,7 @@ pub fn add_asked<
     let colon = add_text(out, before, b": ");
     add_bounds(out, colon, bounds)
 }
-/// What a parameter is by default, if it is anything.
+/// Emits the default of a type parameter, if it has one.
 pub fn add_default<
     E: Emit,
 >(
@@ -86,7 +86,7 @@ pub fn add_default<
         }
     }
 }
-/// What a parameter that is a constant is by default, if it is anything.
+/// Emits the default of a const parameter, if it has one.
 fn add_const_default<
     E: Emit,
 >(

@@ -1,6 +1,6 @@
 //! Made by scripts/rust.sh from crates/lay_out_types/src/lists.rt, which is proved: change that.
 //!
-//! What stands round the elements of lists, bounds and where clauses.
+//! The delimiters and separators of lists, bounds and where clauses.
 use crate::generated::lay_layout::Break;
 use crate::generated::lay_out_tokens::notation::{
     CLOSING_SOFT_BREAK,
@@ -11,9 +11,10 @@ use crate::generated::lay_out_tokens::notation::{
     open_list,
 };
 use crate::generated::lay_stream::Emit;
-/// The break before what closes a group of parts with commas: one step back, of one blank, with a `,` before the newline.
+/// The break before the closer of parts with commas, one step out: a blank, or a `,` and a newline.
 pub const COMMA_CLOSING_SPACE_BREAK: Break = Break { blank: 1, ..COMMA_CLOSING_BREAK };
-/// What stands before an element of a list: before the first one what opens the list, and else a comma.
+/// Emits what stands before an element of a list: the opener of the list before the first one, else
+/// a comma.
 pub fn add_lead<
     E: Emit,
 >(
@@ -28,13 +29,13 @@ pub fn add_lead<
     }
     put_comma(out)
 }
-/// The comma between two elements.
+/// Emits the comma between two elements.
 fn put_comma<E: Emit>(out: &mut E) -> Result<(), E::Fault> {
     out.text(b",")?;
     out.brk(SPACE_BREAK)
 }
-/// What closes a list, with a `,` behind its last element where each stands on its own line and one may stand there. A
-/// list without elements is both delimiters, as one text.
+/// Emits the closer of a list. If each element is on its own line, a `,` follows the last one, if
+/// one is allowed. Of an empty list both delimiters are emitted as one text.
 pub fn add_close<
     E: Emit,
 >(
@@ -53,21 +54,21 @@ pub fn add_close<
     out.text(closer)?;
     out.end()
 }
-/// The break behind the last element of a list.
+/// The break after the last element of a list.
 fn last_break(may: bool) -> Break {
     if may {
         return COMMA_CLOSING_BREAK;
     }
     CLOSING_SOFT_BREAK
 }
-/// What opens bounds.
+/// Emits what opens bounds.
 pub fn add_begin<
     E: Emit,
 >(out: &mut E, before: Result<(), E::Fault>) -> Result<(), E::Fault> {
     before?;
     out.begin(false, 4)
 }
-/// What stands before a bound: a `+`, unless it is the first one.
+/// Emits what stands before a bound: a `+`, unless it is the first one.
 pub(crate) fn add_plus<
     E: Emit,
 >(out: &mut E, before: Result<(), E::Fault>, first: bool) -> Result<(), E::Fault> {
@@ -78,14 +79,15 @@ pub(crate) fn add_plus<
     out.brk(SPACE_BREAK)?;
     out.text(b"+ ")
 }
-/// What closes bounds.
+/// Emits what closes bounds.
 pub fn add_end<
     E: Emit,
 >(out: &mut E, before: Result<(), E::Fault>) -> Result<(), E::Fault> {
     before?;
     out.end()
 }
-/// What stands before a predicate of a where clause: before the first one the word `where`, and else a comma.
+/// Emits what stands before a predicate of a where clause: the word `where` before the first one,
+/// else a comma.
 pub(crate) fn add_predicates_lead<
     E: Emit,
 >(out: &mut E, before: Result<(), E::Fault>, first: bool) -> Result<(), E::Fault> {
@@ -95,7 +97,7 @@ pub(crate) fn add_predicates_lead<
     }
     put_comma(out)
 }
-/// The word `where`, on the line before it or on its own.
+/// Emits the word `where`, on the current line or on its own.
 fn open_predicates<E: Emit>(out: &mut E) -> Result<(), E::Fault> {
     out.brk(NEVER_BREAK)?;
     out.begin(true, 4)?;
@@ -103,7 +105,8 @@ fn open_predicates<E: Emit>(out: &mut E) -> Result<(), E::Fault> {
     out.text(b"where")?;
     out.brk(SPACE_BREAK)
 }
-/// What closes a where clause, if it has predicates: before a body a break, with a `,` before its newline.
+/// Emits the end of a where clause, if it has predicates: before a body a break, with a `,` before
+/// its newline.
 pub(crate) fn add_predicates_close<
     E: Emit,
 >(

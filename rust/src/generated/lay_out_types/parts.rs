@@ -1,6 +1,6 @@
 //! Made by scripts/rust.sh from crates/lay_out_types/src/parts.rt, which is proved: change that.
 //!
-//! What types and generic parameters are made of, with no type within it.
+//! The layout of the parts of types and generic parameters that hold no type.
 use crate::generated::lay_out_types::calls::{
     add_attr,
     add_braces,
@@ -21,7 +21,7 @@ use crate::generated::lay_node::{
     LifetimeParam,
 };
 use crate::generated::lay_stream::Emit;
-/// Attributes of a parameter.
+/// Emits attributes of a parameter.
 pub fn add_param_attrs<
     E: Emit,
 >(out: &mut E, before: Result<(), E::Fault>, attrs: &[Attr]) -> Result<(), E::Fault> {
@@ -31,7 +31,7 @@ pub fn add_param_attrs<
     }
     done
 }
-/// Lifetimes that another one outlives, behind a `:`; nothing without them.
+/// Emits a `:` and the bounds of a lifetime; nothing if there are none.
 pub(crate) fn add_outlived<
     E: Emit,
 >(
@@ -46,7 +46,7 @@ pub(crate) fn add_outlived<
     }
     done
 }
-/// A generic parameter that is a lifetime.
+/// Emits a lifetime parameter.
 pub(crate) fn add_lifetime_param<
     E: Emit,
 >(
@@ -58,7 +58,7 @@ pub(crate) fn add_lifetime_param<
     let lifetime = add_text(out, attrs, param.lifetime.text.as_bytes());
     add_outlived(out, lifetime, param.bounds.as_slice())
 }
-/// A binder, and a blank behind it.
+/// Emits a binder, and a blank after it.
 pub(crate) fn add_binder<
     E: Emit,
 >(
@@ -75,7 +75,7 @@ pub(crate) fn add_binder<
         }
     }
 }
-/// Lifetimes in `<` and `>`.
+/// Emits lifetimes in `<` and `>`.
 fn add_lifetime_params<
     E: Emit,
 >(
@@ -90,7 +90,7 @@ fn add_lifetime_params<
     }
     add_close(out, done, true, params.is_empty(), b"<>", b">")
 }
-/// What is captured, in `<` and `>`.
+/// Emits the `<..>` of `use<..>`.
 pub(crate) fn add_captures<
     E: Emit,
 >(
@@ -105,7 +105,7 @@ pub(crate) fn add_captures<
     }
     add_close(out, done, true, captured.is_empty(), b"<>", b">")
 }
-/// A lifetime or a word that is captured.
+/// Emits a lifetime or a word of `use<..>`.
 fn add_capture<
     E: Emit,
 >(out: &mut E, before: Result<(), E::Fault>, capture: &Capture) -> Result<(), E::Fault> {
@@ -114,7 +114,7 @@ fn add_capture<
         Capture::Word { word } => add_word(out, before, word.raw, &word.text),
     }
 }
-/// A generic argument that is a constant.
+/// Emits a const generic argument.
 pub(crate) fn add_const<
     E: Emit,
 >(out: &mut E, before: Result<(), E::Fault>, value: &ConstArg) -> Result<(), E::Fault> {
@@ -127,7 +127,7 @@ pub(crate) fn add_const<
         ConstArg::Braces(tokens) => add_braces(out, before, tokens),
     }
 }
-/// An ABI, and a blank behind it.
+/// Emits an ABI, and a blank after it.
 pub fn add_abi<
     E: Emit,
 >(out: &mut E, before: Result<(), E::Fault>, abi: &Option<Abi>) -> Result<(), E::Fault> {
@@ -145,7 +145,7 @@ pub fn add_abi<
         }
     }
 }
-/// The `&` of a reference, and its lifetime with a blank behind it.
+/// Emits the `&` of a reference, and its lifetime with a blank after it.
 pub fn add_reference<
     E: Emit,
 >(
@@ -162,7 +162,7 @@ pub fn add_reference<
         }
     }
 }
-/// What a parameter of a function type is called, and a `:` behind it.
+/// Emits the name of a parameter of a function type, and a `:` after it.
 pub(crate) fn add_param_name<
     E: Emit,
 >(
@@ -175,7 +175,7 @@ pub(crate) fn add_param_name<
         Some(name) => add_given_name(out, before, name),
     }
 }
-/// A name that is given, or the `_` of none, and a `:` behind it.
+/// Emits a name or a `_`, and a `:` after it.
 pub fn add_given_name<
     E: Emit,
 >(out: &mut E, before: Result<(), E::Fault>, name: &GivenName) -> Result<(), E::Fault> {

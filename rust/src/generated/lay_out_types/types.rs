@@ -1,6 +1,6 @@
 //! Made by scripts/rust.sh from crates/lay_out_types/src/types.rt, which is proved: change that.
 //!
-//! Paths, generic arguments, bounds and types.
+//! The layout of paths, generic arguments, bounds and types.
 use crate::generated::lay_out_types::calls::{
     add_call,
     add_either,
@@ -38,27 +38,27 @@ use crate::generated::lay_node::{
     Ty,
 };
 use crate::generated::lay_stream::Emit;
-/// Feeds the layout of a path.
+/// Emits the layout of a path.
 pub fn put_path<
     E: Emit,
 >(out: &mut E, path: &Path, style: PathStyle) -> Result<(), E::Fault> {
     add_path(out, Ok(()), path, style)
 }
-/// Feeds the layout of the generic arguments of a segment.
+/// Emits the layout of the generic arguments of a segment.
 pub fn put_args<
     E: Emit,
 >(out: &mut E, args: &Args, style: PathStyle) -> Result<(), E::Fault> {
     add_args(out, Ok(()), args, style)
 }
-/// Feeds the layout of bounds.
+/// Emits the layout of bounds.
 pub fn put_bounds<E: Emit>(out: &mut E, bounds: &[Bound]) -> Result<(), E::Fault> {
     add_bounds(out, Ok(()), bounds)
 }
-/// Feeds the layout of a type.
+/// Emits the layout of a type.
 pub fn put_type<E: Emit>(out: &mut E, ty: &Ty) -> Result<(), E::Fault> {
     add_type(out, Ok(()), ty)
 }
-/// A path.
+/// Emits a path.
 pub fn add_path<
     E: Emit,
 >(
@@ -76,7 +76,7 @@ pub fn add_path<
     }
     done
 }
-/// What a path begins with.
+/// Emits the beginning of a path.
 fn add_start<
     E: Emit,
 >(out: &mut E, before: Result<(), E::Fault>, start: &PathStart) -> Result<(), E::Fault> {
@@ -97,7 +97,8 @@ fn add_start<
         }
     }
 }
-/// The generic arguments of a segment: in code behind `::`, unless they stand in parentheses.
+/// Emits the generic arguments of a segment: in expressions after `::`, unless they are in
+/// parentheses.
 pub fn add_args<
     E: Emit,
 >(
@@ -123,7 +124,7 @@ pub fn add_args<
         }
     }
 }
-/// Generic arguments in `<` and `>`.
+/// Emits generic arguments in `<` and `>`.
 pub fn add_angles<
     E: Emit,
 >(out: &mut E, before: Result<(), E::Fault>, args: &[Arg]) -> Result<(), E::Fault> {
@@ -134,7 +135,7 @@ pub fn add_angles<
     }
     add_close(out, done, true, args.is_empty(), b"<>", b">")
 }
-/// A generic argument.
+/// Emits a generic argument.
 fn add_arg<
     E: Emit,
 >(out: &mut E, before: Result<(), E::Fault>, arg: &Arg) -> Result<(), E::Fault> {
@@ -149,7 +150,7 @@ fn add_arg<
         }
     }
 }
-/// What is asked of a name among generic arguments.
+/// Emits the constraint of a name among generic arguments.
 fn add_constraint<
     E: Emit,
 >(
@@ -172,7 +173,7 @@ fn add_constraint<
         }
     }
 }
-/// Bounds, with a `+` between them.
+/// Emits bounds, with a `+` between them.
 pub fn add_bounds<
     E: Emit,
 >(out: &mut E, before: Result<(), E::Fault>, bounds: &[Bound]) -> Result<(), E::Fault> {
@@ -183,7 +184,7 @@ pub fn add_bounds<
     }
     add_end(out, done)
 }
-/// A bound.
+/// Emits a bound.
 fn add_bound<
     E: Emit,
 >(out: &mut E, before: Result<(), E::Fault>, bound: &Bound) -> Result<(), E::Fault> {
@@ -202,7 +203,7 @@ fn add_bound<
         }
     }
 }
-/// A type.
+/// Emits a type.
 pub fn add_type<
     E: Emit,
 >(out: &mut E, before: Result<(), E::Fault>, ty: &Ty) -> Result<(), E::Fault> {
@@ -263,7 +264,7 @@ pub fn add_type<
         }
     }
 }
-/// Types in parentheses.
+/// Emits types in parentheses.
 fn add_types<
     E: Emit,
 >(out: &mut E, before: Result<(), E::Fault>, types: &[Ty]) -> Result<(), E::Fault> {
@@ -274,7 +275,8 @@ fn add_types<
     }
     add_close(out, done, true, types.is_empty(), b"()", b")")
 }
-/// The parameters of a function type in parentheses, and behind them the `...` of one that takes further arguments.
+/// Emits the parameters of a function type in parentheses, with a `...` last if the function is
+/// variadic.
 fn add_params<
     E: Emit,
 >(
@@ -297,7 +299,7 @@ fn add_params<
     }
     add_close(out, done, true, params.is_empty(), b"()", b")")
 }
-/// A return type, if there is one.
+/// Emits a return type, if there is one.
 fn add_output<
     E: Emit,
 >(

@@ -1,6 +1,6 @@
 //! Made by scripts/rust.sh from crates/lay_out_types/src/wheres.rt, which is proved: change that.
 //!
-//! Where clauses.
+//! The layout of where clauses.
 use crate::generated::lay_out_types::calls::add_text;
 use crate::generated::lay_out_types::generics::add_asked;
 use crate::generated::lay_out_types::lists::{add_predicates_close, add_predicates_lead};
@@ -8,7 +8,8 @@ use crate::generated::lay_out_types::parts::{add_binder, add_outlived};
 use crate::generated::lay_out_types::types::add_type;
 use crate::generated::lay_node::{Predicate, Wheres};
 use crate::generated::lay_stream::Emit;
-/// Feeds the layout of a where clause: before a body, or else before a `;`. It is nothing without predicates.
+/// Emits the layout of a where clause, before a body or before a `;`: nothing if it has no
+/// predicates.
 pub fn put_wheres<
     E: Emit,
 >(out: &mut E, wheres: &Wheres, body: bool) -> Result<(), E::Fault> {
@@ -20,7 +21,7 @@ pub fn put_wheres<
     }
     add_predicates_close(out, done, body, predicates.is_empty())
 }
-/// What a where clause says of a lifetime or of a type. Where nothing is asked, a `:` stands alone.
+/// Emits a predicate of a where clause. Without bounds the `:` stands alone.
 fn add_predicate<
     E: Emit,
 >(

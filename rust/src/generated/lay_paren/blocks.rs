@@ -1,6 +1,6 @@
 //! Made by scripts/rust.sh from crates/lay_paren/src/blocks.rt, which is proved: change that.
 //!
-//! Blocks, statements, branches and arms.
+//! Parentheses in blocks, statements, branches and arms.
 use crate::generated::lay_paren::conditions::place_condition;
 use crate::generated::lay_paren::exprs::{
     enclose,
@@ -15,11 +15,11 @@ use crate::generated::lay_ops::places::{FREE, STATEMENT};
 use crate::generated::lay_ops_ends::may_precede_else;
 use crate::generated::lay_token::{List, NoMemory};
 use crate::shims::Global;
-/// Gives what stands in a block its parentheses.
+/// Puts the parentheses that the expressions in a block lack.
 pub(crate) fn place_block(alloc: Global, block: &mut Block) -> Result<(), NoMemory> {
     place_stmts(alloc, &mut block.stmts)
 }
-/// The same of a block that may be left out.
+/// Puts them in an optional block.
 pub(crate) fn place_block_or_none(
     alloc: Global,
     block: &mut Option<Block>,
@@ -29,18 +29,18 @@ pub(crate) fn place_block_or_none(
         None => Ok(()),
     }
 }
-/// The same of statements.
+/// Puts them in statements.
 fn place_stmts(alloc: Global, stmts: &mut List<Stmt>) -> Result<(), NoMemory> {
     place_each_stmt(alloc, stmts.as_mut_slice())
 }
-/// The same of each of these.
+/// Puts them in each of the statements.
 fn place_each_stmt(alloc: Global, stmts: &mut [Stmt]) -> Result<(), NoMemory> {
     for stmt in stmts.iter_mut() {
         place_stmt(alloc, stmt)?;
     }
     Ok(())
 }
-/// The same of a statement.
+/// Puts them in a statement.
 fn place_stmt(alloc: Global, stmt: &mut Stmt) -> Result<(), NoMemory> {
     match stmt {
         Stmt::Let { value, otherwise, .. } => {
@@ -53,7 +53,7 @@ fn place_stmt(alloc: Global, stmt: &mut Stmt) -> Result<(), NoMemory> {
         }
     }
 }
-/// The same of the value of a statement, if there is one, before an `else` or without one.
+/// Puts them in the value of a `let`, if it has one; `before_else` says that an `else` follows.
 fn place_value(
     alloc: Global,
     value: &mut Option<Boxed<Expr>>,
@@ -68,8 +68,9 @@ fn place_value(
         None => Ok(()),
     }
 }
-/// The same of a value before an `else`. Nothing but the `else` is asked there, so its parts get what they get where it stands in
-/// parentheses, and whether it needs these is told when they have it.
+/// Puts them in a value that stands before an `else`. Its parts are placed as if the value stood in
+/// parentheses. Then the value gets a pair if it can't precede the `else`, which depends on the
+/// parentheses that its parts got.
 fn place_before_else(alloc: Global, value: &mut Expr) -> Result<(), NoMemory> {
     place_parts(alloc, value, FREE)?;
     if may_precede_else(value) {
@@ -77,37 +78,37 @@ fn place_before_else(alloc: Global, value: &mut Expr) -> Result<(), NoMemory> {
     }
     enclose(alloc, value)
 }
-/// The same of branches.
+/// Puts them in branches.
 pub(crate) fn place_branches(
     alloc: Global,
     branches: &mut List<Branch>,
 ) -> Result<(), NoMemory> {
     place_each_branch(alloc, branches.as_mut_slice())
 }
-/// The same of each of these.
+/// Puts them in each of the branches.
 fn place_each_branch(alloc: Global, branches: &mut [Branch]) -> Result<(), NoMemory> {
     for branch in branches.iter_mut() {
         place_branch(alloc, branch)?;
     }
     Ok(())
 }
-/// The same of a branch.
+/// Puts them in a branch.
 fn place_branch(alloc: Global, branch: &mut Branch) -> Result<(), NoMemory> {
     place_condition(alloc, &mut branch.condition)?;
     place_block(alloc, &mut branch.body)
 }
-/// The same of arms.
+/// Puts them in the arms of a match.
 pub(crate) fn place_arms(alloc: Global, arms: &mut List<Arm>) -> Result<(), NoMemory> {
     place_each_arm(alloc, arms.as_mut_slice())
 }
-/// The same of each of these.
+/// Puts them in each of the arms.
 fn place_each_arm(alloc: Global, arms: &mut [Arm]) -> Result<(), NoMemory> {
     for arm in arms.iter_mut() {
         place_arm(alloc, arm)?;
     }
     Ok(())
 }
-/// The same of an arm.
+/// Puts them in an arm.
 fn place_arm(alloc: Global, arm: &mut Arm) -> Result<(), NoMemory> {
     place_operand(alloc, &mut arm.guard, FREE, Slot::Any)?;
     place_expr(alloc, arm.body.get_mut(), STATEMENT, Slot::Any)

@@ -1,24 +1,24 @@
 //! Made by scripts/rust.sh from crates/lay_paren/src/conditions.rt, which is proved: change that.
 //!
-//! Conditions and their links.
+//! Parentheses in conditions.
 use crate::generated::lay_paren::exprs::place_expr;
 use crate::generated::lay_paren::slots::Slot;
 use crate::generated::lay_code::{Condition, Link, Place};
 use crate::generated::lay_ops::places::{link_place, plain};
 use crate::generated::lay_token::{List, NoMemory};
 use crate::shims::Global;
-/// Gives what stands in a condition its parentheses.
+/// Puts the parentheses that the expressions in a condition lack.
 pub(crate) fn place_condition(
     alloc: Global,
     condition: &mut Condition,
 ) -> Result<(), NoMemory> {
     place_links(alloc, &mut condition.links)
 }
-/// The same of links.
+/// Puts them in links.
 fn place_links(alloc: Global, links: &mut List<Link>) -> Result<(), NoMemory> {
     place_each_link(alloc, links.as_mut_slice())
 }
-/// The same of each of these.
+/// Puts them in each of the links.
 fn place_each_link(alloc: Global, links: &mut [Link]) -> Result<(), NoMemory> {
     let count = links.len();
     let alone = count == 1;
@@ -27,7 +27,8 @@ fn place_each_link(alloc: Global, links: &mut [Link]) -> Result<(), NoMemory> {
     }
     Ok(())
 }
-/// The same of a link, which is a condition by itself, or has a further one behind it, if it is said.
+/// Puts them in a link; `alone` says that it is the whole condition, `more` that another link
+/// follows.
 fn place_link(
     alloc: Global,
     link: &mut Link,
@@ -43,7 +44,7 @@ fn place_link(
         }
     }
 }
-/// The place of a link that is an expression.
+/// The place of a link that is an expression; `alone` and `more` as above.
 fn whole_place(alone: bool, more: bool) -> Place {
     if alone { plain(0, true) } else { link_place(more) }
 }

@@ -1,6 +1,6 @@
 //! Made by scripts/rust.sh from crates/lay_paren/src/exprs.rt, which is proved: change that.
 //!
-//! Expressions, and the fields and steps that they are made of.
+//! Parentheses in expressions, and in their fields and steps.
 use crate::generated::lay_paren::blocks::{
     place_arms,
     place_block,
@@ -29,8 +29,9 @@ pub(crate) fn enclose(alloc: Global, expr: &mut Expr) -> Result<(), NoMemory> {
     *expr = Expr::Paren { inner: Boxed::new(alloc, inner)? };
     Ok(())
 }
-/// Gives an expression the parentheses that it lacks in its place and its slot. What it lacks itself is told before its parts
-/// are given theirs, since in parentheses they have other places, and nothing is ever taken out.
+/// Puts the parentheses that an expression lacks at its place and in its slot. Whether it gets a
+/// pair itself is decided before its parts get theirs, since parts of an expression in parentheses
+/// have other places. No pair is ever removed.
 pub(crate) fn place_expr(
     alloc: Global,
     expr: &mut Expr,
@@ -43,7 +44,7 @@ pub(crate) fn place_expr(
     place_parts(alloc, expr, FREE)?;
     enclose(alloc, expr)
 }
-/// Gives the parts of an expression the parentheses that they lack, where it stands in this place.
+/// Puts the parentheses that the parts of an expression lack, if the expression stands at `place`.
 pub(crate) fn place_parts(
     alloc: Global,
     expr: &mut Expr,
@@ -124,29 +125,29 @@ pub(crate) fn place_parts(
         }
     }
 }
-/// The slot of what stands before these steps.
+/// The slot of the expression before these postfix steps.
 fn base_slot(steps: &[Step]) -> Slot {
     if is_index_first(steps) { Slot::BeforeIndex } else { Slot::Any }
 }
-/// The slot of the operand of a `break` with this label, or without one.
+/// The slot of the operand of a `break`, with or without a label.
 fn break_slot(label: &Option<Lifetime>) -> Slot {
     match label {
         Some(_) => Slot::Optional,
         None => Slot::Unlabelled,
     }
 }
-/// Gives each of the expressions its parentheses, within delimiters.
+/// Puts the parentheses that expressions within delimiters lack.
 fn place_exprs(alloc: Global, exprs: &mut List<Expr>) -> Result<(), NoMemory> {
     place_each_expr(alloc, exprs.as_mut_slice())
 }
-/// The same of each of these.
+/// Puts them in each of the expressions.
 fn place_each_expr(alloc: Global, exprs: &mut [Expr]) -> Result<(), NoMemory> {
     for expr in exprs.iter_mut() {
         place_expr(alloc, expr, FREE, Slot::Any)?;
     }
     Ok(())
 }
-/// The same of an operand that may be left out.
+/// Puts them in an optional operand.
 pub(crate) fn place_operand(
     alloc: Global,
     operand: &mut Option<Boxed<Expr>>,
@@ -158,7 +159,7 @@ pub(crate) fn place_operand(
         None => Ok(()),
     }
 }
-/// The same of the operands behind operators of this level.
+/// Puts them in the operands of a chain after the first; `level` is that of its operators.
 fn place_operands(
     alloc: Global,
     operands: &mut List<(Op, Boxed<Expr>)>,
@@ -167,7 +168,7 @@ fn place_operands(
 ) -> Result<(), NoMemory> {
     place_each_operand(alloc, operands.as_mut_slice(), level, place)
 }
-/// The same of each of these.
+/// Puts them in each of the operands.
 fn place_each_operand(
     alloc: Global,
     operands: &mut [(Op, Boxed<Expr>)],
@@ -183,7 +184,7 @@ fn place_each_operand(
     }
     Ok(())
 }
-/// The same of the targets of an assignment.
+/// Puts them in the targets of an assignment.
 fn place_targets(
     alloc: Global,
     targets: &mut List<(Boxed<Expr>, Op)>,
@@ -191,7 +192,7 @@ fn place_targets(
 ) -> Result<(), NoMemory> {
     place_each_target(alloc, targets.as_mut_slice(), place)
 }
-/// The same of each of these.
+/// Puts them in each of the targets.
 fn place_each_target(
     alloc: Global,
     targets: &mut [(Boxed<Expr>, Op)],
@@ -205,18 +206,18 @@ fn place_each_target(
     }
     Ok(())
 }
-/// The same of the fields of a struct literal.
+/// Puts them in the fields of a struct literal.
 fn place_fields(alloc: Global, fields: &mut List<FieldExpr>) -> Result<(), NoMemory> {
     place_each_field(alloc, fields.as_mut_slice())
 }
-/// The same of each of these.
+/// Puts them in each of the fields.
 fn place_each_field(alloc: Global, fields: &mut [FieldExpr]) -> Result<(), NoMemory> {
     for field in fields.iter_mut() {
         place_field(alloc, field)?;
     }
     Ok(())
 }
-/// The same of a field of a struct literal.
+/// Puts them in a field of a struct literal.
 fn place_field(alloc: Global, field: &mut FieldExpr) -> Result<(), NoMemory> {
     match field {
         FieldExpr::Named { value, .. } => {
@@ -228,7 +229,7 @@ fn place_field(alloc: Global, field: &mut FieldExpr) -> Result<(), NoMemory> {
         FieldExpr::Short { .. } => Ok(()),
     }
 }
-/// The same of the base of a struct literal, if there is one.
+/// Puts them in the base of a struct literal, if it has one.
 fn place_base(
     alloc: Global,
     base: &mut Option<Option<Boxed<Expr>>>,
@@ -238,18 +239,18 @@ fn place_base(
         _ => Ok(()),
     }
 }
-/// The same of what stands in steps.
+/// Puts them in postfix steps.
 fn place_steps(alloc: Global, steps: &mut List<Step>) -> Result<(), NoMemory> {
     place_each_step(alloc, steps.as_mut_slice())
 }
-/// The same of each of these.
+/// Puts them in each of the steps.
 fn place_each_step(alloc: Global, steps: &mut [Step]) -> Result<(), NoMemory> {
     for step in steps.iter_mut() {
         place_step(alloc, step)?;
     }
     Ok(())
 }
-/// The same of what stands in a step.
+/// Puts them in a postfix step.
 fn place_step(alloc: Global, step: &mut Step) -> Result<(), NoMemory> {
     match step {
         Step::Field { .. } | Step::TupleIndex { .. } | Step::Try | Step::Await => Ok(()),

@@ -1,6 +1,6 @@
 //! Made by scripts/rust.sh from crates/lay_paren/src/items.rt, which is proved: change that.
 //!
-//! Items.
+//! Parentheses in items.
 use crate::generated::lay_paren::blocks::place_block_or_none;
 use crate::generated::lay_paren::exprs::place_operand;
 use crate::generated::lay_paren::slots::Slot;
@@ -8,22 +8,22 @@ use crate::generated::lay_code::{Item, ItemKind};
 use crate::generated::lay_ops::places::FREE;
 use crate::generated::lay_token::{List, NoMemory};
 use crate::shims::Global;
-/// Gives what stands in an item its parentheses.
+/// Puts the parentheses that the expressions in an item lack.
 pub(crate) fn place_item(alloc: Global, item: &mut Item) -> Result<(), NoMemory> {
     place_kind(alloc, item.kind.get_mut())
 }
-/// The same of items.
+/// Puts them in items.
 fn place_items(alloc: Global, items: &mut List<Item>) -> Result<(), NoMemory> {
     place_each_item(alloc, items.as_mut_slice())
 }
-/// The same of each of these.
+/// Puts them in each of the items.
 fn place_each_item(alloc: Global, items: &mut [Item]) -> Result<(), NoMemory> {
     for item in items.iter_mut() {
         place_item(alloc, item)?;
     }
     Ok(())
 }
-/// The same of what an item is.
+/// Puts them in what an item is.
 fn place_kind(alloc: Global, kind: &mut ItemKind) -> Result<(), NoMemory> {
     match kind {
         ItemKind::Module { items, .. } => place_items(alloc, items),

@@ -1,6 +1,6 @@
 //! Made by scripts/rust.sh from crates/lay_paren/src/leads.rt, which is proved: change that.
 //!
-//! What an expression begins with, once its parts have the parentheses that they lack.
+//! The first token of an expression, once its parts have their parentheses.
 use crate::generated::lay_paren::places::{
     as_node,
     base_place,
@@ -12,16 +12,16 @@ use crate::generated::lay_code::{Expr, Lifetime, Place};
 use crate::generated::lay_ops::operands::ExprLead;
 use crate::generated::lay_ops::places::before_op;
 use crate::generated::lay_ops::{is_number, may};
-/// What begins an expression.
+/// What an expression begins with.
 #[derive(Clone, Copy,)]
 enum Edge<'a> {
-    /// A token of its own.
+    /// A token of the expression itself.
     Own(ExprLead),
-    /// A part, which stands in this place. The flag says that it stands directly before the index of a tuple.
+    /// A part, at its place. The flag says that a tuple index follows directly.
     In(&'a Expr, Place, bool),
 }
-/// What begins an expression of which the parts have the parentheses that they lack, where their places are from this place. Down
-/// the left edge a part is asked for no more than what its root tells, so one loop finds it.
+/// What an expression at `place` begins with, once its parts have their parentheses. Whether a part
+/// on the left edge needs a pair depends on its root only, so one loop finds it.
 pub(crate) fn lead(expr: &Expr, place: Place) -> ExprLead {
     let mut first = expr;
     let mut at = place;
@@ -38,7 +38,7 @@ pub(crate) fn lead(expr: &Expr, place: Place) -> ExprLead {
         }
     }
 }
-/// What begins an expression whose parts have their places from this place.
+/// What an expression at `place` begins with: a token of its own, or a part with its place.
 fn left_edge(expr: &Expr, place: Place) -> Edge<'_> {
     match expr {
         Expr::Lit { .. } => Edge::Own(ExprLead::Literal),
@@ -88,14 +88,15 @@ fn left_edge(expr: &Expr, place: Place) -> Edge<'_> {
         Expr::Break { .. } => Edge::Own(ExprLead::Break),
     }
 }
-/// What begins a node that may have a label.
+/// What a node with an optional label begins with: the label, or else `lead`.
 fn label_or(label: &Option<Lifetime>, lead: ExprLead) -> ExprLead {
     match label {
         Some(_) => ExprLead::Label,
         None => lead,
     }
 }
-/// Whether a part at the left end stands in its place as it is. The flag says that it stands directly before the index of a tuple.
+/// Whether a part on the left edge needs no parentheses at its place; `before_index` says that a
+/// tuple index follows directly.
 fn is_bare(part: &Expr, place: Place, before_index: bool) -> bool {
     may(part, place) && !(before_index && is_number(part))
 }

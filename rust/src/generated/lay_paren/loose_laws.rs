@@ -1,7 +1,7 @@
 //! Made by scripts/rust.sh from crates/lay_paren/src/loose_laws.rt, which is proved: change that.
 //!
-//! Whether a tree lacks nothing but parentheses, by the tree with each part in parentheses.
+//! Whether a tree lacks nothing but parentheses, decided on the tree with each part in parentheses.
 //!
-//! Where each part stands in parentheses no place and no slot refuses it, so that tree is written exactly where the tree without them
-//! is loose: [`enclosed_law`].
+//! In parentheses a part may stand anywhere. So the tree with each part in parentheses is well
+//! formed exactly if the tree itself is loose: [`enclosed_law`].
 mod laws;

@@ -2,7 +2,8 @@
 //!
 //! Which trees of expressions lack nothing but parentheses.
 //!
-//! An expression fits where it stands if its place takes its root, and if its slot takes what it begins and ends with. A tree is
-//! loose if it meets every other rule. `specs/Slots` has the slots, and `specs/Loose` which trees are loose. [`slots_law`] says
-//! what makes parentheses the answer to each misfit.
+//! An expression fits where it stands if its place admits its root, and its slot admits what it
+//! begins and ends with. A tree is loose if it meets every other rule. `specs/loose/Slots` defines
+//! slots, and `specs/loose/Loose` which trees are loose. [`slots_law`] says that parentheses mend
+//! each misfit.
 mod laws;

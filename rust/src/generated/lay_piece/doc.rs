@@ -1,27 +1,29 @@
 //! Made by scripts/rust.sh from crates/lay_piece/src/doc.rt, which is proved: change that.
 //!
-//! Texts of documentation.
-/// How a text of documentation may be written, so that the text is read again (Rust Reference, "Doc comments").
+//! Whether documentation can be written as a comment, and as which one.
+/// How documentation can be written so that the same text is read back (Rust Reference, "Doc
+/// comments").
 #[derive(Clone, Copy, Debug, PartialEq, Eq)]
 pub enum DocForm {
-    /// On one line, behind `///` or `//!`.
+    /// As a line comment, after `///` or `//!`.
     Line,
-    /// On several lines, between `/**` or `/*!` and `*/`.
+    /// As a block comment, between `/**` or `/*!` and `*/`.
     Block,
-    /// As the string of an attribute alone.
+    /// Only as the string of a `doc` attribute.
     Neither,
 }
-/// The form of a text of documentation; `inner` says that it documents what it stands in.
+/// How a text of documentation can be written; `inner` says that it documents the item that it
+/// stands in, as `//!` does.
 ///
-/// A line holds no line end, no CR and no blank at its end. A block holds a line end and no CR, and each
-/// comment in it is closed. Where it documents what follows it, a line doesn't begin with `/`, and a block
-/// neither with `/` nor with `*`.
+/// A line comment holds no LF, no CR and no blank at its end. A block comment holds an LF and no
+/// CR, and each comment nested in it is closed. Of outer documentation a line doesn't begin with
+/// `/`, and a block begins neither with `/` nor with `*`.
 pub fn doc_form(text: &[u8], inner: bool) -> DocForm {
     if is_line_text(text, inner) { DocForm::Line } else if is_block_text(text, inner) {
         DocForm::Block
     } else { DocForm::Neither }
 }
-/// Whether documentation of this text may stand on a line.
+/// Whether the text can be written as a line comment.
 fn is_line_text(text: &[u8], inner: bool) -> bool {
     if !inner && begins_with(b'/', text) {
         return false;
@@ -32,7 +34,7 @@ fn is_line_text(text: &[u8], inner: bool) -> bool {
 fn has_line_end(text: &[u8]) -> bool {
     text.contains(&b'\n') || text.contains(&b'\r')
 }
-/// Whether the text begins with a byte.
+/// Whether the text begins with this byte.
 fn begins_with(byte: u8, text: &[u8]) -> bool {
     match text.first() {
         Some(first) => *first == byte,
@@ -46,7 +48,7 @@ fn ends_in_blank(text: &[u8]) -> bool {
         None => false,
     }
 }
-/// Whether documentation of this text may stand in a block.
+/// Whether the text can be written as a block comment.
 fn is_block_text(text: &[u8], inner: bool) -> bool {
     if !text.contains(&b'\n') {
         return false;
@@ -56,8 +58,8 @@ fn is_block_text(text: &[u8], inner: bool) -> bool {
     }
     closes_at_end(text)
 }
-/// Whether an end of a comment behind the text closes the comment in which the text stands, and nothing in the
-/// text does. Comments nest, and a CR spoils them.
+/// Whether a `*/` after the text closes the comment that the text stands in, and nothing in the
+/// text closes it before. Comments nest, and a CR is not allowed.
 fn closes_at_end(text: &[u8]) -> bool {
     let mut place = InComment::Deep(0);
     for byte in text {
@@ -68,17 +70,18 @@ fn closes_at_end(text: &[u8]) -> bool {
     }
     place.ends()
 }
-/// How far a block comment is read, within so many more.
+/// The state within a block comment; the number counts the comments that are open around this one.
 #[derive(Clone, Copy, Debug, PartialEq, Eq,)]
 enum InComment {
     Deep(usize),
-    /// Behind a star.
+    /// After a star.
     Star(usize),
-    /// Behind a slash.
+    /// After a slash.
     Slash(usize),
 }
 impl InComment {
-    /// Behind one more byte, unless it closes the comment or spoils it.
+    /// The state after one more byte, or `None` if the byte closes the outermost comment or is a
+    /// CR.
     fn step(self, byte: u8) -> Option<InComment> {
         if byte == b'\r' {
             return None;
@@ -97,7 +100,7 @@ impl InComment {
             }
         }
     }
-    /// Behind a byte that neither opens nor closes a comment.
+    /// The state after a byte that neither opens nor closes a comment.
     fn within(around: usize, byte: u8) -> InComment {
         match byte {
             b'*' => InComment::Star(around),
@@ -105,7 +108,7 @@ impl InComment {
             _ => InComment::Deep(around),
         }
     }
-    /// Whether an end of a comment closes the comment here.
+    /// Whether a `*/` here closes the outermost comment.
     fn ends(self) -> bool {
         match self {
             InComment::Deep(depth) => depth == 0,

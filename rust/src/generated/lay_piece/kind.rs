@@ -1,7 +1,7 @@
 //! Made by scripts/rust.sh from crates/lay_piece/src/kind.rt, which is proved: change that.
 //!
 //! The kinds of tokens.
-/// What a delimiter is made of.
+/// The three kinds of delimiters.
 #[derive(Clone, Copy, Debug, PartialEq, Eq)]
 pub enum Delim {
     /// `(` and `)`
@@ -11,10 +11,11 @@ pub enum Delim {
     /// `{` and `}`
     Brace,
 }
-/// The kind of a token (Rust Reference, "Tokens"). A kind's example is a whole piece of it.
+/// The kind of a token (Rust Reference, "Tokens"). Each variant's comment gives an example of a
+/// whole token.
 #[derive(Clone, Copy, Debug, PartialEq, Eq)]
 pub enum Kind {
-    /// `name`, a keyword too
+    /// `name`, and each keyword
     Ident,
     /// `r#type`
     RawIdent,
@@ -42,7 +43,7 @@ pub enum Kind {
     Int,
     /// `1.5e-3f64`
     Float,
-    /// `+`, one character
+    /// `+`: one character of punctuation
     Punct,
     /// `(`
     Opener(Delim),

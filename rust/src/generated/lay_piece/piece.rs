@@ -1,6 +1,6 @@
 //! Made by scripts/rust.sh from crates/lay_piece/src/piece.rt, which is proved: change that.
 //!
-//! The piece at the front of a text.
+//! The piece (lexeme) at the beginning of a text.
 pub mod chars;
 mod comments;
 mod numbers;
@@ -8,21 +8,22 @@ mod quoted;
 mod words;
 use crate::generated::lay_piece::kind::{Delim, Kind};
 use chars::{CharSet, first};
-/// The kind of a piece and its length in bytes.
+/// A piece: its kind and its length in bytes.
 #[derive(Clone, Copy, Debug, PartialEq, Eq)]
 pub struct Piece {
     pub kind: Kind,
     pub len: usize,
 }
-/// The piece that stands at the front of a text, if one does (Rust Reference, "Tokens").
+/// The piece at the beginning of a text, or `None` if there is none (Rust Reference, "Tokens").
 ///
-/// `index` says that the text follows the `.` of a field, where digits may be the index of a tuple's field.
+/// `index` says that the text follows the `.` of a field access, where digits may be the index of a
+/// tuple field.
 #[inline(always)]
 pub fn piece_at(rest: &str, index: bool) -> Option<Piece> {
     let (kind, tail) = front(index, rest)?;
     Some(Piece { kind, len: rest.len() - tail.len() })
 }
-/// The kind of the piece at the front, and what follows it.
+/// The kind of the piece at the beginning, and the text after it.
 #[inline(always)]
 fn front(index: bool, s: &str) -> Option<(Kind, &str)> {
     let (c, tail) = first(s)?;

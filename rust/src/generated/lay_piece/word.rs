@@ -1,12 +1,12 @@
 //! Made by scripts/rust.sh from crates/lay_piece/src/word.rt, which is proved: change that.
 //!
-//! The words of the language.
-/// What a word is in Rust's edition 2021 (Rust Reference, "Keywords").
+//! The keywords of the language.
+/// What a word is in edition 2021 (Rust Reference, "Keywords").
 #[derive(Clone, Copy, Debug, PartialEq, Eq)]
 pub enum Class {
-    /// No keyword: a word that may be a name.
+    /// No keyword, so it may be a name.
     Plain,
-    /// `crate`, `self`, `super` or `Self`, which may stand in a path.
+    /// `crate`, `self`, `super` or `Self`: a keyword that may stand in a path.
     PathWord,
     /// Any other strict keyword, as `fn`.
     Strict,
@@ -20,14 +20,14 @@ pub fn is_path_word(word: &[u8]) -> bool {
         _ => false,
     }
 }
-/// The class of a word: of an identifier that isn't raw.
+/// The class of an identifier that isn't raw.
 pub fn word_class(word: &[u8]) -> Class {
     match word.split_first() {
         Some((first, rest)) => class_behind(*first, rest),
         None => Class::Plain,
     }
 }
-/// The class of a word of this first byte, by what stands behind it.
+/// The class of the word that begins with the byte `first` and goes on with `rest`.
 fn class_behind(first: u8, rest: &[u8]) -> Class {
     match first {
         b'a' => behind_a(rest),

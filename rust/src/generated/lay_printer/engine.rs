@@ -1,6 +1,7 @@
 //! Made by scripts/rust.sh from crates/lay_printer/src/engine.rt, which is proved: change that.
 //!
-//! Where scanning and printing meet: the entry at the front of the row is printed once it is decided.
+//! Where scanning and printing meet: the first entry of the row is printed once it is decided
+//! whether it fits.
 use crate::generated::lay_printer::page::Page;
 use crate::generated::lay_io::{Failed, Sink};
 use crate::generated::lay_layout::Break;
@@ -13,19 +14,22 @@ use crate::generated::lay_text::NoMemory;
 pub enum PrintError {
     /// A write of the sink failed.
     WriteFailed,
-    /// There was no memory.
+    /// Memory could not be allocated.
     NoMemory,
 }
-/// The tokens that wait, and where the layout stands before them. There is room for a frame for each.
+/// The waiting tokens, and the state of the layout before them. There is room for a frame for each
+/// token.
 pub struct Engine {
     pub queue: Queue,
     pub page: Page,
-    /// How many bytes of text may wait before the oldest entry is forced, once it is found undecided.
+    /// How many bytes of text may wait before the oldest entry is forced; computed when it is found
+    /// undecided.
     pub limit: u64,
 }
 impl Engine {
-    /// A token is fed: it waits, and then what is decided is printed. `roomy` says that there is room for it, so that
-    /// it need not be looked for. The oldest entry wasn't decided before, so few tokens decide it.
+    /// Takes a token, and prints what is then decided. `roomy` says that there is room for it, so
+    /// that room need not be looked for. The oldest entry wasn't decided before, so few tokens can
+    /// decide it.
     #[inline(always)]
     pub fn feed<
         K: Sink,
@@ -48,8 +52,8 @@ impl Engine {
     fn waits(&self) -> bool {
         self.queue.len() > 0
     }
-    /// Whether the oldest entry, which wasn't decided, isn't by this token, which came: a text decides it where more
-    /// waits than may, and a break where it ends its measure.
+    /// Whether the oldest entry is still undecided after this token: a text decides it if more text
+    /// waits than may, and a break if it ends its measured width.
     #[inline(always)]
     fn stays(&self, tok: LentTok<'_>) -> bool {
         match tok {
@@ -71,7 +75,7 @@ impl Engine {
     pub fn is_idle(&self) -> bool {
         self.queue.len() == 0
     }
-    /// A text is fed where nothing waits: it is printed at once.
+    /// Prints a text at once. Nothing may wait.
     #[inline(always)]
     pub fn print_text<
         K: Sink,
@@ -79,8 +83,8 @@ impl Engine {
         self.queue.pass();
         self.page.print_text(sink, text)
     }
-    /// A text is fed that is longer than the space of any line: it decides all that waits, so that is printed, and then
-    /// the text.
+    /// Takes a text that is longer than any line. It decides everything that waits: so that is
+    /// printed, and then the text.
     #[inline(never)]
     pub fn print_long<
         K: Sink,
@@ -92,7 +96,7 @@ impl Engine {
         self.queue.pass();
         self.page.print_text(sink, text)
     }
-    /// Whether a break is printed at once, since nothing waits and what follows it doesn't count.
+    /// Whether a break can be printed at once: nothing waits, and what follows it doesn't matter.
     #[inline(always)]
     pub fn is_clear(&self, brk: Break) -> bool {
         if self.is_idle() {
@@ -100,7 +104,7 @@ impl Engine {
         }
         false
     }
-    /// A break is fed that is printed at once.
+    /// Prints a break at once.
     #[inline(always)]
     pub fn print_break<
         K: Sink,
@@ -108,7 +112,7 @@ impl Engine {
         self.queue.pass();
         self.page.print_break(sink, brk)
     }
-    /// No more tokens come: the rest is printed. Then tokens may come again.
+    /// Prints the rest: no more tokens come. Then tokens may come again.
     pub fn finish<K: Sink>(&mut self, sink: &mut K) -> Result<(), Failed> {
         self.queue.end_all();
         match self.print_decided(sink, 0) {
@@ -119,7 +123,7 @@ impl Engine {
             Err(Failed) => Err(Failed),
         }
     }
-    /// A token comes, for which room is made if there may be none.
+    /// Takes a token, and makes room for it unless `roomy`.
     #[inline(always)]
     fn take(&mut self, tok: LentTok<'_>, roomy: bool) -> Result<(), NoMemory> {
         if !roomy {
@@ -128,7 +132,7 @@ impl Engine {
         self.put(tok);
         Ok(())
     }
-    /// A token comes for which there is room. It waits, with room for a frame.
+    /// Takes a token, for which there must be room. It waits, with room for a frame.
     #[inline(always)]
     fn put(&mut self, tok: LentTok<'_>) {
         let held = self.queue.len();
@@ -137,7 +141,7 @@ impl Engine {
         debug_assert!(held < room);
         self.queue.scan(tok);
     }
-    /// Prints entries while they are decided, where so many bytes of text stand behind those that wait.
+    /// Prints entries as long as they are decided; `behind` bytes of text follow those that wait.
     #[inline(never)]
     fn print_decided<
         K: Sink,
@@ -148,8 +152,8 @@ impl Engine {
         self.limit = self.slack();
         Ok(())
     }
-    /// Whether the oldest entry doesn't fit, once that is decided, where so many bytes of text stand behind those that
-    /// wait.
+    /// Whether the oldest entry doesn't fit, or `None` if that isn't decided; `behind` bytes of
+    /// text follow those that wait.
     #[inline(always)]
     fn decide(&self, behind: u64) -> Option<bool> {
         match self.queue.front() {
@@ -165,7 +169,7 @@ impl Engine {
             }
         }
     }
-    /// How many bytes of text may wait before the oldest entry, which isn't decided, is forced.
+    /// How many bytes of text may wait before the oldest entry, which is undecided, is forced.
     #[inline(always)]
     fn slack(&self) -> u64 {
         match self.queue.front() {
@@ -175,7 +179,8 @@ impl Engine {
             }
         }
     }
-    /// Prints the oldest entry where it stands, and takes it away, and with a text the texts that follow it.
+    /// Prints and drops the oldest entry; if it is a text, the texts that follow it too. `big` says
+    /// that it doesn't fit.
     #[inline(always)]
     fn print_front<K: Sink>(&mut self, sink: &mut K, big: bool) -> Result<(), Failed> {
         let queue = &self.queue;
@@ -193,14 +198,14 @@ impl Engine {
         self.queue.drop_front();
         printed
     }
-    /// How many tokens may come before memory is taken.
+    /// How many more tokens fit without allocating.
     #[inline(always)]
     pub fn room(&self) -> usize {
         let rooms = self.page.frames.spare() - self.queue.len();
         self.queue.room().min(rooms)
     }
-    /// How many tokens may come before memory is taken, after one token: where so many might before, one less,
-    /// which needs no look at the room.
+    /// How many more tokens fit without allocating, after one token: one fewer than `before`,
+    /// without a look at the room.
     #[inline(always)]
     pub fn room_after(&self, before: usize) -> usize {
         match before.checked_sub(1) {
@@ -208,7 +213,7 @@ impl Engine {
             None => self.room(),
         }
     }
-    /// Makes room for so many more tokens.
+    /// Makes room for `n` more tokens.
     pub fn reserve(&mut self, n: usize) -> Result<(), NoMemory> {
         let frames = match self.queue.len().checked_add(n) {
             Some(frames) => frames,

@@ -1,31 +1,32 @@
 //! Made by scripts/rust.sh from crates/lay_printer/src/frames.rt, which is proved: change that.
 //!
-//! The frames of the groups that are open, and room for more.
+//! The stack of frames of the open groups, with spare room.
 use crate::shims::Vec;
 use crate::generated::lay_layout::{Frame, OUTSIDE};
 use crate::generated::lay_text::NoMemory;
 use crate::shims::Global;
-/// The frames of the groups that are open, the innermost first.
+/// The stack of frames of the open groups. Contracts see it with the innermost first.
 pub struct Frames {
     items: Vec<Frame>,
 }
 impl Frames {
-    /// No group is open.
+    /// The empty stack.
     pub fn new(alloc: Global) -> Frames {
         Frames { items: Vec::new(alloc) }
     }
-    /// A group is begun. There must be room for it.
+    /// Pushes the frame of a group that begins. There must be room for it.
     pub fn push(&mut self, frame: Frame) {
         match self.items.push(frame) {
             Ok(()) => {}
             Err(_) => unreachable!(),
         }
     }
-    /// The group that was begun last is ended.
+    /// Pops the frame of the innermost group, which ends.
     pub fn pop(&mut self) {
         let _ = self.items.pop();
     }
-    /// The frame that counts: outside all groups it is broken, inconsistent, with indent 0.
+    /// The frame of the innermost group; outside all groups it is broken, inconsistent, with indent
+    /// 0.
     pub fn top(&self) -> Frame {
         match self.items.last() {
             Some(frame) => *frame,
@@ -36,7 +37,7 @@ impl Frames {
     pub fn spare(&self) -> usize {
         self.items.capacity() - self.items.len()
     }
-    /// Makes room for so many more groups.
+    /// Makes room for `n` more groups.
     pub fn reserve(&mut self, n: usize) -> Result<(), NoMemory> {
         match self.items.reserve(n) {
             Ok(()) => Ok(()),

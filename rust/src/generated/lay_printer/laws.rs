@@ -1,3 +1,3 @@
 //! Made by scripts/rust.sh from crates/lay_printer/src/laws.rt, which is proved: change that.
 //!
-//! What holds of a printer at every moment.
+//! The theorems about a printer at every moment. (No code runs.)

@@ -1,12 +1,12 @@
 //! Made by scripts/rust.sh from crates/lay_printer/src/page.rt, which is proved: change that.
 //!
-//! The printing side: tokens are printed where the layout stands.
+//! The printing half: tokens are put on the current line.
 use crate::generated::lay_printer::frames::Frames;
 use crate::generated::lay_io::{Failed, Sink};
 use crate::generated::lay_layout::{Break, asks_at_break, entered, width_of};
 use crate::generated::lay_ring::LentTok;
 use crate::generated::lay_stream::{Line, exceeds};
-/// Where the layout stands: the line that is being written, and the frames of the groups that are open there.
+/// The state of the layout: the line that is being written, and the frames of the open groups.
 pub struct Page {
     pub line: Line,
     pub frames: Frames,
@@ -34,7 +34,8 @@ impl Page {
         }
         true
     }
-    /// Prints a token, of which it is known whether its measure is greater than the space.
+    /// Prints a token; `big` says that its width up to the next break is greater than the space
+    /// that is left.
     pub fn print<
         K: Sink,
     >(&mut self, sink: &mut K, tok: LentTok<'_>, big: bool) -> Result<(), Failed> {

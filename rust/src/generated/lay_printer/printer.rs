@@ -1,6 +1,6 @@
 //! Made by scripts/rust.sh from crates/lay_printer/src/printer.rt, which is proved: change that.
 //!
-//! What a printer keeps beside its sink.
+//! The state of a printer beside its sink.
 use crate::generated::lay_printer::engine::{Engine, PrintError};
 use crate::generated::lay_printer::frames::Frames;
 use crate::generated::lay_printer::page::Page;
@@ -11,20 +11,21 @@ use crate::generated::lay_ring::LentTok;
 use crate::generated::lay_stream::Line;
 use crate::generated::lay_text::{NoMemory, Text};
 use crate::shims::Global;
-/// What a printer keeps beside its sink: it owns the memory. Contracts see the tokens that wait with their
-/// sizes and the number of the first, how many groups are open, how many tokens may come before memory is
-/// taken, why a call failed, if one did, and where the layout stands.
+/// The state of a printer beside its sink. It owns the memory. Contracts see the waiting tokens
+/// with their sizes and the number of the first one, how many groups are open, how many more tokens
+/// fit without allocating, the error of the failed call, if there was one, and the state of the
+/// layout.
 pub struct Core {
     engine: Engine,
     failed: Option<PrintError>,
     spare: usize,
 }
-/// What is left of one number after another is taken from it, which may be below zero.
+/// `a - b`, which may be negative.
 fn difference(a: u64, b: u64) -> i64 {
     a as i64 - b as i64
 }
 impl Core {
-    /// A printer that was fed nothing.
+    /// A printer that has taken no token.
     pub fn new(alloc: Global) -> Result<Core, NoMemory> {
         let queue = Queue::new(alloc)?;
         let line = Line { pending: 0, room: MARGIN, used: 0 };
@@ -32,19 +33,19 @@ impl Core {
         let page = Page { line, frames };
         Ok(Core { engine: Engine { queue, page, limit: 0 }, failed: None, spare: 0 })
     }
-    /// Feeds a text.
+    /// Takes a text.
     pub fn text<
         K: Sink,
     >(&mut self, sink: &mut K, text: &[u8]) -> Result<(), PrintError> {
         self.put_text(sink, text)
     }
-    /// Feeds a text that is owned: with room for a token it wants no memory.
+    /// Takes a text by value. If there is room for a token, it doesn't allocate.
     pub fn text_owned<
         K: Sink,
     >(&mut self, sink: &mut K, text: Text) -> Result<(), PrintError> {
         self.put_text(sink, text.as_bytes())
     }
-    /// Feeds a break.
+    /// Takes a break.
     pub fn brk<K: Sink>(&mut self, sink: &mut K, brk: Break) -> Result<(), PrintError> {
         if self.failed.is_none() && self.engine.is_clear(brk) {
             return self.print_break(sink, brk);
@@ -57,11 +58,11 @@ impl Core {
     >(&mut self, sink: &mut K, consistent: bool, offset: i8) -> Result<(), PrintError> {
         self.feed(sink, LentTok::Begin { consistent, offset })
     }
-    /// Ends the group that was begun last.
+    /// Ends the innermost open group.
     pub fn end<K: Sink>(&mut self, sink: &mut K) -> Result<(), PrintError> {
         self.feed(sink, LentTok::End)
     }
-    /// Feeds a text, which is copied where it waits.
+    /// Takes a text, which is copied if it waits.
     #[inline(always)]
     fn put_text<
         K: Sink,
@@ -77,7 +78,7 @@ impl Core {
         }
         self.feed(sink, LentTok::Text(text))
     }
-    /// Feeds a text that is longer than the space of any line.
+    /// Takes a text that is longer than any line.
     #[inline(never)]
     fn print_long<
         K: Sink,
@@ -90,7 +91,7 @@ impl Core {
             }
         }
     }
-    /// Feeds a text where nothing waits.
+    /// Takes a text while nothing waits.
     #[inline(always)]
     fn print_text<
         K: Sink,
@@ -103,7 +104,7 @@ impl Core {
             }
         }
     }
-    /// Feeds a break that is printed at once.
+    /// Takes a break that is printed at once.
     #[inline(always)]
     fn print_break<
         K: Sink,
@@ -116,7 +117,7 @@ impl Core {
             }
         }
     }
-    /// Feeds a token, unless a call has failed.
+    /// Takes a token, unless a call has failed.
     #[inline(always)]
     fn feed<
         K: Sink,
@@ -136,8 +137,8 @@ impl Core {
             }
         }
     }
-    /// Prints the rest, since no more tokens come. Every group must have ended, unless a call failed. A printer
-    /// that failed leaves the sink as it is.
+    /// Prints the rest, since no more tokens come. No group may be open, unless a call has failed.
+    /// A printer that has failed leaves the sink as it is.
     pub fn finish<K: Sink>(&mut self, sink: &mut K) -> Result<(), PrintError> {
         if let Some(fault) = self.failed {
             return Err(fault);
@@ -154,11 +155,12 @@ impl Core {
             }
         }
     }
-    /// How many groups are open: `end` asks for one, and `finish` for none.
+    /// How many groups are open. `end` requires at least one, `finish` none.
     pub fn open_groups(&self) -> u64 {
         self.engine.queue.groups()
     }
-    /// How many bytes of text were fed and aren't in the sink: no more than the space.
+    /// How many bytes of text were taken and aren't in the sink yet: at most as many as fit in the
+    /// space that is left.
     pub fn waiting(&self) -> usize {
         self.engine.queue.waiting() as usize
     }
@@ -166,18 +168,19 @@ impl Core {
     pub fn len(&self) -> usize {
         self.engine.queue.len()
     }
-    /// The space, at the least -2^62.
+    /// The columns that are left on the line, at least -2^62.
     pub fn space(&self) -> i64 {
         let line = &self.engine.page.line;
         let room = line.room.min(MARGIN);
         let used = line.used.min(room + GREATEST_WIDTH);
         difference(room, used)
     }
-    /// How many tokens may come before memory is taken.
+    /// How many more tokens fit without allocating.
     pub fn spare(&self) -> usize {
         self.spare
     }
-    /// Makes room for so many more tokens. All else stays as it was, and after `NoMemory` all does.
+    /// Makes room for `n` more tokens, and changes nothing else. After `NoMemory` nothing is
+    /// changed.
     pub fn reserve(&mut self, n: usize) -> Result<(), NoMemory> {
         self.engine.reserve(n)?;
         self.spare = self.spare.max(n);

@@ -1,16 +1,16 @@
 //! Made by scripts/rust.sh from crates/lay_queue/src/queue.rt, which is proved: change that.
 //!
-//! The scanning side: tokens that wait, with the sizes that are known of them.
+//! The scanning half: waiting tokens, with the sizes that are known of them.
 use crate::generated::lay_queue::close::{CAP, Note, close};
 use crate::generated::lay_layout::{Break, width_of};
 use crate::generated::lay_ring::{LentEntry, LentTok, Marks, Row, Texts, UNKNOWN};
 use crate::generated::lay_text::NoMemory;
 use crate::shims::Global;
-/// Tokens that wait, oldest first, and what is kept of those whose size isn't known.
+/// Waiting tokens, the oldest first, and notes of those whose size is unknown.
 pub struct Queue {
     ring: Row,
     notes: Marks<Note>,
-    /// The width from the newest note on, or the cap where that is less.
+    /// The width from the newest note on, at most [`CAP`].
     acc: u64,
     /// How many groups are open after all tokens.
     groups: u64,
@@ -19,7 +19,7 @@ pub struct Queue {
     /// No more tokens come.
     ended: bool,
 }
-/// What a token's measure has at the least beside texts: the width of a break.
+/// The least width of a token without its text: the width of a break, else 0.
 #[inline(always)]
 pub fn least_width(tok: LentTok<'_>) -> u64 {
     match tok {
@@ -34,14 +34,15 @@ fn text_len(tok: LentTok<'_>) -> u64 {
         _ => 0,
     }
 }
-/// Takes the oldest note, where it is that of an entry with this size.
+/// Drops the oldest note, if the oldest entry, which has this size, has one: that is, if the size
+/// is unknown.
 fn drop_note(notes: &mut Marks<Note>, size: i64) {
     if size < 0 {
         let _ = notes.pop_oldest();
     }
 }
 impl Queue {
-    /// Nothing waits.
+    /// An empty queue.
     pub fn new(alloc: Global) -> Result<Queue, NoMemory> {
         let ring = Row::new(alloc)?;
         let notes = Marks::new(alloc, 0)?;
@@ -72,18 +73,18 @@ impl Queue {
     pub fn groups(&self) -> u64 {
         self.groups
     }
-    /// How many tokens may come before memory is taken.
+    /// How many more tokens fit without allocating.
     #[inline(always)]
     pub fn room(&self) -> usize {
         self.ring.spare().min(self.notes.spare())
     }
-    /// Makes room for so many more tokens, of which each may have a note.
+    /// Makes room for `n` more tokens, each of which may have a note.
     #[inline(always)]
     pub fn reserve(&mut self, n: usize) -> Result<(), NoMemory> {
         self.ring.reserve(n)?;
         self.notes.reserve(n)
     }
-    /// A token comes for which there is room.
+    /// Takes a token, for which there must be room.
     #[inline(always)]
     pub fn scan(&mut self, tok: LentTok<'_>) {
         match tok {
@@ -93,7 +94,7 @@ impl Queue {
             LentTok::End => self.scan_end(),
         }
     }
-    /// A text has its size at once.
+    /// Takes a text. Its size is known at once.
     #[inline(always)]
     fn scan_text(&mut self, text: &[u8]) {
         let len = text.len() as u64;
@@ -101,7 +102,8 @@ impl Queue {
         self.acc = (self.acc + len).min(CAP);
         self.waiting += len;
     }
-    /// A break ends the measures of what was noted with no fewer groups open.
+    /// Takes a break. It ends the measured width of all that was noted with at least as many groups
+    /// open.
     #[inline(always)]
     fn scan_break(&mut self, brk: Break) {
         let width = width_of(brk);
@@ -111,7 +113,7 @@ impl Queue {
         self.notes.add(note);
         self.acc = width;
     }
-    /// A group begins.
+    /// Takes the begin of a group.
     #[inline(always)]
     fn scan_begin(&mut self, consistent: bool, offset: i8) {
         let number = self.ring.push(LentTok::Begin { consistent, offset }, UNKNOWN);
@@ -120,23 +122,23 @@ impl Queue {
         self.acc = 0;
         self.groups += 1;
     }
-    /// The group that was begun last ends. Measures go on past it.
+    /// Takes the end of the innermost group. Measured widths go on past it.
     #[inline(always)]
     fn scan_end(&mut self) {
         let _ = self.ring.push(LentTok::End, 0);
         self.groups -= 1;
     }
-    /// No more tokens come: every measure ends.
+    /// Ends all measured widths: no more tokens come.
     pub fn end_all(&mut self) {
         self.acc = close(&mut self.ring, &mut self.notes, self.acc, 0);
         self.ended = true;
     }
-    /// A token that is printed at once, where none waits, takes a number alone.
+    /// Skips a number, for a token that is printed at once. Nothing may wait.
     #[inline(always)]
     pub fn pass(&mut self) {
         self.ring.pass();
     }
-    /// Takes the oldest entry away.
+    /// Drops the oldest entry.
     #[inline(always)]
     pub fn drop_front(&mut self) {
         if let Some(entry) = self.ring.front() {
@@ -146,13 +148,13 @@ impl Queue {
             self.ring.pop_front();
         }
     }
-    /// Takes so many texts away that stand at the front, of so many bytes in all.
+    /// Drops `count` texts at the front, which have `len` bytes together.
     #[inline(always)]
     pub fn drop_texts(&mut self, count: usize, len: usize) {
         self.ring.pop_texts(count, len);
         self.waiting -= len as u64;
     }
-    /// Nothing waits: tokens may come again.
+    /// Begins anew after the end: tokens may come again. Nothing may wait.
     pub fn restart(&mut self) {
         if self.ring.len() == 0 {
             self.ended = false;

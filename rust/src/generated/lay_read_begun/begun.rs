@@ -1,6 +1,6 @@
 //! Made by scripts/rust.sh from crates/lay_read_begun/src/begun.rt, which is proved: change that.
 //!
-//! Items up to their bodies.
+//! Parsing of items up to their bodies.
 use crate::generated::lay_read_begun::leads::{ItemLead, item_lead, may_stand};
 use crate::generated::lay_code::{
     Alias,
@@ -45,8 +45,8 @@ use crate::generated::lay_read_tokens::stop::boxed;
 use crate::generated::lay_read_tokens::tokens::read_group;
 use crate::generated::lay_read_tokens::{Ahead, Found, ReadNone};
 use crate::shims::Global;
-/// An item that has no body. What begins items stays within the nodes that hold no code, since a function that has an
-/// `ItemKind` takes ten times as long to be proved.
+/// An item without a body. It is no `ItemKind`, since a function that has one takes ten times as
+/// long to be proved.
 pub enum Whole {
     ExternCrate {
         item: ExternCrate,
@@ -77,8 +77,8 @@ pub enum Whole {
         call: MacroCall,
     },
 }
-/// An item up to its body, or the whole item where it has none. What is large in it stands in a box, since an item that is
-/// begun is moved many times.
+/// An item up to its body, or the whole item if it has none. Large parts are boxed, since the value
+/// is moved many times.
 pub enum Begun {
     Whole {
         item: Boxed<Whole>,
@@ -106,7 +106,7 @@ pub enum Begun {
         head: Boxed<ValueHead>,
     },
 }
-/// An item at its site up to its body, told from what it begins with. What is within it stands within the depth.
+/// Parses an item at its site, up to its body. What it contains fits in `depth` levels.
 pub fn read_begun(
     alloc: Global,
     at: &mut Ahead<'_>,
@@ -118,7 +118,7 @@ pub fn read_begun(
         Err(ReadNone::NoReading)
     }
 }
-/// An item with this lead, up to its body.
+/// Parses an item with this lead, up to its body.
 fn begun_by(
     alloc: Global,
     at: &mut Ahead<'_>,
@@ -147,7 +147,7 @@ fn begun_by(
 fn whole_item(item: Boxed<Whole>, need: u32) -> Found<Begun> {
     Found { node: Begun::Whole { item }, need }
 }
-/// An extern crate declaration.
+/// Parses an extern crate declaration.
 fn begin_extern_crate(
     alloc: Global,
     at: &mut Ahead<'_>,
@@ -156,7 +156,7 @@ fn begin_extern_crate(
     let item = boxed(alloc, Whole::ExternCrate { item })?;
     Ok(whole_item(item, 0))
 }
-/// An import.
+/// Parses an import.
 fn begin_import(
     alloc: Global,
     at: &mut Ahead<'_>,
@@ -171,7 +171,7 @@ fn begin_import(
     let keeps = takes_mark(at, b";");
     kept_if(whole_item(item, need), keeps)
 }
-/// A module in a file of its own, or the head of another.
+/// Parses `mod a;`, or the head of a module with a body.
 fn begin_module(alloc: Global, at: &mut Ahead<'_>) -> Result<Found<Begun>, ReadNone> {
     if !takes_keyword(at, b"mod") {
         return Err(ReadNone::NoReading);
@@ -182,7 +182,7 @@ fn begin_module(alloc: Global, at: &mut Ahead<'_>) -> Result<Found<Begun>, ReadN
         Ok(whole_item(item, 0))
     } else { Ok(Found { node: Begun::Module { name }, need: 0 }) }
 }
-/// A function, up to its body.
+/// Parses a function, up to its body.
 fn begin_function(
     alloc: Global,
     at: &mut Ahead<'_>,
@@ -199,7 +199,7 @@ fn begin_function(
         },
     )
 }
-/// A type alias.
+/// Parses a type alias.
 fn begin_alias(
     alloc: Global,
     at: &mut Ahead<'_>,
@@ -210,7 +210,7 @@ fn begin_alias(
     let item = boxed(alloc, Whole::Alias { item: node })?;
     Ok(whole_item(item, need))
 }
-/// A struct.
+/// Parses a struct.
 fn begin_struct(
     alloc: Global,
     at: &mut Ahead<'_>,
@@ -220,7 +220,7 @@ fn begin_struct(
     let item = boxed(alloc, Whole::Struct { item: node })?;
     Ok(whole_item(item, need))
 }
-/// A union.
+/// Parses a union.
 fn begin_union(
     alloc: Global,
     at: &mut Ahead<'_>,
@@ -230,7 +230,7 @@ fn begin_union(
     let item = boxed(alloc, Whole::Union { item: node })?;
     Ok(whole_item(item, need))
 }
-/// An enumeration.
+/// Parses an enumeration.
 fn begin_enum(
     alloc: Global,
     at: &mut Ahead<'_>,
@@ -240,7 +240,7 @@ fn begin_enum(
     let item = boxed(alloc, Whole::Enum { item: node })?;
     Ok(whole_item(item, need))
 }
-/// A constant or a static, up to its value.
+/// Parses a constant or a static, up to its value.
 fn begin_value(
     alloc: Global,
     at: &mut Ahead<'_>,
@@ -250,7 +250,7 @@ fn begin_value(
     let head = boxed(alloc, node)?;
     Ok(Found { need, node: Begun::Value { head } })
 }
-/// A trait, up to its body.
+/// Parses a trait, up to its body.
 fn begin_trait(
     alloc: Global,
     at: &mut Ahead<'_>,
@@ -266,7 +266,7 @@ fn begin_trait(
         },
     )
 }
-/// An implementation, up to its body.
+/// Parses an implementation, up to its body.
 fn begin_impl(
     alloc: Global,
     at: &mut Ahead<'_>,
@@ -282,7 +282,7 @@ fn begin_impl(
         },
     )
 }
-/// A foreign block, up to its body.
+/// Parses a foreign block, up to its body.
 fn begin_foreign(alloc: Global, at: &mut Ahead<'_>) -> Result<Found<Begun>, ReadNone> {
     let is_unsafe = takes_flag(at, b"unsafe");
     match read_abi_if(alloc, at)? {
@@ -292,7 +292,7 @@ fn begin_foreign(alloc: Global, at: &mut Ahead<'_>) -> Result<Found<Begun>, Read
         None => Err(ReadNone::NoReading),
     }
 }
-/// The declaration of a macro. The tokens before its name are known.
+/// Parses a macro definition; that it is one was seen before.
 fn begin_rules(alloc: Global, at: &mut Ahead<'_>) -> Result<Found<Begun>, ReadNone> {
     pass_two(at);
     let name = read_name(alloc, at)?;
@@ -302,7 +302,7 @@ fn begin_rules(alloc: Global, at: &mut Ahead<'_>) -> Result<Found<Begun>, ReadNo
         Ok(whole_item(item, 0))
     } else { Err(ReadNone::NoReading) }
 }
-/// A macro call, and what ends it.
+/// Parses a macro call as an item, with what ends it.
 fn begin_call(alloc: Global, at: &mut Ahead<'_>) -> Result<Found<Begun>, ReadNone> {
     let call = call_ahead(alloc, at)?;
     if takes_end(at, call.tokens.delim) {

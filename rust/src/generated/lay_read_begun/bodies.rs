@@ -1,6 +1,6 @@
 //! Made by scripts/rust.sh from crates/lay_read_begun/src/bodies.rt, which is proved: change that.
 //!
-//! The bodies of items, and items with their bodies.
+//! The kinds of bodies of items, and items put together with their bodies.
 use crate::generated::lay_read_begun::begun::{Begun, Whole};
 use crate::generated::lay_code::{
     Attr,
@@ -19,19 +19,19 @@ use crate::generated::lay_read_parts::joins::refused;
 use crate::generated::lay_read_tokens::found::greater;
 use crate::generated::lay_read_tokens::{Found, ReadNone};
 use crate::generated::lay_token::List;
-/// What the body of an item is.
+/// The kind of body that this item has.
 #[derive(Clone, Copy,)]
 pub enum Body {
-    /// It has none, or it is read already.
+    /// No body, or one that was read already.
     None,
-    /// Items, which stand at this site.
+    /// Items at this site.
     Items(Site),
     /// A block, or a `;`.
     Block,
     /// A value and a `;`, or the `;` alone.
     Value,
 }
-/// What the body of an item is.
+/// The kind of body that this item has.
 pub fn body_of(begun: &Begun) -> Body {
     match begun {
         Begun::Whole { .. } => Body::None,
@@ -43,7 +43,7 @@ pub fn body_of(begun: &Begun) -> Body {
         Begun::Value { .. } => Body::Value,
     }
 }
-/// An item that has no body, as an item.
+/// The `ItemKind` of an item without a body.
 fn kind_of(item: Whole) -> ItemKind {
     match item {
         Whole::ExternCrate { item } => ItemKind::ExternCrate { item },
@@ -57,7 +57,7 @@ fn kind_of(item: Whole) -> ItemKind {
         Whole::Call { call } => ItemKind::Call { call },
     }
 }
-/// An item with what stands in its body, if it has one.
+/// The item with the inner attributes and items of its body, if it has one.
 pub fn with_items(begun: Begun, attrs: List<Attr>, items: List<Item>) -> ItemKind {
     match begun {
         Begun::Whole { item } => kind_of(item.into_inner()),
@@ -79,7 +79,7 @@ pub fn with_items(begun: Begun, attrs: List<Attr>, items: List<Item>) -> ItemKin
         }
     }
 }
-/// Whether a function may have a body at its site, or may lack it.
+/// Whether a function may stand at this site with a body, or without one, as `bodied` says.
 fn may_be_bodied(site: Site, bodied: bool) -> bool {
     match site {
         Site::Foreign => !bodied,
@@ -87,7 +87,8 @@ fn may_be_bodied(site: Site, bodied: bool) -> bool {
         _ => bodied,
     }
 }
-/// Whether a constant or a static may have a value, or may lack it.
+/// Whether a constant or a static may stand at this site with a value, or without one, as `valued`
+/// says.
 fn may_be_valued(site: Site, head: &ValueHead, valued: bool) -> bool {
     let constant = matches!(head, ValueHead::Const { .. });
     match (site, valued) {
@@ -97,7 +98,7 @@ fn may_be_valued(site: Site, head: &ValueHead, valued: bool) -> bool {
         (Site::Foreign, valued) => !valued && !constant,
     }
 }
-/// A function with its body, if it has one, where it may have or lack it at its site.
+/// The function with its body, or without one, if that is allowed at its site.
 pub fn with_block(
     begun: Found<Begun>,
     site: Site,
@@ -122,7 +123,7 @@ pub fn with_block(
         other => refused(other),
     }
 }
-/// A constant or a static with its value, if it has one, where it may have or lack it at its site.
+/// The constant or static with its value, or without one, if that is allowed at its site.
 pub fn with_value(
     begun: Found<Begun>,
     site: Site,

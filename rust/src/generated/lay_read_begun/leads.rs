@@ -25,7 +25,7 @@ pub enum ItemLead {
     Rules,
     Call,
 }
-/// What the item at the front begins with. Without a word that leads one it is a macro call.
+/// How the next tokens begin an item. Without a word that can begin one it is a macro call.
 pub fn item_lead(at: &Ahead<'_>) -> ItemLead {
     match at.peek(0) {
         Some(token) => {
@@ -37,19 +37,20 @@ pub fn item_lead(at: &Ahead<'_>) -> ItemLead {
         None => ItemLead::Call,
     }
 }
-/// What the word leads that stands at the front. What stands behind it is looked at where it may lead a function alone.
+/// How this word, which comes next, begins an item. What follows it is only looked at if it may
+/// begin a function.
 fn lead_of_word(word: &[u8], at: &Ahead<'_>) -> ItemLead {
     if may_lead_function(word) && begins_function(at) { ItemLead::Function } else {
         led_by(word, at)
     }
 }
-/// Whether the word may lead a function.
+/// Whether the word may begin a function.
 fn may_lead_function(word: &[u8]) -> bool {
     word == b"fn".as_slice() || word == b"const".as_slice()
         || word == b"async".as_slice() || word == b"unsafe".as_slice()
         || word == b"safe".as_slice() || word == b"extern".as_slice()
 }
-/// Whether a function begins at the front: `fn`, behind words that may stand before it.
+/// Whether a function comes next: `fn`, after any words that may stand before it.
 fn begins_function(at: &Ahead<'_>) -> bool {
     let mut behind = at.fork();
     takes_flag(&mut behind, b"const");
@@ -58,26 +59,26 @@ fn begins_function(at: &Ahead<'_>) -> bool {
     pass_abi(&mut behind);
     is_at_keyword(&behind, b"fn")
 }
-/// Passes what a function says of its safety, if it says any.
+/// Moves past `unsafe` or `safe` before `fn`, if one comes next.
 fn pass_safety(at: &mut Ahead<'_>) {
     if !takes_keyword(at, b"unsafe") {
         takes_keyword(at, b"safe");
     }
 }
-/// Passes an ABI, if one stands at the front.
+/// Moves past an ABI if one comes next.
 fn pass_abi(at: &mut Ahead<'_>) {
     if takes_keyword(at, b"extern") && is_at_string(at) {
         pass(at);
     }
 }
-/// Whether a string stands at the front.
+/// Whether a string comes next.
 fn is_at_string(at: &Ahead<'_>) -> bool {
     match at.peek(0) {
         Some(token) => matches!(token.kind, Kind::Str | Kind::RawStr),
         None => false,
     }
 }
-/// What the word at the front leads, if it is no function.
+/// How this word, which comes next, begins an item other than a function.
 fn led_by(word: &[u8], at: &Ahead<'_>) -> ItemLead {
     if word == b"use".as_slice() { ItemLead::Import } else if word == b"mod".as_slice() {
         ItemLead::Module
@@ -99,7 +100,7 @@ fn led_by(word: &[u8], at: &Ahead<'_>) -> ItemLead {
         unsafe_lead(at)
     } else if word == b"extern".as_slice() { extern_lead(at) } else { macro_lead(at) }
 }
-/// What `unsafe` leads, if it is no function.
+/// How `unsafe` begins an item other than a function.
 fn unsafe_lead(at: &Ahead<'_>) -> ItemLead {
     let mut behind = at.fork();
     pass(&mut behind);
@@ -109,7 +110,7 @@ fn unsafe_lead(at: &Ahead<'_>) -> ItemLead {
         ItemLead::Foreign
     }
 }
-/// What `extern` leads, if it is no function.
+/// How `extern` begins an item other than a function.
 fn extern_lead(at: &Ahead<'_>) -> ItemLead {
     let mut behind = at.fork();
     pass(&mut behind);
@@ -117,7 +118,7 @@ fn extern_lead(at: &Ahead<'_>) -> ItemLead {
         ItemLead::Foreign
     }
 }
-/// What a word leads that no item but a macro call begins with, or that may be a name too.
+/// How a word begins an item that is no keyword of items, or that may be a name too.
 fn macro_lead(at: &Ahead<'_>) -> ItemLead {
     if begins_union(at) { ItemLead::Union } else if begins_rules(at) {
         ItemLead::Rules
@@ -127,8 +128,8 @@ fn macro_lead(at: &Ahead<'_>) -> ItemLead {
 fn in_module(site: Site) -> bool {
     matches!(site, Site::Module)
 }
-/// Whether an item with this lead may stand at the site. Of a function, an alias and a value what is behind the lead
-/// decides.
+/// Whether an item that begins like this may stand at the site. For functions, aliases and values
+/// their readers decide that.
 pub fn may_stand(site: Site, lead: ItemLead) -> bool {
     match lead {
         ItemLead::Function | ItemLead::Alias | ItemLead::Value | ItemLead::Call => true,

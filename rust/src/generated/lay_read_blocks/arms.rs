@@ -1,6 +1,6 @@
 //! Made by scripts/rust.sh from crates/lay_read_blocks/src/arms.rt, which is proved: change that.
 //!
-//! The arms of a match.
+//! Parsing of the arms of a match.
 use crate::generated::lay_read_blocks::rules::BlockRules;
 use crate::generated::lay_code::{
     Arm,
@@ -36,14 +36,16 @@ use crate::generated::lay_read_tokens::front::{
 use crate::generated::lay_read_tokens::{Ahead, Found, ReadNone};
 use crate::generated::lay_token::{Delim, List};
 use crate::shims::Global;
-/// Arms, as parts that stand one behind another.
+/// Arms as consecutive parts.
 pub struct Arms;
 impl Part<Arm, u32> for Arms {}
-/// Passes the comma of an arm, which may lack it before the end, and where it is said.
+/// Moves past the comma of an arm, and says whether the arm ends there. The comma may be missing
+/// before the `}`, and anywhere if `free`.
 fn takes_arm_end(at: &mut Ahead<'_>, free: bool) -> bool {
     takes_mark(at, b",") || free || is_at_closer(at, Delim::Brace)
 }
-/// The body of an arm, and the need of it: within braces that aren't in the tree it needs as much as they do.
+/// The body of an arm without braces that aren't in the tree. In such braces it needs as much depth
+/// as they do.
 fn body_of(found: Found<Boxed<Expr>>) -> Found<Boxed<Expr>> {
     let need = if is_lone_body(found.node.get()) { found.need } else { found.need + 1 };
     Found { node: undressed(found.node), need }
@@ -53,7 +55,8 @@ impl<
     B: Fn(Global, &mut Ahead<'_>, u32) -> Result<Found<Block>, ReadNone>,
     I: Fn(Global, &mut Ahead<'_>, Site, u32) -> Result<Found<Item>, ReadNone>,
 > BlockRules<P, B, I> {
-    /// What stands behind an `=>`, and whether the arm may lack its comma by that.
+    /// Parses the body of an arm after its `=>`. The flag says that after this body the comma may
+    /// be left out.
     #[inline(never)]
     fn body_begun(
         &self,
@@ -64,7 +67,7 @@ impl<
         let body = body_of(found);
         Ok(Found { need: body.need, node: (body.node, free) })
     }
-    /// A guard, if one stands there.
+    /// Parses a guard, if one comes next.
     #[inline(never)]
     fn guard_if(
         &self,
@@ -76,7 +79,8 @@ impl<
         let guard = self.expr(at, FREE)?;
         Ok(Found { node: Some(guard.node), need: guard.need })
     }
-    /// An arm. What is within it is read at the depth of these rules, and it needs one more at the most.
+    /// Parses an arm. What it contains is parsed at the depth limit of these rules, so the arm
+    /// needs at most one level more.
     #[inline(never)]
     fn arm_by(&self, at: &mut Ahead<'_>, _depth: u32) -> Result<Found<Arm>, ReadNone> {
         let Found { node, need } = self.arm_begun(at)?;
@@ -86,7 +90,7 @@ impl<
         }
         Ok(Found { node: arm, need })
     }
-    /// An arm up to its comma, and whether it may lack that by its body.
+    /// Parses an arm up to its comma. The flag says that after its body the comma may be left out.
     #[inline(never)]
     pub fn arm_begun(&self, at: &mut Ahead<'_>) -> Result<Found<(Arm, bool)>, ReadNone> {
         let attrs = attrs_ahead(self.alloc, at, false)?;
@@ -97,7 +101,7 @@ impl<
         let ((attrs, pat), guard) = both((attrs, pat), self.guard_if(at))?;
         self.arm_behind(at, attrs, pat, guard)
     }
-    /// What stands behind the pattern of an arm, and its guard if it has one.
+    /// Parses an arm after its pattern and its guard.
     #[inline(never)]
     fn arm_behind(
         &self,
@@ -122,7 +126,7 @@ impl<
             },
         )
     }
-    /// What stands behind `match`, unless it is deeper than may be.
+    /// Parses a match after its `match`, unless it is nested too deep.
     #[inline(never)]
     pub fn match_expr(
         &self,

@@ -1,6 +1,6 @@
 //! Made by scripts/rust.sh from crates/lay_read_blocks/src/blocks.rt, which is proved: change that.
 //!
-//! Blocks.
+//! Parsing of blocks.
 use crate::generated::lay_read_blocks::front::pass_semicolons;
 use crate::generated::lay_read_blocks::rules::BlockRules;
 use crate::generated::lay_code::{Block, Boxed, Expr, Item, Place, Site, Stmt};
@@ -19,7 +19,7 @@ use crate::generated::lay_read_tokens::front::{
 use crate::generated::lay_read_tokens::{Ahead, Found, ReadNone};
 use crate::generated::lay_token::{Delim, List};
 use crate::shims::Global;
-/// Statements of a block, as parts that stand one behind another.
+/// Statements of a block as consecutive parts.
 pub struct Stmts;
 impl Part<Stmt, ()> for Stmts {}
 impl<
@@ -27,7 +27,7 @@ impl<
     B: Fn(Global, &mut Ahead<'_>, u32) -> Result<Found<Block>, ReadNone>,
     I: Fn(Global, &mut Ahead<'_>, Site, u32) -> Result<Found<Item>, ReadNone>,
 > BlockRules<P, B, I> {
-    /// A block.
+    /// Parses a block.
     #[inline(never)]
     pub fn block_by(&self, at: &mut Ahead<'_>) -> Result<Found<Block>, ReadNone> {
         if !takes_opener(at, Delim::Brace) {
@@ -41,13 +41,13 @@ impl<
         }
         Ok(Found { need: stmts.need, node: Block { attrs, stmts: stmts.node } })
     }
-    /// A block that stands one level deeper than what is around it.
+    /// Parses a block that counts one level more than what is around it.
     #[inline(never)]
     pub fn deeper_block(&self, at: &mut Ahead<'_>) -> Result<Found<Block>, ReadNone> {
         let found = self.block_by(at)?;
         Ok(Found { need: found.need + 1, node: found.node })
     }
-    /// The body of a function, or the `;` where it has none.
+    /// Parses the body of a function, or the `;` where it has none.
     #[inline(never)]
     pub fn fn_body(&self, at: &mut Ahead<'_>) -> Result<Found<Option<Block>>, ReadNone> {
         if is_at_opened(at, Delim::Brace) {
@@ -57,7 +57,7 @@ impl<
             Err(ReadNone::NoReading)
         }
     }
-    /// Statements, up to where the block ends.
+    /// Parses statements up to the end of the block.
     #[inline(never)]
     fn stmts(&self, at: &mut Ahead<'_>) -> Result<Found<List<Stmt>>, ReadNone> {
         read_parts::<
@@ -68,7 +68,8 @@ impl<
             _,
         >(self.alloc, at, self.depth, Going::Items, self, BlockRules::stmt_in_block, ())
     }
-    /// A statement of a block, and the `;` behind it. One that doesn't end by itself is the last.
+    /// Parses a statement of a block, and the `;` after it. One that doesn't end by itself is the
+    /// last.
     #[inline(never)]
     fn stmt_in_block(
         &self,

@@ -1,6 +1,6 @@
 //! Made by scripts/rust.sh from crates/lay_read_blocks/src/closures.rt, which is proved: change that.
 //!
-//! Closures.
+//! Parsing of closures.
 use crate::generated::lay_read_blocks::rules::BlockRules;
 use crate::generated::lay_code::{
     Block,
@@ -28,14 +28,15 @@ use crate::generated::lay_read_tokens::{Ahead, Found, ReadNone};
 use crate::generated::lay_read_types::type_ahead;
 use crate::generated::lay_token::List;
 use crate::shims::Global;
-/// The body of a closure, and the need of it: within braces that aren't in the tree it needs as much as they do.
+/// The body of a closure without braces that aren't in the tree. In such braces it needs as much
+/// depth as they do.
 fn closure_body_of(found: Found<Boxed<Expr>>, no_struct: bool) -> Found<Boxed<Expr>> {
     let need = if sheds(found.node.get(), no_struct) { found.need } else {
         found.need + 1
     };
     Found { node: shed(found.node, no_struct), need }
 }
-/// Parameters of a closure, as elements of a list.
+/// Parameters of a closure as the elements of a list.
 pub struct Params;
 impl Part<ClosureParam, ()> for Params {}
 impl<
@@ -43,7 +44,7 @@ impl<
     B: Fn(Global, &mut Ahead<'_>, u32) -> Result<Found<Block>, ReadNone>,
     I: Fn(Global, &mut Ahead<'_>, Site, u32) -> Result<Found<Item>, ReadNone>,
 > BlockRules<P, B, I> {
-    /// A parameter of a closure.
+    /// Parses a parameter of a closure.
     #[inline(never)]
     fn closure_param(
         &self,
@@ -66,7 +67,7 @@ impl<
             },
         )
     }
-    /// Parameters, and the `|` behind them.
+    /// Parses parameters, and the `|` after them.
     #[inline(never)]
     fn params(&self, at: &mut Ahead<'_>) -> Result<Found<List<ClosureParam>>, ReadNone> {
         read_elements::<
@@ -77,7 +78,7 @@ impl<
             _,
         >(self.alloc, at, self.depth, Closer::Bar, self, BlockRules::closure_param, ())
     }
-    /// A closure, unless it is deeper than may be.
+    /// Parses a closure, unless it is nested too deep.
     #[inline(never)]
     pub fn closure_expr(
         &self,
@@ -92,7 +93,7 @@ impl<
         let params = self.params(at)?;
         self.closure_body(at, no_struct, is_async, moves, params)
     }
-    /// What stands behind the parameters of a closure, unless they are too deep together.
+    /// Parses a closure after its parameters, unless it is nested too deep.
     #[inline(never)]
     fn closure_body(
         &self,
@@ -116,7 +117,7 @@ impl<
             greater(params.need, body.need) + 1,
         )
     }
-    /// What stands behind the parameters of a closure, from its `->` on.
+    /// Parses a closure with a return type, from its `->` on.
     #[inline(never)]
     fn typed_closure(
         &self,

@@ -1,6 +1,6 @@
 //! Made by scripts/rust.sh from crates/lay_read_blocks/src/front.rt, which is proved: change that.
 //!
-//! What begins an item among statements, and what is passed over.
+//! Lookahead: whether an item comes next among statements.
 use crate::generated::lay_read_tokens::Ahead;
 use crate::generated::lay_read_tokens::front::{
     is_at_keyword,
@@ -12,13 +12,13 @@ use crate::generated::lay_read_tokens::front::{
 };
 use crate::generated::lay_read_tokens::names::is_at_name;
 use crate::generated::lay_token::Delim;
-/// Passes any number of `;`.
+/// Moves past any number of `;`.
 pub(crate) fn pass_semicolons(at: &mut Ahead<'_>) {
     while is_at_mark(at, b";") {
         pass(at);
     }
 }
-/// Whether a word that begins an item wherever it stands is at the front.
+/// Whether a keyword comes next that begins an item wherever it stands.
 fn is_at_item_word(at: &Ahead<'_>) -> bool {
     is_at_keyword(at, b"pub") || is_at_keyword(at, b"use") || is_at_keyword(at, b"mod")
         || is_at_keyword(at, b"struct") || is_at_keyword(at, b"enum")
@@ -26,14 +26,14 @@ fn is_at_item_word(at: &Ahead<'_>) -> bool {
         || is_at_keyword(at, b"impl") || is_at_keyword(at, b"fn")
         || is_at_keyword(at, b"static") || is_at_keyword(at, b"extern")
 }
-/// Whether `const` or `unsafe` stands at the front, and no `{` behind it.
+/// Whether `const` or `unsafe` comes next, and no `{` after it.
 fn begins_const_item(at: &Ahead<'_>) -> bool {
     let mut behind = at.fork();
     pass(&mut behind);
     (is_at_keyword(at, b"const") || is_at_keyword(at, b"unsafe"))
         && !is_at_opened(&behind, Delim::Brace)
 }
-/// Whether `async` stands at the front, and what goes on with a function behind it.
+/// Whether `async` comes next, and then what goes on with a function.
 fn begins_async_fn(at: &Ahead<'_>) -> bool {
     let mut behind = at.fork();
     pass(&mut behind);
@@ -41,17 +41,17 @@ fn begins_async_fn(at: &Ahead<'_>) -> bool {
         && (is_at_keyword(&behind, b"fn") || is_at_keyword(&behind, b"unsafe")
             || is_at_keyword(&behind, b"extern"))
 }
-/// Whether an item begins at the front, and no expression. A macro call is an expression.
+/// Whether an item comes next and no expression. (A macro call counts as an expression.)
 pub fn begins_item(at: &Ahead<'_>) -> bool {
     is_at_item_word(at) || begins_const_item(at) || begins_async_fn(at)
         || begins_union(at) || begins_rules(at)
 }
-/// Whether a union begins at the front: `union` before a name.
+/// Whether a union comes next: `union` before a name.
 pub fn begins_union(at: &Ahead<'_>) -> bool {
     let mut behind = at.fork();
     takes_keyword(&mut behind, b"union") && is_at_name(&behind)
 }
-/// Whether a macro is declared at the front: `macro_rules` before a `!` and a name.
+/// Whether a macro definition comes next: `macro_rules` before a `!` and a name.
 pub fn begins_rules(at: &Ahead<'_>) -> bool {
     let mut behind = at.fork();
     takes_keyword(&mut behind, b"macro_rules") && takes_op(&mut behind, b"!")

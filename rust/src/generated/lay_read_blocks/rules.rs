@@ -1,16 +1,16 @@
 //! Made by scripts/rust.sh from crates/lay_read_blocks/src/rules.rt, which is proved: change that.
 //!
-//! The rules of blocks of a level, and how what is one level deeper is read.
+//! The rules of blocks of one level, over the readers of the next deeper level.
 use crate::generated::lay_code::{Block, Boxed, Expr, Item, Place, Site};
 use crate::generated::lay_ops::places::FREE;
 use crate::generated::lay_read_tokens::front::takes_op;
 use crate::generated::lay_read_tokens::{Ahead, Found, ReadNone};
 use crate::shims::Global;
-/// The rules of blocks of a level, over the readers of what is one level deeper: of expressions, at a place, of blocks
-/// behind an `else`, and of items, at a site.
+/// The rules of blocks of one level, over the readers of the next deeper level: of expressions at a
+/// place, of blocks after an `else`, and of items at a site.
 pub struct BlockRules<P, B, I> {
     pub alloc: Global,
-    /// At this depth what is one level deeper is read.
+    /// The depth limit of the next deeper level.
     pub depth: u32,
     pub exprs: P,
     pub blocks: B,
@@ -21,7 +21,7 @@ impl<
     B: Fn(Global, &mut Ahead<'_>, u32) -> Result<Found<Block>, ReadNone>,
     I: Fn(Global, &mut Ahead<'_>, Site, u32) -> Result<Found<Item>, ReadNone>,
 > BlockRules<P, B, I> {
-    /// An expression one level deeper, in its box.
+    /// Parses an expression of the next deeper level, and boxes it.
     #[inline(never)]
     pub fn expr(
         &self,
@@ -30,7 +30,7 @@ impl<
     ) -> Result<Found<Boxed<Expr>>, ReadNone> {
         (self.exprs)(self.alloc, at, place, self.depth)
     }
-    /// A value behind an `=`, if one stands there.
+    /// Parses a value after an `=`, if one comes next.
     pub fn value_if(
         &self,
         at: &mut Ahead<'_>,

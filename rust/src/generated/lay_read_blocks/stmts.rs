@@ -1,6 +1,6 @@
 //! Made by scripts/rust.sh from crates/lay_read_blocks/src/stmts.rt, which is proved: change that.
 //!
-//! Statements.
+//! Parsing of statements.
 use crate::generated::lay_read_blocks::front::begins_item;
 use crate::generated::lay_read_blocks::rules::BlockRules;
 use crate::generated::lay_code::{
@@ -29,7 +29,7 @@ use crate::generated::lay_read_tokens::stop::boxed;
 use crate::generated::lay_read_tokens::{Ahead, Found, ReadNone};
 use crate::generated::lay_token::List;
 use crate::shims::Global;
-/// Whether an `else` may stand behind this value, if one stands there.
+/// Whether an `else` may stand after this value, if there is an `else`.
 fn else_stands(value: &Option<Boxed<Expr>>, otherwise: bool) -> bool {
     if !otherwise {
         return true;
@@ -39,7 +39,7 @@ fn else_stands(value: &Option<Boxed<Expr>>, otherwise: bool) -> bool {
         None => false,
     }
 }
-/// The pattern behind `let`, and its type if it has one.
+/// Parses the pattern of a `let`, and its type if it has one.
 #[inline(never)]
 fn let_head(
     alloc: Global,
@@ -50,8 +50,8 @@ fn let_head(
     let (pat, ty) = both(pat, type_if(alloc, at, b":", depth))?;
     Ok(Found { need: greater(pat.need, ty.need), node: (pat.node, ty.node) })
 }
-/// A `let` of what was read up to its type and behind that. They are put together in a call of its own, so that no room for the
-/// moves is held while the value is read.
+/// A `let` statement of its parts. It is a function of its own, so that the caller's frame has no
+/// room for these moves while the value is read.
 #[inline(never)]
 fn let_of(
     attrs: List<Attr>,
@@ -73,7 +73,7 @@ impl<
     B: Fn(Global, &mut Ahead<'_>, u32) -> Result<Found<Block>, ReadNone>,
     I: Fn(Global, &mut Ahead<'_>, Site, u32) -> Result<Found<Item>, ReadNone>,
 > BlockRules<P, B, I> {
-    /// A statement.
+    /// Parses a statement.
     #[inline(always)]
     pub fn stmt_by(&self, at: &mut Ahead<'_>) -> Result<Found<Stmt>, ReadNone> {
         let begun = at.fork();
@@ -87,7 +87,7 @@ impl<
         *at = begun;
         self.item_stmt(at)
     }
-    /// An item, which is no macro call.
+    /// Parses an item, which is no macro call.
     #[inline(never)]
     fn item_stmt(&self, at: &mut Ahead<'_>) -> Result<Found<Stmt>, ReadNone> {
         let found = (self.items)(self.alloc, at, Site::Module, self.depth)?;
@@ -97,7 +97,7 @@ impl<
         let item = boxed(self.alloc, found.node)?;
         Ok(Found { node: Stmt::Item { item }, need: found.need })
     }
-    /// An expression, and its `;` if it has one.
+    /// Parses an expression, and its `;` if it has one.
     #[inline(never)]
     fn expr_stmt(
         &self,
@@ -113,7 +113,7 @@ impl<
             },
         )
     }
-    /// What stands behind `let`.
+    /// Parses a `let` statement after its `let`.
     #[inline(never)]
     fn let_stmt(
         &self,
@@ -128,8 +128,8 @@ impl<
             Err(none) => Err(none),
         }
     }
-    /// What stands behind the pattern of a `let`, and its type if it has one: a value and a block behind an `else`, if they
-    /// stand there, and a `;`.
+    /// Parses a `let` statement after its pattern and type: a value and an `else` with its block,
+    /// if they come next, and a `;`.
     #[inline(never)]
     fn let_behind(
         &self,
@@ -147,7 +147,7 @@ impl<
             },
         )
     }
-    /// The block behind an `else`, if one stands there.
+    /// Parses the block after an `else`, if one comes next.
     #[inline(never)]
     fn else_if(&self, at: &mut Ahead<'_>) -> Result<Found<Option<Block>>, ReadNone> {
         if !takes_keyword(at, b"else") {

@@ -1,6 +1,6 @@
 //! Made by scripts/rust.sh from crates/lay_read_branches/src/branches.rt, which is proved: change that.
 //!
-//! Branches, and the expressions with conditions.
+//! Parsing of branches, and of the expressions with conditions.
 use crate::generated::lay_read_branches::rules::BranchRules;
 use crate::generated::lay_code::{
     Block,
@@ -24,11 +24,11 @@ use crate::generated::lay_read_tokens::front::{pass_two, takes_keyword, takes_op
 use crate::generated::lay_read_tokens::{Ahead, Found, ReadNone};
 use crate::generated::lay_token::List;
 use crate::shims::Global;
-/// Branches behind `else if`, as parts that stand one behind another.
+/// Branches after `else if` as consecutive parts.
 pub struct Branches;
 impl Part<Branch, ()> for Branches {}
-/// A branch and those behind it, in one list. They are put together in a call of its own, so that no room for the moves is held
-/// while branches are read.
+/// A branch and those after it, in one list. It is a function of its own, so that the caller's
+/// frame has no room for these moves while branches are read.
 #[inline(never)]
 fn branches_of(
     first: Found<Branch>,
@@ -45,7 +45,7 @@ impl<
     B: Fn(Global, &mut Ahead<'_>, u32) -> Result<Found<Block>, ReadNone>,
     I: Fn(Global, &mut Ahead<'_>, Site, u32) -> Result<Found<Item>, ReadNone>,
 > BranchRules<P, B, I> {
-    /// What stands behind an `if`.
+    /// Parses a branch after its `if`.
     #[inline(never)]
     pub fn branch_by(&self, at: &mut Ahead<'_>) -> Result<Found<Branch>, ReadNone> {
         let condition = self.condition_by(at)?;
@@ -57,7 +57,7 @@ impl<
             },
         )
     }
-    /// A branch behind its `else if`.
+    /// Parses a branch after its `else if`.
     #[inline(never)]
     fn else_branch(
         &self,
@@ -67,7 +67,8 @@ impl<
         pass_two(at);
         self.branch_by(at)
     }
-    /// The block behind an `else`, if one stands there. It is as deep as those of the branches.
+    /// Parses the block after an `else`, if one comes next. It counts as many levels as the blocks
+    /// of the branches.
     #[inline(never)]
     fn otherwise(&self, at: &mut Ahead<'_>) -> Result<Found<Option<Block>>, ReadNone> {
         if !takes_keyword(at, b"else") {
@@ -76,7 +77,7 @@ impl<
         let block = self.rules.block_by(at)?;
         Ok(Found { node: Some(block.node), need: block.need })
     }
-    /// What stands behind an `if`, and the branches behind `else if`.
+    /// Parses the first branch after its `if`, and the branches after `else if`.
     #[inline(never)]
     fn branches(&self, at: &mut Ahead<'_>) -> Result<Found<List<Branch>>, ReadNone> {
         match self.branch_by(at) {
@@ -87,7 +88,7 @@ impl<
             Err(none) => Err(none),
         }
     }
-    /// The branches behind `else if`, as long as one begins.
+    /// Parses the branches after `else if`, as long as one begins.
     #[inline(never)]
     fn else_branches(
         &self,
@@ -109,7 +110,7 @@ impl<
             (),
         )
     }
-    /// What stands behind an `if`, with all its branches.
+    /// Parses an `if` with all its branches, after the word `if`.
     #[inline(never)]
     pub fn if_expr(&self, at: &mut Ahead<'_>) -> Result<Found<Boxed<Expr>>, ReadNone> {
         let branches = self.branches(at)?;
@@ -120,7 +121,7 @@ impl<
             greater(branches.need, otherwise.need) + 1,
         )
     }
-    /// What stands behind `while`.
+    /// Parses a `while` loop after its `while`.
     #[inline(never)]
     pub fn while_expr(
         &self,
@@ -132,7 +133,7 @@ impl<
         let (condition, body) = node.into_parts();
         boxed_found(self.rules.alloc, Expr::While { label, condition, body }, need + 1)
     }
-    /// What stands behind `for`.
+    /// Parses a `for` loop after its `for`.
     #[inline(never)]
     pub fn for_expr(
         &self,

@@ -1,9 +1,9 @@
 //! Made by scripts/rust.sh from crates/lay_read_branches/src/conditions.rt, which is proved: change that.
 //!
-//! Conditions: links with `&&` between them.
+//! Parsing of conditions: links with `&&` between them.
 //!
-//! Links are read one by one. Where none of them is a `let`, they are the first operands of an expression, and the operators
-//! behind them are read from their level on.
+//! Links are read one by one. If none of them is a `let`, they are the first operands of one
+//! expression; then the operators that follow are read from the precedence level of `&&` on.
 use crate::generated::lay_read_branches::rules::BranchRules;
 use crate::generated::lay_code::{
     Block,
@@ -33,14 +33,14 @@ use crate::generated::lay_read_tokens::stop::{keep, room_for};
 use crate::generated::lay_read_tokens::{Ahead, Found, ReadNone};
 use crate::generated::lay_token::List;
 use crate::shims::Global;
-/// Links behind an `&&`, as parts that stand one behind another.
+/// Links after an `&&` as consecutive parts.
 pub struct Links;
 impl Part<(Option<Pat>, Boxed<Expr>), ()> for Links {}
-/// Whether a range without a start begins at the front.
+/// Whether a range without a start comes next.
 fn begins_dots(at: &Ahead<'_>) -> bool {
     at.op_is(b"..") || at.op_is(b"..=")
 }
-/// Whether a link may end where the tokens ahead stand.
+/// Whether a link may end before the next tokens.
 fn link_ends(at: &Ahead<'_>, expr: &Expr) -> bool {
     strength(at) != 4 || stands(expr, link_place(true))
 }
@@ -53,7 +53,7 @@ fn has_let(links: &[(Option<Pat>, Boxed<Expr>)]) -> bool {
     }
     false
 }
-/// A link of the pattern behind its `let`, if it has one, and of its expression.
+/// The link of an expression, with a pattern if it is a `let`.
 fn linked(read: (Option<Pat>, Boxed<Expr>)) -> Link {
     let (pat, expr) = read;
     match pat {
@@ -61,7 +61,7 @@ fn linked(read: (Option<Pat>, Boxed<Expr>)) -> Link {
         None => Link::Expr { expr },
     }
 }
-/// The condition of these links.
+/// The condition that consists of these links.
 #[inline(never)]
 fn condition_of(
     alloc: Global,
@@ -75,7 +75,8 @@ fn condition_of(
     }
     Ok(Condition { links })
 }
-/// The expressions of links without a `let`, each with the `&&` before it.
+/// The expressions of links without a `let`, each with the `&&` before it, as the operands of a
+/// chain.
 fn operands_of(
     alloc: Global,
     links: List<(Option<Pat>, Boxed<Expr>)>,
@@ -104,7 +105,7 @@ fn chain_of(
     let rest = operands_of(alloc, links)?;
     boxed_found(alloc, Expr::Chain { first: expr, rest }, need)
 }
-/// An expression that was read, as a condition by itself.
+/// The condition that consists of this expression.
 #[inline(never)]
 fn alone(
     alloc: Global,
@@ -121,7 +122,7 @@ impl<
     B: Fn(Global, &mut Ahead<'_>, u32) -> Result<Found<Block>, ReadNone>,
     I: Fn(Global, &mut Ahead<'_>, Site, u32) -> Result<Found<Item>, ReadNone>,
 > BranchRules<P, B, I> {
-    /// What stands behind the `let` of a link.
+    /// Parses a link of a condition after its `let`.
     #[inline(never)]
     fn let_link(
         &self,
@@ -144,7 +145,7 @@ impl<
             },
         )
     }
-    /// A link, whatever follows it.
+    /// Parses a link of a condition, whatever follows it.
     #[inline(never)]
     fn link_by(
         &self,
@@ -156,7 +157,7 @@ impl<
         let found = self.rules.expr(at, plain(4, true))?;
         Ok(Found { need: found.need, node: (None, found.node) })
     }
-    /// A link.
+    /// Parses a link.
     #[inline(never)]
     fn one_link(
         &self,
@@ -168,7 +169,7 @@ impl<
         }
         Ok(link)
     }
-    /// A link and the `&&` before it.
+    /// Parses a link and the `&&` before it.
     #[inline(never)]
     fn further_link(
         &self,
@@ -178,7 +179,7 @@ impl<
         pass_two(at);
         self.one_link(at)
     }
-    /// The links that follow the first one, each behind an `&&`.
+    /// Parses the links that follow the first one, each after an `&&`.
     #[inline(never)]
     fn further_links(
         &self,
@@ -200,8 +201,8 @@ impl<
             (),
         )
     }
-    /// What goes on with the first operands of an expression, whose level is that of an `&&`. Further operands are read one level
-    /// deeper than these, as those of every expression are.
+    /// Parses the operators after links that are the operands of `&&`. Further operands are parsed
+    /// at the next deeper level, as those of every expression.
     #[inline(never)]
     fn goes_on(
         &self,
@@ -218,7 +219,7 @@ impl<
         };
         rules.climb(at, plain(0, true), 3, lhs)
     }
-    /// The condition that these links are, or that begins with them.
+    /// Parses the condition that consists of these links, or begins with them.
     #[inline(never)]
     fn condition_found(
         &self,
@@ -236,7 +237,7 @@ impl<
             Err(none) => Err(none),
         }
     }
-    /// The condition whose first link this is.
+    /// Parses the condition that begins with this link.
     #[inline(never)]
     fn condition_behind(
         &self,
@@ -246,7 +247,7 @@ impl<
         let (first, more) = both(first, self.further_links(at))?;
         self.condition_found(at, first, more)
     }
-    /// A condition.
+    /// Parses a condition.
     #[inline(never)]
     pub fn condition_by(
         &self,

@@ -1,6 +1,7 @@
 //! Made by scripts/rust.sh from crates/lay_read_branches/src/heads.rt, which is proved: change that.
 //!
-//! What begins with a block, with a word before one, with a label, or as a closure does.
+//! Parsing of expressions that begin with a block, with a word before one, or with a label, and of
+//! closures.
 use crate::generated::lay_read_branches::rules::BranchRules;
 use crate::generated::lay_code::{Block, Boxed, Expr, Item, Lifetime, Place, Site};
 use crate::generated::lay_ops::operands::ExprLead;
@@ -23,8 +24,8 @@ impl<
     B: Fn(Global, &mut Ahead<'_>, u32) -> Result<Found<Block>, ReadNone>,
     I: Fn(Global, &mut Ahead<'_>, Site, u32) -> Result<Found<Item>, ReadNone>,
 > BranchRules<P, B, I> {
-    /// What begins an expression that holds blocks, or a closure, told from what the first token begins, unless it is deeper
-    /// than may be.
+    /// Parses an expression that contains a block, or a closure, by its first token, unless it is
+    /// nested too deep.
     #[inline(never)]
     pub fn block_head(
         &self,
@@ -40,7 +41,7 @@ impl<
             _ => Err(ReadNone::NoReading),
         }
     }
-    /// A block or a loop behind its label.
+    /// Parses a block or a loop after its label.
     #[inline(never)]
     fn label_expr(&self, at: &mut Ahead<'_>) -> Result<Found<Boxed<Expr>>, ReadNone> {
         let label = read_lifetime(self.rules.alloc, at)?;
@@ -49,7 +50,7 @@ impl<
         }
         self.labelled_expr(at, Some(label))
     }
-    /// A block or a loop, behind its label if it has one.
+    /// Parses a block or a loop, after its label if it has one.
     #[inline(never)]
     fn labelled_expr(
         &self,
@@ -80,7 +81,7 @@ impl<
         }
         refused(label)
     }
-    /// What begins with a word of an expression that holds a block.
+    /// Parses an expression that contains a block and begins with a word.
     #[inline(never)]
     fn block_word_expr(
         &self,
@@ -92,7 +93,7 @@ impl<
         }
         self.worded(at)
     }
-    /// A block behind its `unsafe`, `const` or `async`.
+    /// Parses a block after its `unsafe`, `const` or `async`.
     #[inline(never)]
     fn worded_block(&self, at: &mut Ahead<'_>) -> Result<Found<Boxed<Expr>>, ReadNone> {
         if takes_keyword(at, b"unsafe") {
@@ -122,7 +123,7 @@ impl<
         }
         Err(ReadNone::NoReading)
     }
-    /// What begins with `if` or `match`, or is a loop.
+    /// Parses an `if`, a `match` or a loop.
     #[inline(always)]
     fn worded(&self, at: &mut Ahead<'_>) -> Result<Found<Boxed<Expr>>, ReadNone> {
         if takes_keyword(at, b"if") {

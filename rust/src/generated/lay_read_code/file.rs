@@ -1,20 +1,20 @@
 //! Made by scripts/rust.sh from crates/lay_read_code/src/file.rt, which is proved: change that.
 //!
-//! Files.
+//! Parsing of files.
 use crate::generated::lay_read_code::knot::item_ahead;
 use crate::generated::lay_code::{Attr, File, Item, Site};
 use crate::generated::lay_nest::{Cursor, Nested};
 use crate::generated::lay_read_tokens::{Ahead, ReadNone, read_attr};
 use crate::generated::lay_token::{FormatError, List, NoMemory, Refusal, Text};
 use crate::shims::Global;
-/// The one file that the tokens spell behind this shebang, or the refusal where they spell none: at the token before
-/// which the longest run of inner attributes and then items ends.
+/// Parses a file with this shebang line. If the tokens spell no file, the syntax error is at the
+/// token before which the longest run of inner attributes and then items ends.
 ///
-/// The items of the file stand at the depth, and those within another item one lower; at 0 none is read. So no more of the
-/// stack is taken than a file of this depth needs.
+/// The items of the file fit in `depth` levels, and items within an item in one fewer; with 0
+/// levels none is read. So a file needs no more stack than this depth takes.
 ///
-/// The tokens are those that some text lexes to, and the shebang, if there is one, is given back whole where it
-/// stands alone as the first line.
+/// The tokens are those that some text lexes to. The shebang line, if there is one, is a whole
+/// first line.
 pub fn read_file(
     alloc: Global,
     nested: &Nested,
@@ -34,7 +34,7 @@ pub fn read_file(
         Err(NoMemory) => Err(FormatError::NoMemory),
     }
 }
-/// Inner attributes and then items, one by one, as long as they are read.
+/// Parses inner attributes and then items, as many as there are.
 fn read_front(
     alloc: Global,
     at: &mut Cursor<'_>,
@@ -46,7 +46,7 @@ fn read_front(
     *at = ahead.into_cursor();
     Ok((attrs, items))
 }
-/// Inner attributes, as long as one is read.
+/// Parses inner attributes, as many as there are.
 fn inner_attrs(alloc: Global, at: &mut Cursor<'_>) -> Result<List<Attr>, NoMemory> {
     let mut attrs = List::new(alloc);
     while let Some(attr) = next_attr(alloc, at)? {
@@ -54,7 +54,7 @@ fn inner_attrs(alloc: Global, at: &mut Cursor<'_>) -> Result<List<Attr>, NoMemor
     }
     Ok(attrs)
 }
-/// The inner attribute at the front, or none. Where there is none the cursor stays.
+/// Parses the next inner attribute, or gives `None`; then the cursor doesn't move.
 fn next_attr(alloc: Global, at: &mut Cursor<'_>) -> Result<Option<Attr>, NoMemory> {
     match read_attr(alloc, at, true) {
         Ok(attr) => Ok(Some(attr)),
@@ -62,7 +62,7 @@ fn next_attr(alloc: Global, at: &mut Cursor<'_>) -> Result<Option<Attr>, NoMemor
         Err(ReadNone::NoMemory) => Err(NoMemory),
     }
 }
-/// Items of a file, as long as one is read.
+/// Parses items of a file, as many as there are.
 fn top_items(
     alloc: Global,
     at: &mut Ahead<'_>,
@@ -74,7 +74,7 @@ fn top_items(
     }
     Ok(items)
 }
-/// The item of a file at the front, or none. Where there is none the place stays.
+/// Parses the next item of a file, or gives `None`; then the cursor doesn't move.
 fn next_item(
     alloc: Global,
     at: &mut Ahead<'_>,
@@ -90,7 +90,7 @@ fn next_item(
         Err(ReadNone::NoMemory) => Err(NoMemory),
     }
 }
-/// Adds a node at the end.
+/// Appends a node.
 fn hold<T>(list: &mut List<T>, node: T) -> Result<(), NoMemory> {
     match list.push(node) {
         Ok(()) => Ok(()),

@@ -1,6 +1,6 @@
 //! Made by scripts/rust.sh from crates/lay_read_code/src/knot.rt, which is proved: change that.
 //!
-//! The knot of expressions, blocks and items, each read over what is one level deeper.
+//! The recursion: expressions, blocks and items, within a depth limit.
 use crate::generated::lay_code::{
     Attr,
     Block,
@@ -39,7 +39,8 @@ use crate::generated::lay_read_tokens::stop::{boxed, keep};
 use crate::generated::lay_read_tokens::{Ahead, Found, ReadNone};
 use crate::generated::lay_token::{Delim, List};
 use crate::shims::Global;
-/// An expression at its place, within a depth. Recursion goes one level deeper alone.
+/// Parses an expression at its place, within `depth` levels. Each recursive call has one level
+/// less.
 #[inline(never)]
 pub fn expr_ahead(
     alloc: Global,
@@ -61,7 +62,8 @@ pub fn expr_ahead(
     let heads = BranchRules { rules: blocks };
     Climber { rules, heads }.expr_by(at, place)
 }
-/// A block behind an `else`, within a depth. It stands one level deeper than what is around it.
+/// Parses a block after an `else`, within `depth` levels. It counts one level more than what is
+/// around it.
 #[inline(never)]
 pub fn block_ahead(
     alloc: Global,
@@ -80,7 +82,7 @@ pub fn block_ahead(
     };
     rules.deeper_block(at)
 }
-/// Items at their site within a depth, up to where they end.
+/// Parses items at their site, within `depth` levels, up to the `}` or the end.
 #[inline(never)]
 pub fn read_items(
     alloc: Global,
@@ -97,7 +99,8 @@ pub fn read_items(
     }
     Ok(Found { node: items, need })
 }
-/// An item at its site within a depth, with its attributes and its visibility. A macro has none.
+/// Parses an item at its site, within `depth` levels, with its attributes and its visibility. Macro
+/// calls and definitions have no visibility.
 #[inline(never)]
 pub fn item_ahead(
     alloc: Global,
@@ -117,8 +120,8 @@ pub fn item_ahead(
         keeps,
     )
 }
-/// What an item is at its site: what it begins with, and then its body, if it has one. What is within it stands within
-/// the depth.
+/// Parses an item at its site without its attributes and visibility: its head, and then its body,
+/// if it has one. What it contains fits in `depth` levels.
 #[inline(never)]
 fn read_kind(
     alloc: Global,
@@ -149,7 +152,7 @@ fn read_kind(
         }
     }
 }
-/// An item that was made, in a box.
+/// Boxes the kind of an item, if it was made.
 fn boxed_kind(
     alloc: Global,
     made: Result<Found<ItemKind>, ReadNone>,
@@ -158,8 +161,9 @@ fn boxed_kind(
     let node = boxed(alloc, kind.node)?;
     Ok(Found { node, need: kind.need })
 }
-/// An item with what was read in its braces, in a box. This and the next two put it together in a call of their own, so that no room
-/// for the moves is held while the body is read.
+/// Puts an item together with the content of its braces, and boxes it. This function and the next
+/// two are functions of their own, so that the caller's frame has no room for these moves while the
+/// body is read.
 #[inline(never)]
 fn items_kind(
     alloc: Global,
@@ -178,7 +182,7 @@ fn items_kind(
         ),
     )
 }
-/// A function with what was read of its body, in a box.
+/// Puts a function together with its body, if it has one, and boxes it.
 #[inline(never)]
 fn block_kind(
     alloc: Global,
@@ -189,7 +193,7 @@ fn block_kind(
     let (begun, body) = both(begun, body)?;
     boxed_kind(alloc, with_block(begun, site, body))
 }
-/// A constant or a static with what was read of its value, in a box.
+/// Puts a constant or a static together with its value, if it has one, and boxes it.
 #[inline(never)]
 fn value_kind(
     alloc: Global,
@@ -200,7 +204,8 @@ fn value_kind(
     let (begun, value) = both(begun, value)?;
     boxed_kind(alloc, with_value(begun, site, value))
 }
-/// The body of a function, or the `;` where it has none. What is within it stands within the depth.
+/// Parses the body of a function, or the `;` where it has none. What it contains fits in `depth`
+/// levels.
 #[inline(never)]
 fn read_block_if(
     alloc: Global,
@@ -216,7 +221,8 @@ fn read_block_if(
     };
     rules.fn_body(at)
 }
-/// The value of a constant or a static, if it has one, and the `;` behind it. The value stands within the depth.
+/// Parses the value of a constant or a static, if it has one, and the `;` after it. The value fits
+/// in `depth` levels.
 #[inline(never)]
 fn read_value_if(
     alloc: Global,
@@ -234,7 +240,7 @@ fn read_value_if(
     let keeps = takes_mark(at, b";");
     kept_if(value, keeps)
 }
-/// Inner attributes and items at their site, in braces. The items stand within the depth.
+/// Parses inner attributes and items at their site, in braces. The items fit in `depth` levels.
 #[inline(never)]
 fn read_body(
     alloc: Global,
@@ -254,11 +260,11 @@ fn read_body(
 fn may_have(kind: &ItemKind, vis: &Vis) -> bool {
     has_head(kind) || is_inherited(vis)
 }
-/// Whether an item has a head: it is no macro call, and declares no macro.
+/// Whether an item has a head: it is no macro call and no macro definition.
 fn has_head(kind: &ItemKind) -> bool {
     !matches!(kind, ItemKind::MacroRules { .. } | ItemKind::Call { .. })
 }
-/// Whether nothing is said of who may name an item.
+/// Whether no visibility is written.
 fn is_inherited(vis: &Vis) -> bool {
     matches!(vis, Vis::Inherited)
 }

@@ -1,13 +1,14 @@
 //! Made by scripts/rust.sh from crates/lay_read_code/src/reads.rt, which is proved: change that.
 //!
-//! What stands at the front of the tokens of a text.
+//! The public readers of expressions, items, blocks, statements and arms.
 use crate::generated::lay_read_code::knot::{block_ahead, expr_ahead, item_ahead};
 use crate::generated::lay_code::{Arm, Block, Expr, Item, Place, Site, Stmt};
 use crate::generated::lay_nest::Cursor;
 use crate::generated::lay_read_blocks::BlockRules;
 use crate::generated::lay_read_tokens::{Ahead, Found, ReadNone};
 use crate::shims::Global;
-/// The expression at the front, at its place and within the depth. Where there is none the cursor stays.
+/// Parses the next expression, at its place and within `depth` levels. On an error the cursor
+/// doesn't move.
 pub fn read_expr(
     alloc: Global,
     at: &mut Cursor<'_>,
@@ -19,7 +20,8 @@ pub fn read_expr(
     *at = ahead.into_cursor();
     Ok(found.node.into_inner())
 }
-/// The item at the front, at its site and within the depth. Where there is none the cursor stays.
+/// Parses the next item, at its site and within `depth` levels. On an error the cursor doesn't
+/// move.
 pub fn read_item(
     alloc: Global,
     at: &mut Cursor<'_>,
@@ -31,8 +33,8 @@ pub fn read_item(
     *at = ahead.into_cursor();
     Ok(found.node)
 }
-/// The block at the front, within the depth. What is within it stands one level deeper. Where there is none the cursor
-/// stays.
+/// Parses the next block, within `depth` levels, of which it takes one. On an error the cursor
+/// doesn't move.
 pub fn read_block(
     alloc: Global,
     at: &mut Cursor<'_>,
@@ -43,8 +45,9 @@ pub fn read_block(
     *at = ahead.into_cursor();
     Ok(found.node)
 }
-/// The statement at the front, within the depth. What is within it stands one level deeper. An expression without a `;` that
-/// neither is block-like nor a macro call in braces is one only where no token follows. Where there is none the cursor stays.
+/// Parses the next statement, within `depth` levels, of which it takes one. An expression without a
+/// `;` counts as a statement only if no token follows, or if it is block-like or a macro call in
+/// braces. On an error the cursor doesn't move.
 pub fn read_stmt(
     alloc: Global,
     at: &mut Cursor<'_>,
@@ -55,8 +58,9 @@ pub fn read_stmt(
     *at = ahead.into_cursor();
     Ok(found.node)
 }
-/// The arm of a match at the front, within the depth. What is within it stands one level deeper. A comma behind it is its own;
-/// it may lack that where its body lets it, and where no token follows. Where there is none the cursor stays.
+/// Parses the next arm of a match, within `depth` levels, of which it takes one. A comma that
+/// follows belongs to it; the comma may be left out if its body allows that, or if no token
+/// follows. On an error the cursor doesn't move.
 pub fn read_arm(
     alloc: Global,
     at: &mut Cursor<'_>,
@@ -67,7 +71,7 @@ pub fn read_arm(
     *at = ahead.into_cursor();
     Ok(found.node)
 }
-/// A statement by itself, within a depth.
+/// Parses a statement that stands alone, within `depth` levels.
 fn stmt_ahead(
     alloc: Global,
     at: &mut Ahead<'_>,
@@ -85,7 +89,7 @@ fn stmt_ahead(
     };
     rules.deeper_stmt(at)
 }
-/// An arm by itself, within a depth.
+/// Parses an arm that stands alone, within `depth` levels.
 fn arm_ahead(
     alloc: Global,
     at: &mut Ahead<'_>,

@@ -1,6 +1,6 @@
 //! Made by scripts/rust.sh from crates/lay_read_exprs/src/groups.rt, which is proved: change that.
 //!
-//! Expressions in delimiters.
+//! Parsing of expressions in delimiters.
 use crate::generated::lay_read_exprs::climber::Climber;
 use crate::generated::lay_code::{Boxed, Expr, Place};
 use crate::generated::lay_ops::places::FREE;
@@ -12,7 +12,7 @@ use crate::generated::lay_read_tokens::tokens::read_tokens;
 use crate::generated::lay_read_tokens::{Ahead, Found, ReadNone};
 use crate::generated::lay_token::{Delim, List};
 use crate::shims::Global;
-/// How often an expression stands in an array, behind the `;`.
+/// The rest of an array `[a; n]` after its `;`.
 fn repeat_by(
     alloc: Global,
     at: &mut Ahead<'_>,
@@ -28,7 +28,7 @@ impl<
     P: Fn(Global, &mut Ahead<'_>, Place, u32) -> Result<Found<Boxed<Expr>>, ReadNone>,
     H,
 > Climber<P, H> {
-    /// What stands behind a `(`.
+    /// Parses an expression after its `(`.
     #[inline(never)]
     pub fn paren_expr(
         &self,
@@ -44,7 +44,7 @@ impl<
         let first = self.rules.inner(at, FREE)?;
         self.paren_by(at, first)
     }
-    /// What stands behind a `(` and an expression.
+    /// Parses an expression after its `(` and the first expression in it.
     #[inline(never)]
     fn paren_by(
         &self,
@@ -69,7 +69,7 @@ impl<
             greater(first.need, more.need) + 1,
         )
     }
-    /// What stands behind a `[`.
+    /// Parses an array after its `[`.
     #[inline(never)]
     pub fn bracket_expr(
         &self,
@@ -87,7 +87,7 @@ impl<
             self.array_by(at, first)
         }
     }
-    /// What stands behind a `[` and an expression, where it is no `;`.
+    /// Parses an array after its `[` and the first element, if no `;` follows.
     #[inline(never)]
     fn array_by(
         &self,

@@ -1,6 +1,6 @@
 //! Made by scripts/rust.sh from crates/lay_read_exprs/src/head.rt, which is proved: change that.
 //!
-//! What begins an expression.
+//! Parsing of operands, by their first token.
 use crate::generated::lay_read_exprs::climber::Climber;
 use crate::generated::lay_code::{Boxed, Expr, Place};
 use crate::generated::lay_ops::ahead::expr_lead_at;
@@ -12,7 +12,7 @@ use crate::generated::lay_read_shared::boxes::boxed_found;
 use crate::generated::lay_read_tokens::front::pass;
 use crate::generated::lay_read_tokens::{Ahead, Found, ReadNone};
 use crate::shims::Global;
-/// A literal.
+/// Parses a literal.
 fn literal_expr(
     alloc: Global,
     at: &mut Ahead<'_>,
@@ -25,7 +25,8 @@ impl<
     P: Fn(Global, &mut Ahead<'_>, Place, u32) -> Result<Found<Boxed<Expr>>, ReadNone>,
     H: BlockHeads,
 > Climber<P, H> {
-    /// What begins an expression, without the operators behind it, unless it is deeper than may be.
+    /// Parses an operand with its prefix operators, without any operators after it, unless it is
+    /// nested too deep.
     #[inline(never)]
     pub fn head(
         &self,
@@ -37,7 +38,7 @@ impl<
             None => Err(ReadNone::NoReading),
         }
     }
-    /// The same, told from what the first token begins.
+    /// Parses an operand by its first token.
     #[inline(never)]
     fn head_by(
         &self,

@@ -1,6 +1,6 @@
 //! Made by scripts/rust.sh from crates/lay_read_exprs/src/jumps.rt, which is proved: change that.
 //!
-//! What stands behind `continue`, `break` and `return`.
+//! Parsing of `continue`, `break` and `return`.
 use crate::generated::lay_read_exprs::climber::Climber;
 use crate::generated::lay_code::{Boxed, Expr, Place};
 use crate::generated::lay_read_parts::joins::both;
@@ -8,7 +8,7 @@ use crate::generated::lay_read_parts::parts::read_lifetime_if;
 use crate::generated::lay_read_shared::boxes::boxed_found;
 use crate::generated::lay_read_tokens::{Ahead, Found, ReadNone};
 use crate::shims::Global;
-/// What stands behind `continue`.
+/// Parses a `continue` after that word.
 pub fn continue_expr(
     alloc: Global,
     at: &mut Ahead<'_>,
@@ -20,7 +20,7 @@ impl<
     P: Fn(Global, &mut Ahead<'_>, Place, u32) -> Result<Found<Boxed<Expr>>, ReadNone>,
     H,
 > Climber<P, H> {
-    /// What stands behind `return`.
+    /// Parses a `return` after that word.
     #[inline(never)]
     pub fn return_expr(
         &self,
@@ -34,7 +34,7 @@ impl<
             found.need + 1,
         )
     }
-    /// What stands behind `break`.
+    /// Parses a `break` after that word.
     #[inline(never)]
     pub fn break_expr(
         &self,

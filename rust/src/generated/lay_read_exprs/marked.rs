@@ -1,6 +1,6 @@
 //! Made by scripts/rust.sh from crates/lay_read_exprs/src/marked.rt, which is proved: change that.
 //!
-//! What begins an expression with a token of its own.
+//! Parsing of operands that begin with a token of their own.
 use crate::generated::lay_read_exprs::climber::Climber;
 use crate::generated::lay_read_exprs::jumps::continue_expr;
 use crate::generated::lay_code::{Boxed, Expr, Place};
@@ -12,7 +12,7 @@ impl<
     P: Fn(Global, &mut Ahead<'_>, Place, u32) -> Result<Found<Boxed<Expr>>, ReadNone>,
     H,
 > Climber<P, H> {
-    /// What begins an expression, behind its first token.
+    /// Parses an operand after its first token.
     #[inline(never)]
     pub fn marked(
         &self,

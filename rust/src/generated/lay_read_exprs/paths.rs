@@ -1,6 +1,6 @@
 //! Made by scripts/rust.sh from crates/lay_read_exprs/src/paths.rt, which is proved: change that.
 //!
-//! What begins with a path.
+//! Parsing of operands that begin with a path.
 use crate::generated::lay_read_exprs::climber::Climber;
 use crate::generated::lay_code::{Boxed, Expr, PathStyle, Place};
 use crate::generated::lay_read_parts::joins::refused;
@@ -12,7 +12,7 @@ use crate::generated::lay_read_types::path_ahead;
 use crate::generated::lay_read_types::types::begins_call;
 use crate::generated::lay_token::Delim;
 use crate::shims::Global;
-/// A macro call that is an expression.
+/// Parses a macro call that is an expression.
 fn call_expr(alloc: Global, at: &mut Ahead<'_>) -> Result<Found<Boxed<Expr>>, ReadNone> {
     let call = call_ahead(alloc, at)?;
     boxed_found(alloc, Expr::Call { call }, 1)
@@ -21,7 +21,7 @@ impl<
     P: Fn(Global, &mut Ahead<'_>, Place, u32) -> Result<Found<Boxed<Expr>>, ReadNone>,
     H,
 > Climber<P, H> {
-    /// A macro call, or what begins with a path.
+    /// Parses a macro call, or an operand that begins with a path.
     #[inline(never)]
     pub fn path_or_call(
         &self,
@@ -32,7 +32,7 @@ impl<
             self.path_expr(at, no_struct)
         }
     }
-    /// A path, and what stands behind it.
+    /// Parses a path or a struct literal.
     #[inline(never)]
     fn path_expr(
         &self,

@@ -1,6 +1,6 @@
 //! Made by scripts/rust.sh from crates/lay_read_exprs/src/prefixes.rt, which is proved: change that.
 //!
-//! Operators before an operand.
+//! Parsing of prefix operators.
 use crate::generated::lay_read_exprs::climber::Climber;
 use crate::generated::lay_code::{Boxed, Expr, Place, Prefix};
 use crate::generated::lay_ops::ahead::prefix;
@@ -13,7 +13,7 @@ use crate::generated::lay_read_tokens::stop::keep;
 use crate::generated::lay_read_tokens::{Ahead, Found, ReadNone};
 use crate::generated::lay_token::List;
 use crate::shims::Global;
-/// Operators before an operand, as long as one stands at the front.
+/// Parses prefix operators, as long as one comes next.
 fn read_prefixes(alloc: Global, at: &mut Ahead<'_>) -> Result<List<Prefix>, ReadNone> {
     let mut prefixes = List::new(alloc);
     while let Some(one) = prefix(at) {
@@ -26,7 +26,7 @@ impl<
     P: Fn(Global, &mut Ahead<'_>, Place, u32) -> Result<Found<Boxed<Expr>>, ReadNone>,
     H,
 > Climber<P, H> {
-    /// Operators, and the operand behind them.
+    /// Parses prefix operators and their operand.
     #[inline(never)]
     pub fn unary_expr(
         &self,

@@ -1,6 +1,6 @@
 //! Made by scripts/rust.sh from crates/lay_read_exprs/src/structs.rt, which is proved: change that.
 //!
-//! Struct literals.
+//! Parsing of struct literals.
 use crate::generated::lay_read_exprs::climber::Climber;
 use crate::generated::lay_code::{Attr, Boxed, Expr, FieldExpr, Name, Path, Place};
 use crate::generated::lay_ops::places::FREE;
@@ -20,14 +20,14 @@ use crate::generated::lay_read_tokens::names::read_name;
 use crate::generated::lay_read_tokens::{Ahead, Found, ReadNone};
 use crate::generated::lay_token::{Delim, List, Text};
 use crate::shims::Global;
-/// Fields, as elements of a struct literal.
+/// Fields as the elements of a struct literal.
 pub struct Fields;
 impl Part<FieldExpr, ()> for Fields {}
 impl<
     P: Fn(Global, &mut Ahead<'_>, Place, u32) -> Result<Found<Boxed<Expr>>, ReadNone>,
     H,
 > Climber<P, H> {
-    /// Fields in braces, behind a path and the `{`.
+    /// Parses fields in braces, after a path and the `{`.
     #[inline(never)]
     pub fn struct_expr(
         &self,
@@ -54,7 +54,8 @@ impl<
         )?;
         self.struct_by(at, path, found)
     }
-    /// What stands behind the fields, of which it is known whether they ended.
+    /// Parses the rest of a struct literal after its fields. The flag that stands with the fields
+    /// says that they ended.
     #[inline(never)]
     fn struct_by(
         &self,
@@ -74,7 +75,7 @@ impl<
             greater(path.need, greater(need, base.need)) + 1,
         )
     }
-    /// A base, if the fields ended and a `..` stands behind them.
+    /// Parses the base of a struct literal, if its fields ended and a `..` follows.
     #[inline(never)]
     fn base(
         &self,
@@ -91,7 +92,7 @@ impl<
         let found = self.rules.inner(at, FREE)?;
         Ok(Found { node: Some(Some(found.node)), need: found.need })
     }
-    /// A field, with its attributes.
+    /// Parses a field, with its attributes.
     #[inline(never)]
     fn one_field(
         &self,
@@ -105,7 +106,7 @@ impl<
             None => self.worded_field(at, attrs),
         }
     }
-    /// A field behind its number and the `:`.
+    /// Parses the value of a field after its tuple index and the `:`.
     #[inline(never)]
     fn numbered_field(
         &self,
@@ -121,7 +122,7 @@ impl<
             },
         )
     }
-    /// A field that is called by its name, behind its attributes.
+    /// Parses a field with a name; its attributes were read.
     #[inline(never)]
     fn worded_field(
         &self,
@@ -131,7 +132,7 @@ impl<
         let (attrs, name) = both(attrs, read_name(self.rules.alloc, at))?;
         self.named_field(at, attrs, name)
     }
-    /// A field behind its name.
+    /// Parses a field after its name.
     #[inline(never)]
     fn named_field(
         &self,

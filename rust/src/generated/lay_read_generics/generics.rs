@@ -1,6 +1,6 @@
 //! Made by scripts/rust.sh from crates/lay_read_generics/src/generics.rt, which is proved: change that.
 //!
-//! Generic parameters.
+//! Parsing of generic parameters.
 use crate::generated::lay_read_generics::level::Level;
 use crate::generated::lay_node::{
     Attr,
@@ -27,23 +27,23 @@ use crate::generated::lay_read_tokens::{Ahead, Found, ReadNone};
 use crate::generated::lay_read_types::{bounds_ahead, type_ahead};
 use crate::generated::lay_token::List;
 use crate::shims::Global;
-/// Generic parameters, as parts of a list.
+/// Generic parameters as the elements of a list.
 pub struct Params;
 impl Part<GenericParam, ()> for Params {}
 impl Level {
-    /// Bounds behind a `:`, none where none begins.
+    /// Parses the bounds after a `:`, which may be none.
     pub fn met(&self, at: &mut Ahead<'_>) -> Result<Found<List<Bound>>, ReadNone> {
         if begins_bound(at) { bounds_ahead(self.alloc, at, self.depth) } else {
             Ok(Found { node: List::new(self.alloc), need: 0 })
         }
     }
-    /// What a parameter meets, if anything is said of it.
+    /// Parses a `:` and the bounds of a parameter, if there are any.
     fn met_if(&self, at: &mut Ahead<'_>) -> Result<Found<List<Bound>>, ReadNone> {
         if takes_op(at, b":") { self.met(at) } else {
             Ok(Found { node: List::new(self.alloc), need: 0 })
         }
     }
-    /// What a parameter that is a type is by default, if anything is said of it.
+    /// Parses the default of a type parameter (`= T`), if it has one.
     fn default_type(&self, at: &mut Ahead<'_>) -> Result<Found<Option<Ty>>, ReadNone> {
         if !takes_op(at, b"=") {
             return Ok(Found { node: None, need: 0 });
@@ -51,7 +51,7 @@ impl Level {
         let ty = type_ahead(self.alloc, at, TypePlace::Bounds, self.depth)?;
         Ok(Found { node: Some(ty.node), need: ty.need })
     }
-    /// A parameter that is a type, behind its attributes.
+    /// Parses a type parameter; its attributes were read.
     fn type_param(
         &self,
         at: &mut Ahead<'_>,
@@ -73,7 +73,7 @@ impl Level {
             },
         )
     }
-    /// A parameter that is a constant, behind its keyword.
+    /// Parses a const parameter after its keyword.
     fn const_param(
         &self,
         at: &mut Ahead<'_>,
@@ -100,7 +100,7 @@ impl Level {
             },
         )
     }
-    /// A generic parameter.
+    /// Parses a generic parameter.
     fn param(
         &self,
         at: &mut Ahead<'_>,
@@ -115,7 +115,7 @@ impl Level {
             self.type_param(at, attrs)
         }
     }
-    /// Generic parameters behind a `<`, and the `>` behind them.
+    /// Parses generic parameters after the `<`, and the `>`.
     fn params(&self, at: &mut Ahead<'_>) -> Result<Found<List<GenericParam>>, ReadNone> {
         read_elements::<
             Params,
@@ -125,7 +125,7 @@ impl Level {
             _,
         >(self.alloc, at, self.depth, Closer::Angle, self, Level::param, ())
     }
-    /// Generic parameters, and whether `<` and `>` are spelled.
+    /// Parses generic parameters. The flag says that there were `<` and `>`.
     pub fn generics(
         &self,
         at: &mut Ahead<'_>,
@@ -138,7 +138,7 @@ impl Level {
         Ok(Found { node: (Generics { params: params.node }, true), need: params.need })
     }
 }
-/// What a parameter that is a constant is by default, if anything is said of it.
+/// Parses the default of a const parameter, if it has one.
 fn read_const_default_if(
     alloc: Global,
     at: &mut Ahead<'_>,

@@ -1,15 +1,16 @@
 //! Made by scripts/rust.sh from crates/lay_read_generics/src/level.rt, which is proved: change that.
 //!
-//! What is read within a depth.
+//! The readers of generic parameters and where clauses at a depth limit.
 use crate::generated::lay_node::{Generics, Wheres};
 use crate::generated::lay_read_tokens::{Ahead, Found, ReadNone};
 use crate::shims::Global;
-/// A depth, within which parameters and predicates are read.
+/// The depth limit of what parameters and predicates contain.
 pub struct Level {
     pub alloc: Global,
     pub depth: u32,
 }
-/// Generic parameters, with what is within them within the depth, and whether `<` and `>` are spelled.
+/// Parses generic parameters. What they contain fits in `depth` levels. The flag says that there
+/// were `<` and `>`.
 pub fn generics_ahead(
     alloc: Global,
     at: &mut Ahead<'_>,
@@ -18,7 +19,8 @@ pub fn generics_ahead(
     let level = Level { alloc, depth };
     level.generics(at)
 }
-/// A where clause, with what is within it within the depth, and whether its last part is spelled.
+/// Parses a where clause, with everything in it within `depth` levels. The flag says that its last
+/// predicate has a comma, or that it is a `where` without predicates.
 pub fn wheres_ahead(
     alloc: Global,
     at: &mut Ahead<'_>,

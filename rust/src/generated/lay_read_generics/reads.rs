@@ -1,13 +1,13 @@
 //! Made by scripts/rust.sh from crates/lay_read_generics/src/reads.rt, which is proved: change that.
 //!
-//! What stands at the front of the tokens of a text.
+//! The public readers of generic parameters and where clauses.
 use crate::generated::lay_read_generics::level::{generics_ahead, wheres_ahead};
 use crate::generated::lay_nest::Cursor;
 use crate::generated::lay_node::{Generics, Wheres};
 use crate::generated::lay_read_tokens::{Ahead, ReadNone};
 use crate::shims::Global;
-/// The generic parameters at the front, within the depth. What is within stands one level deeper. Where there is
-/// none the cursor stays.
+/// Parses the next generic parameters, which may be none, within `depth` levels, of which they take
+/// one. On an error the cursor doesn't move.
 pub fn read_generics(
     alloc: Global,
     at: &mut Cursor<'_>,
@@ -21,8 +21,8 @@ pub fn read_generics(
     *at = ahead.into_cursor();
     Ok(found.node.0)
 }
-/// The where clause at the front, within the depth. What is within stands one level deeper. Where there is none the
-/// cursor stays.
+/// Parses the next where clause, which may be none, within `depth` levels, of which it takes one.
+/// On an error the cursor doesn't move.
 pub fn read_wheres(
     alloc: Global,
     at: &mut Cursor<'_>,

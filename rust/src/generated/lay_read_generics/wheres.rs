@@ -1,6 +1,6 @@
 //! Made by scripts/rust.sh from crates/lay_read_generics/src/wheres.rt, which is proved: change that.
 //!
-//! Where clauses.
+//! Parsing of where clauses.
 use crate::generated::lay_read_generics::level::Level;
 use crate::generated::lay_node::{Predicate, Ty, TypePlace, Wheres};
 use crate::generated::lay_read_parts::joins::{both, refused};
@@ -17,11 +17,11 @@ use crate::generated::lay_read_tokens::{Ahead, Found, ReadNone};
 use crate::generated::lay_read_types::type_ahead;
 use crate::generated::lay_token::List;
 use crate::shims::Global;
-/// Predicates, as parts of a where clause.
+/// Predicates as the elements of a where clause.
 pub struct Predicates;
 impl Part<Predicate, ()> for Predicates {}
 impl Level {
-    /// What is said of a type.
+    /// Parses a predicate of a type.
     fn type_predicate(&self, at: &mut Ahead<'_>) -> Result<Found<Predicate>, ReadNone> {
         let binder = read_binder_if(self.alloc, at)?;
         let ty = type_ahead(self.alloc, at, TypePlace::Bounds, self.depth)?;
@@ -36,7 +36,7 @@ impl Level {
             },
         )
     }
-    /// A predicate.
+    /// Parses a predicate.
     fn predicate(
         &self,
         at: &mut Ahead<'_>,
@@ -52,7 +52,7 @@ impl Level {
         let (lifetime, bounds) = both(lifetime, read_lifetimes(self.alloc, at))?;
         Ok(Found { node: Predicate::Region { lifetime, bounds }, need: 0 })
     }
-    /// Predicates as long as one begins.
+    /// Parses predicates as long as one begins.
     fn predicates(
         &self,
         at: &mut Ahead<'_>,

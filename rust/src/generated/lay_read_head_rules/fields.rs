@@ -1,6 +1,6 @@
 //! Made by scripts/rust.sh from crates/lay_read_head_rules/src/fields.rt, which is proved: change that.
 //!
-//! Fields, and the variants of enumerations.
+//! Parsing of fields, and of the variants of enumerations.
 use crate::generated::lay_read_head_rules::level::Level;
 use crate::generated::lay_read_head_rules::vis::vis_ahead;
 use crate::generated::lay_node::{Field, Fields, Tokens, TupleField, TypePlace, Variant};
@@ -14,10 +14,10 @@ use crate::generated::lay_read_tokens::{Ahead, Found, ReadNone};
 use crate::generated::lay_read_types::type_ahead;
 use crate::generated::lay_token::{Delim, List};
 use crate::shims::Global;
-/// Fields without names, as elements of a list.
+/// Fields without names as the elements of a list.
 struct TupleFields;
 impl Part<TupleField, ()> for TupleFields {}
-/// A field without a name.
+/// Parses a field without a name.
 fn tuple_field(
     level: &Level,
     at: &mut Ahead<'_>,
@@ -28,7 +28,7 @@ fn tuple_field(
     let ty = type_ahead(level.alloc, at, TypePlace::Bounds, level.depth)?;
     Ok(Found { need: ty.need, node: TupleField { attrs, vis, ty: ty.node } })
 }
-/// Fields without names, behind a `(`, and the `)` behind them.
+/// Parses fields without names, after a `(`, and the `)` after them.
 fn tuple_field_list(
     alloc: Global,
     at: &mut Ahead<'_>,
@@ -43,7 +43,7 @@ fn tuple_field_list(
         _,
     >(alloc, at, depth, Closer::Group(Delim::Paren), &level, tuple_field, ())
 }
-/// Fields without names in parentheses.
+/// Parses fields without names in parentheses.
 pub(crate) fn tuple_fields_ahead(
     alloc: Global,
     at: &mut Ahead<'_>,
@@ -53,10 +53,10 @@ pub(crate) fn tuple_fields_ahead(
         Err(ReadNone::NoReading)
     }
 }
-/// Fields with names, as elements of a list.
+/// Fields with names as the elements of a list.
 struct NamedFields;
 impl Part<Field, ()> for NamedFields {}
-/// A field with a name.
+/// Parses a field with a name.
 fn field(
     level: &Level,
     at: &mut Ahead<'_>,
@@ -71,7 +71,7 @@ fn field(
     let ty = type_ahead(level.alloc, at, TypePlace::Bounds, level.depth)?;
     Ok(Found { need: ty.need, node: Field { attrs, vis, name, ty: ty.node } })
 }
-/// Fields with names, behind a `{`, and the `}` behind them.
+/// Parses fields with names, after a `{`, and the `}` after them.
 fn named_field_list(
     alloc: Global,
     at: &mut Ahead<'_>,
@@ -86,7 +86,7 @@ fn named_field_list(
         _,
     >(alloc, at, depth, Closer::Group(Delim::Brace), &level, field, ())
 }
-/// Fields with names in braces.
+/// Parses fields with names in braces.
 pub(crate) fn named_fields_ahead(
     alloc: Global,
     at: &mut Ahead<'_>,
@@ -96,7 +96,7 @@ pub(crate) fn named_fields_ahead(
         Err(ReadNone::NoReading)
     }
 }
-/// The fields of a variant, if it has any.
+/// Parses the fields of a variant, if it has any.
 fn variant_fields(
     alloc: Global,
     at: &mut Ahead<'_>,
@@ -110,7 +110,7 @@ fn variant_fields(
         Ok(Found { need: fields.need, node: Fields::Named { fields: fields.node } })
     } else { Ok(Found { node: Fields::Unit, need: 0 }) }
 }
-/// The discriminant of a variant, if it has one.
+/// Parses the discriminant of a variant, if it has one.
 fn read_discriminant_if(
     alloc: Global,
     at: &mut Ahead<'_>,
@@ -124,10 +124,10 @@ fn read_discriminant_if(
     }
     Ok(Some(tokens))
 }
-/// Variants, as elements of a list.
+/// Variants as the elements of a list.
 struct Variants;
 impl Part<Variant, ()> for Variants {}
-/// A variant.
+/// Parses a variant.
 fn variant(
     level: &Level,
     at: &mut Ahead<'_>,
@@ -145,7 +145,7 @@ fn variant(
         },
     )
 }
-/// Variants, behind a `{`, and the `}` behind them.
+/// Parses variants after the `{`, and the `}`.
 fn variant_list(
     alloc: Global,
     at: &mut Ahead<'_>,
@@ -160,7 +160,7 @@ fn variant_list(
         _,
     >(alloc, at, depth, Closer::Group(Delim::Brace), &level, variant, ())
 }
-/// Variants in braces.
+/// Parses variants in braces.
 pub(crate) fn variants_ahead(
     alloc: Global,
     at: &mut Ahead<'_>,

@@ -1,6 +1,6 @@
 //! Made by scripts/rust.sh from crates/lay_read_head_rules/src/functions.rt, which is proved: change that.
 //!
-//! The heads of functions.
+//! Parsing of the heads of functions.
 use crate::generated::lay_read_head_rules::level::{Level, kept_if, takes_flag};
 use crate::generated::lay_node::{
     Abi,
@@ -39,27 +39,27 @@ use crate::generated::lay_read_tokens::{Ahead, Found, ReadNone};
 use crate::generated::lay_read_types::type_ahead;
 use crate::generated::lay_token::{Delim, List};
 use crate::shims::Global;
-/// Whether a parameter ends at the front.
+/// Whether the next token ends a parameter.
 fn ends_param(at: &Ahead<'_>) -> bool {
     is_at_mark(at, b",") || is_at_closer(at, Delim::Paren)
 }
-/// Passes a lifetime, if one stands at the front.
+/// Moves past a lifetime if one comes next.
 fn pass_lifetime(at: &mut Ahead<'_>) {
     if is_at_lifetime(at) {
         pass(at);
     }
 }
-/// Whether `self` stands at the front as a receiver behind a `&` does.
+/// Whether `self` comes next, and ends a receiver that began with a `&`.
 fn is_self_by_ref(at: &Ahead<'_>) -> bool {
     let mut behind = at.fork();
     takes_keyword(&mut behind, b"self") && ends_param(&behind)
 }
-/// Whether `self` stands at the front as a receiver by itself does.
+/// Whether `self` comes next as a receiver without a `&`.
 fn is_self_by_itself(at: &Ahead<'_>) -> bool {
     let mut behind = at.fork();
     takes_keyword(&mut behind, b"self") && (ends_param(&behind) || behind.op_is(b":"))
 }
-/// Whether a receiver with a `&` begins at the front.
+/// Whether a receiver with a `&` comes next.
 fn begins_ref_self(at: &Ahead<'_>) -> bool {
     let mut behind = at.fork();
     if !takes_mark(&mut behind, b"&") {
@@ -69,20 +69,20 @@ fn begins_ref_self(at: &Ahead<'_>) -> bool {
     takes_flag(&mut behind, b"mut");
     is_self_by_ref(&behind)
 }
-/// Whether a receiver without a `&` begins at the front.
+/// Whether a receiver without a `&` comes next.
 fn begins_own_self(at: &Ahead<'_>) -> bool {
     let mut behind = at.fork();
     takes_flag(&mut behind, b"mut");
     is_self_by_itself(&behind)
 }
-/// A receiver, behind its `&`.
+/// Parses a receiver, after its `&`.
 fn ref_self(alloc: Global, at: &mut Ahead<'_>) -> Result<ParamKind, ReadNone> {
     let lifetime = read_lifetime_if(alloc, at)?;
     let mutable = takes_flag(at, b"mut");
     pass(at);
     Ok(ParamKind::RefSelf { lifetime, mutable })
 }
-/// A receiver without a `&`.
+/// Parses a receiver without a `&`.
 fn own_self(
     alloc: Global,
     at: &mut Ahead<'_>,
@@ -93,7 +93,7 @@ fn own_self(
     let ty = type_if(alloc, at, b":", depth)?;
     Ok(Found { need: ty.need, node: ParamKind::OwnSelf { mutable, ty: ty.node } })
 }
-/// Passes `...`, if it stands at the front.
+/// Moves past `...` if it comes next, and says whether it did.
 fn takes_dots(at: &mut Ahead<'_>) -> bool {
     let found = at.op_is(b"...");
     if found {
@@ -102,7 +102,7 @@ fn takes_dots(at: &mut Ahead<'_>) -> bool {
     }
     found
 }
-/// What stands behind a pattern and its `:`.
+/// Parses what follows a pattern and its `:`.
 fn typed_by(
     alloc: Global,
     at: &mut Ahead<'_>,
@@ -122,7 +122,7 @@ fn typed_by(
         },
     )
 }
-/// A parameter with a pattern.
+/// Parses a parameter with a pattern.
 fn typed(
     alloc: Global,
     at: &mut Ahead<'_>,
@@ -133,7 +133,7 @@ fn typed(
     let pat = kept_if(pat, colon)?;
     typed_by(alloc, at, pat, depth)
 }
-/// What a parameter is, behind its attributes.
+/// Parses a parameter; its attributes were read.
 fn param_kind(
     alloc: Global,
     at: &mut Ahead<'_>,
@@ -147,10 +147,10 @@ fn param_kind(
         Ok(Found { node: ParamKind::Variadic, need: 0 })
     } else { typed(alloc, at, depth) }
 }
-/// Parameters, as parts of a list.
+/// Parameters as the elements of a list.
 struct Params;
 impl Part<Param, ()> for Params {}
-/// A parameter.
+/// Parses a parameter.
 fn fn_param(
     level: &Level,
     at: &mut Ahead<'_>,
@@ -160,7 +160,8 @@ fn fn_param(
     let kind = param_kind(level.alloc, at, level.depth)?;
     Ok(Found { need: kind.need, node: Param { attrs, kind: kind.node } })
 }
-/// Parameters as long as one begins, and whether a comma stands behind the last of them, or there is none.
+/// Parses parameters as long as one begins. The flag says that a comma follows the last one, or
+/// that there is none.
 fn open_params(
     alloc: Global,
     at: &mut Ahead<'_>,
@@ -179,7 +180,7 @@ fn open_params(
 fn is_receiver(kind: &ParamKind) -> bool {
     matches!(kind, ParamKind::RefSelf { .. } | ParamKind::OwnSelf { .. })
 }
-/// Whether the parameter takes further arguments.
+/// Whether the parameter is a `...`.
 fn is_variadic(kind: &ParamKind) -> bool {
     matches!(kind, ParamKind::Variadic | ParamKind::NamedVariadic { .. })
 }
@@ -194,14 +195,14 @@ fn none_receives(params: &[Param]) -> bool {
     }
     true
 }
-/// Whether a receiver stands first alone.
+/// Whether no parameter but the first is a receiver.
 fn receives_first(params: &[Param]) -> bool {
     match params {
         [] => true,
         [_, ..] => none_receives(&params[1..]),
     }
 }
-/// Whether the last parameter takes further arguments.
+/// Whether the last parameter is a `...`.
 fn ends_variadic(params: &[Param]) -> bool {
     let mut rest = params;
     while let [param, behind @ ..] = rest {
@@ -212,7 +213,7 @@ fn ends_variadic(params: &[Param]) -> bool {
     }
     false
 }
-/// Whether none but the last parameter takes further arguments.
+/// Whether no parameter but the last is a `...`.
 fn varies_last(params: &[Param]) -> bool {
     let mut rest = params;
     while let [param, behind @ ..] = rest {
@@ -223,11 +224,11 @@ fn varies_last(params: &[Param]) -> bool {
     }
     true
 }
-/// Whether parameters stand in order, and no comma behind one that takes further arguments.
+/// Whether receivers stand only first and `...` only last, with no comma after it.
 fn are_in_order(params: &[Param], comma: bool) -> bool {
     receives_first(params) && varies_last(params) && !(ends_variadic(params) && comma)
 }
-/// Parameters, if they stand in order, and the `)` behind them.
+/// The parameters that were read, if they are in order, and the `)` after them.
 fn closed_params(
     at: &mut Ahead<'_>,
     found: Found<(List<Param>, bool)>,
@@ -237,7 +238,7 @@ fn closed_params(
     let keeps = takes_closer(at, Delim::Paren) && are_in_order(params.as_slice(), comma);
     kept_if(Found { node: params, need }, keeps)
 }
-/// The parameters of a function.
+/// Parses the parameters of a function.
 fn fn_params(
     alloc: Global,
     at: &mut Ahead<'_>,
@@ -249,7 +250,7 @@ fn fn_params(
     let found = open_params(alloc, at, depth)?;
     closed_params(at, found)
 }
-/// A return type, if one stands there.
+/// Parses a return type, if one comes next.
 fn head_output(
     alloc: Global,
     at: &mut Ahead<'_>,
@@ -262,24 +263,24 @@ fn head_output(
     let ty = type_ahead(alloc, at, TypePlace::Bounds, depth)?;
     Ok(Found { node: Some(ty.node), need: ty.need })
 }
-/// What a function says of its safety.
+/// Moves past `unsafe` or `safe` if one comes next, and gives it.
 fn take_safety(at: &mut Ahead<'_>) -> Option<Safety> {
     if takes_keyword(at, b"unsafe") {
         Some(Safety::Unsafe)
     } else if takes_keyword(at, b"safe") { Some(Safety::Safe) } else { None }
 }
-/// Whether a function may say so of its safety where it stands.
+/// Whether a function may have this safety word at its site.
 fn may_say(site: Site, safety: Option<Safety>) -> bool {
     matches!(site, Site::Foreign) || !matches!(safety, Some(Safety::Safe))
 }
-/// What stands before `fn`.
+/// The words before `fn`.
 struct Qualifiers {
     is_const: bool,
     is_async: bool,
     safety: Option<Safety>,
     abi: Option<Abi>,
 }
-/// The head of a function, behind its `fn`.
+/// Parses the head of a function, after its `fn`.
 fn named_fn(
     alloc: Global,
     at: &mut Ahead<'_>,
@@ -312,7 +313,7 @@ fn named_fn(
         keeps,
     )
 }
-/// What stands before `fn`, behind what is said of safety, and `fn` itself.
+/// Parses an ABI, if one comes next, and `fn`; what stands before was read.
 fn with_abi(
     alloc: Global,
     at: &mut Ahead<'_>,
@@ -325,14 +326,14 @@ fn with_abi(
     let before = Qualifiers { is_const, is_async, safety, abi };
     kept_if(before, keeps)
 }
-/// What stands before `fn`, and `fn` itself.
+/// Parses the words before `fn`, and `fn`.
 fn read_qualifiers(alloc: Global, at: &mut Ahead<'_>) -> Result<Qualifiers, ReadNone> {
     let is_const = takes_flag(at, b"const");
     let is_async = takes_flag(at, b"async");
     let safety = take_safety(at);
     with_abi(alloc, at, is_const, is_async, safety)
 }
-/// The head of a function, with what is within it within the depth.
+/// Parses the head of a function, with everything in it within `depth` levels.
 pub fn fn_head_ahead(
     alloc: Global,
     at: &mut Ahead<'_>,

@@ -1,6 +1,6 @@
 //! Made by scripts/rust.sh from crates/lay_read_head_rules/src/heads.rt, which is proved: change that.
 //!
-//! The heads of items, and the items that are heads alone.
+//! Parsing of the heads of items, and of items that consist of a head alone.
 use crate::generated::lay_read_head_rules::fields::{
     named_fields_ahead,
     tuple_fields_ahead,
@@ -46,7 +46,7 @@ use crate::generated::lay_read_tokens::{Ahead, Found, ReadNone};
 use crate::generated::lay_read_types::{path_ahead, type_ahead};
 use crate::generated::lay_token::Delim;
 use crate::shims::Global;
-/// A keyword and a name, with generic parameters behind it.
+/// Parses a keyword, a name, and generic parameters.
 fn called(
     alloc: Global,
     at: &mut Ahead<'_>,
@@ -60,11 +60,11 @@ fn called(
     let Found { node, need } = generics_ahead(alloc, at, depth)?;
     Ok(Found { node: (name, node.0), need })
 }
-/// Whether a crate may be called by the word.
+/// Whether the word may name a crate in `extern crate`.
 fn is_crate_word(word: &Word) -> bool {
     is_name(word) || is_self(word)
 }
-/// An extern crate declaration.
+/// Parses an extern crate declaration.
 pub fn extern_crate_ahead(
     alloc: Global,
     at: &mut Ahead<'_>,
@@ -77,7 +77,7 @@ pub fn extern_crate_ahead(
     let keeps = takes_mark(at, b";") && is_crate_word(&word);
     kept_if(ExternCrate { word, renamed }, keeps)
 }
-/// Whether a type alias may be given what it is given where it stands.
+/// Whether a type alias may stand at this site with this type, or without one.
 fn may_be_given(site: Site, ty: &Option<Ty>) -> bool {
     match site {
         Site::Module => ty.is_some(),
@@ -86,7 +86,7 @@ fn may_be_given(site: Site, ty: &Option<Ty>) -> bool {
         Site::Foreign => ty.is_none(),
     }
 }
-/// A type alias, with what is within it within the depth.
+/// Parses a type alias, with everything in it within `depth` levels.
 pub fn alias_ahead(
     alloc: Global,
     at: &mut Ahead<'_>,
@@ -118,7 +118,7 @@ pub fn alias_ahead(
         keeps,
     )
 }
-/// A struct, with what is within it within the depth.
+/// Parses a struct, with everything in it within `depth` levels.
 pub fn struct_ahead(
     alloc: Global,
     at: &mut Ahead<'_>,
@@ -129,7 +129,7 @@ pub fn struct_ahead(
         other_struct(alloc, at, named, depth)
     }
 }
-/// A struct whose fields have no names, behind its name.
+/// Parses a struct whose fields have no names, after its name.
 fn tuple_struct(
     alloc: Global,
     at: &mut Ahead<'_>,
@@ -155,7 +155,7 @@ fn tuple_struct(
         keeps,
     )
 }
-/// Another struct, behind its name.
+/// Parses a unit struct or a struct with named fields, after its name.
 fn other_struct(
     alloc: Global,
     at: &mut Ahead<'_>,
@@ -180,7 +180,7 @@ fn other_struct(
         keeps,
     )
 }
-/// A struct whose fields have names, behind its where clause.
+/// Parses a struct whose fields have names, after its where clause.
 fn named_struct(
     alloc: Global,
     at: &mut Ahead<'_>,
@@ -204,7 +204,7 @@ fn named_struct(
         },
     )
 }
-/// A union, with what is within it within the depth.
+/// Parses a union, with everything in it within `depth` levels.
 pub fn union_ahead(
     alloc: Global,
     at: &mut Ahead<'_>,
@@ -228,7 +228,7 @@ pub fn union_ahead(
         },
     )
 }
-/// An enumeration, with what is within it within the depth.
+/// Parses an enumeration, with everything in it within `depth` levels.
 pub fn enum_ahead(
     alloc: Global,
     at: &mut Ahead<'_>,
@@ -252,7 +252,7 @@ pub fn enum_ahead(
         },
     )
 }
-/// The head of a constant, behind its keyword.
+/// Parses the head of a constant, after its keyword.
 fn const_head(
     alloc: Global,
     at: &mut Ahead<'_>,
@@ -265,7 +265,7 @@ fn const_head(
     let ty = type_ahead(alloc, at, TypePlace::Bounds, depth)?;
     Ok(Found { need: ty.need, node: ValueHead::Const { name, ty: ty.node } })
 }
-/// The head of a static, behind its keyword.
+/// Parses the head of a static, after its keyword.
 fn static_head(
     alloc: Global,
     at: &mut Ahead<'_>,
@@ -279,7 +279,7 @@ fn static_head(
     let ty = type_ahead(alloc, at, TypePlace::Bounds, depth)?;
     Ok(Found { need: ty.need, node: ValueHead::Static { mutable, name, ty: ty.node } })
 }
-/// The head of a constant or of a static, with what is within it within the depth.
+/// Parses the head of a constant or of a static, with everything in it within `depth` levels.
 pub fn value_head_ahead(
     alloc: Global,
     at: &mut Ahead<'_>,
@@ -291,8 +291,8 @@ pub fn value_head_ahead(
         Err(ReadNone::NoReading)
     }
 }
-/// The head of a trait, with what is within it within the depth; whether `<` and `>` are spelled; and whether a `:`
-/// stands behind them.
+/// Parses the head of a trait, with everything in it within `depth` levels. The flags say that its
+/// generic parameters are in `<` and `>`, and that a `:` follows them.
 pub fn trait_head_ahead(
     alloc: Global,
     at: &mut Ahead<'_>,
@@ -322,7 +322,8 @@ pub fn trait_head_ahead(
         },
     )
 }
-/// The trait that is implemented and the `for` behind it, if they stand there. A type may begin as they do.
+/// Parses the trait of an implementation and the `for`, if they come next. A type can begin with
+/// the same tokens.
 fn trait_ref(
     alloc: Global,
     at: &mut Ahead<'_>,
@@ -344,15 +345,15 @@ fn trait_ref(
         _ => Ok(Found { node: None, need: 0 }),
     }
 }
-/// Whether a head of an implementation ends at the front.
+/// Whether the next token ends the head of an implementation.
 fn ends_head(at: &Ahead<'_>) -> bool {
     is_at_keyword(at, b"where") || is_at_opened(at, Delim::Brace)
 }
-/// Whether generic parameters are there, or no `<` stands at the front, which would open some.
+/// Whether there are generic parameters, or no `<` comes next that would open some.
 fn tells_generics(at: &Ahead<'_>, generics: &Generics) -> bool {
     !generics.params.as_slice().is_empty() || !is_at_mark(at, b"<")
 }
-/// The head of an implementation, with what is within it within the depth.
+/// Parses the head of an implementation, with everything in it within `depth` levels.
 pub fn impl_head_ahead(
     alloc: Global,
     at: &mut Ahead<'_>,

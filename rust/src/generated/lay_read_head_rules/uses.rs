@@ -1,6 +1,6 @@
 //! Made by scripts/rust.sh from crates/lay_read_head_rules/src/uses.rt, which is proved: change that.
 //!
-//! Use trees.
+//! Parsing of use trees.
 use crate::generated::lay_node::{GivenName, UseEnd, UseTree};
 use crate::generated::lay_read_tokens::ReadNone;
 use crate::generated::lay_read_tokens::ahead::Ahead;
@@ -22,7 +22,7 @@ use crate::generated::lay_read_tokens::names::{
 use crate::generated::lay_read_tokens::stop::keep;
 use crate::generated::lay_token::{Delim, List};
 use crate::shims::Global;
-/// A use tree, within a depth.
+/// Parses a use tree, within `depth` levels.
 pub fn use_ahead(
     alloc: Global,
     at: &mut Ahead<'_>,
@@ -39,7 +39,7 @@ pub fn use_ahead(
     }
     Ok(Found { need: end.need + 1, node: UseTree { global, path, end: end.node } })
 }
-/// What stands behind the path of a use tree. The trees within it stand within the depth.
+/// Parses the end of a use tree, after its path. The trees in it fit in `depth` levels.
 fn read_use_end(
     alloc: Global,
     at: &mut Ahead<'_>,
@@ -51,7 +51,7 @@ fn read_use_end(
         read_use_word(alloc, at)
     }
 }
-/// The use trees of a group, which stand within the depth, and the `}` behind them.
+/// Parses the use trees of a group, which fit in `depth` levels, and the `}` after them.
 fn read_group(
     alloc: Global,
     at: &mut Ahead<'_>,
@@ -69,13 +69,13 @@ fn read_group(
     }
     Ok(Found { node: UseEnd::Group { trees }, need })
 }
-/// A word, and what it is called here.
+/// Parses a word, and `as` with another name if that follows.
 fn read_use_word(alloc: Global, at: &mut Ahead<'_>) -> Result<Found<UseEnd>, ReadNone> {
     let word = read_word(alloc, at)?;
     let rename = read_rename(alloc, at)?;
     Ok(Found { node: UseEnd::Word { word, rename }, need: 0 })
 }
-/// What follows a word: `as` and another name, or nothing of a use tree.
+/// Parses `as` and another name, if they come next.
 pub(crate) fn read_rename(
     alloc: Global,
     at: &mut Ahead<'_>,

@@ -1,6 +1,6 @@
 //! Made by scripts/rust.sh from crates/lay_read_head_rules/src/vis.rt, which is proved: change that.
 //!
-//! Visibilities.
+//! Parsing of visibilities.
 use crate::generated::lay_node::Vis;
 use crate::generated::lay_read_tokens::front::{
     is_at_closer,
@@ -14,11 +14,11 @@ use crate::generated::lay_read_tokens::simple_paths::read_simple_path;
 use crate::generated::lay_read_tokens::{Ahead, ReadNone};
 use crate::generated::lay_token::Delim;
 use crate::shims::Global;
-/// A visibility, which may be nothing.
+/// Parses a visibility, which may be nothing.
 pub fn vis_ahead(alloc: Global, at: &mut Ahead<'_>) -> Result<Vis, ReadNone> {
     if takes_keyword(at, b"pub") { vis_behind(alloc, at) } else { Ok(Vis::Inherited) }
 }
-/// What stands behind `pub`.
+/// Parses a visibility after its `pub`.
 fn vis_behind(alloc: Global, at: &mut Ahead<'_>) -> Result<Vis, ReadNone> {
     if takes_restriction(at, b"crate") {
         Ok(Vis::Crate)
@@ -28,13 +28,13 @@ fn vis_behind(alloc: Global, at: &mut Ahead<'_>) -> Result<Vis, ReadNone> {
         read_vis_in(alloc, at)
     }
 }
-/// Whether the word in parentheses stands at the front.
+/// Whether this word in parentheses comes next.
 fn is_restricted(at: &Ahead<'_>, word: &[u8]) -> bool {
     let mut behind = at.fork();
     takes_opener(&mut behind, Delim::Paren) && takes_keyword(&mut behind, word)
         && is_at_closer(&behind, Delim::Paren)
 }
-/// Passes the word in parentheses, if it stands at the front.
+/// Moves past this word in parentheses if it comes next, and says whether it did.
 fn takes_restriction(at: &mut Ahead<'_>, word: &[u8]) -> bool {
     let found = is_restricted(at, word);
     if found {
@@ -43,7 +43,7 @@ fn takes_restriction(at: &mut Ahead<'_>, word: &[u8]) -> bool {
     }
     found
 }
-/// `in` and a path in parentheses, if they stand at the front.
+/// Parses `in` and a path in parentheses, if they come next.
 fn read_vis_in(alloc: Global, at: &mut Ahead<'_>) -> Result<Vis, ReadNone> {
     let mut behind = at.fork();
     if !takes_opener(&mut behind, Delim::Paren) || !takes_keyword(&mut behind, b"in") {

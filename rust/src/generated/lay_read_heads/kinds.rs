@@ -1,6 +1,6 @@
 //! Made by scripts/rust.sh from crates/lay_read_heads/src/kinds.rt, which is proved: change that.
 //!
-//! What stands at the front of the tokens of a text, as what an item is.
+//! The public readers of items that consist of a head alone.
 use crate::generated::lay_code::{ItemKind, Site};
 use crate::generated::lay_nest::Cursor;
 use crate::generated::lay_read_head_rules::heads::{
@@ -13,8 +13,8 @@ use crate::generated::lay_read_head_rules::heads::{
 use crate::generated::lay_read_tokens::front::is_at_keyword;
 use crate::generated::lay_read_tokens::{Ahead, ReadNone};
 use crate::shims::Global;
-/// The struct or the union at the front, within the depth. What is within stands one level deeper. Where there is none
-/// the cursor stays.
+/// Parses the next struct or union, within `depth` levels, of which it takes one. On an error the
+/// cursor doesn't move.
 pub fn read_struct(
     alloc: Global,
     at: &mut Cursor<'_>,
@@ -25,7 +25,7 @@ pub fn read_struct(
         read_struct_alone(alloc, at, depth)
     }
 }
-/// The struct at the front.
+/// Parses the next struct.
 fn read_struct_alone(
     alloc: Global,
     at: &mut Cursor<'_>,
@@ -39,7 +39,7 @@ fn read_struct_alone(
     *at = ahead.into_cursor();
     Ok(ItemKind::Struct { item: found.node })
 }
-/// The union at the front.
+/// Parses the next union.
 fn read_union_alone(
     alloc: Global,
     at: &mut Cursor<'_>,
@@ -53,8 +53,8 @@ fn read_union_alone(
     *at = ahead.into_cursor();
     Ok(ItemKind::Union { item: found.node })
 }
-/// The enumeration at the front, within the depth. What is within stands one level deeper. Where there is none the cursor
-/// stays.
+/// Parses the next enumeration, within `depth` levels, of which it takes one. On an error the
+/// cursor doesn't move.
 pub fn read_enum(
     alloc: Global,
     at: &mut Cursor<'_>,
@@ -68,8 +68,8 @@ pub fn read_enum(
     *at = ahead.into_cursor();
     Ok(ItemKind::Enum { item: found.node })
 }
-/// The type alias at the front, as it stands at its site, within the depth. What is within stands one level deeper. Where
-/// there is none the cursor stays.
+/// Parses the next type alias, as it may be at this site, within `depth` levels, of which it takes
+/// one. On an error the cursor doesn't move.
 pub fn read_alias(
     alloc: Global,
     at: &mut Cursor<'_>,
@@ -84,7 +84,7 @@ pub fn read_alias(
     *at = ahead.into_cursor();
     Ok(ItemKind::Alias { item: found.node })
 }
-/// The extern crate declaration at the front. Where there is none the cursor stays.
+/// Parses the next extern crate declaration. On an error the cursor doesn't move.
 pub fn read_extern_crate(
     alloc: Global,
     at: &mut Cursor<'_>,

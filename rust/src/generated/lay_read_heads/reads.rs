@@ -1,6 +1,6 @@
 //! Made by scripts/rust.sh from crates/lay_read_heads/src/reads.rt, which is proved: change that.
 //!
-//! What stands at the front of the tokens of a text.
+//! The public readers of visibilities, use trees, and the heads of items.
 use crate::generated::lay_code::{
     FnHead,
     ImplHead,
@@ -21,15 +21,15 @@ use crate::generated::lay_read_head_rules::uses::use_ahead;
 use crate::generated::lay_read_head_rules::vis::vis_ahead;
 use crate::generated::lay_read_tokens::{Ahead, ReadNone};
 use crate::shims::Global;
-/// The visibility at the front, which may be nothing. Where it can't be read the cursor stays.
+/// Parses the next visibility, which may be nothing. On an error the cursor doesn't move.
 pub fn read_vis(alloc: Global, at: &mut Cursor<'_>) -> Result<Vis, ReadNone> {
     let mut ahead = Ahead::new(at.fork());
     let vis = vis_ahead(alloc, &mut ahead)?;
     *at = ahead.into_cursor();
     Ok(vis)
 }
-/// The head of a function at the front, as it stands at its site, within the depth. What is within stands one level
-/// deeper. Where there is none the cursor stays.
+/// Parses the next head of a function, as it may be at this site, within `depth` levels, of which
+/// it takes one. On an error the cursor doesn't move.
 pub fn read_fn_head(
     alloc: Global,
     at: &mut Cursor<'_>,
@@ -44,8 +44,8 @@ pub fn read_fn_head(
     *at = ahead.into_cursor();
     Ok(found.node)
 }
-/// The head of a constant or of a static at the front, within the depth. What is within stands one level deeper. Where
-/// there is none the cursor stays.
+/// Parses the head of a constant or of a static, within `depth` levels, of which it takes one. On
+/// an error the cursor doesn't move.
 pub fn read_value_head(
     alloc: Global,
     at: &mut Cursor<'_>,
@@ -59,8 +59,8 @@ pub fn read_value_head(
     *at = ahead.into_cursor();
     Ok(found.node)
 }
-/// The head of a trait at the front, within the depth. What is within stands one level deeper. Where there is none the
-/// cursor stays.
+/// Parses the head of a trait, within `depth` levels, of which it takes one. On an error the cursor
+/// doesn't move.
 pub fn read_trait_head(
     alloc: Global,
     at: &mut Cursor<'_>,
@@ -74,8 +74,8 @@ pub fn read_trait_head(
     *at = ahead.into_cursor();
     Ok(found.node.0)
 }
-/// The head of an implementation at the front, within the depth. What is within stands one level deeper. Where there is
-/// none the cursor stays.
+/// Parses the head of an implementation, within `depth` levels, of which it takes one. On an error
+/// the cursor doesn't move.
 pub fn read_impl_head(
     alloc: Global,
     at: &mut Cursor<'_>,
@@ -89,7 +89,7 @@ pub fn read_impl_head(
     *at = ahead.into_cursor();
     Ok(found.node)
 }
-/// The use tree at the front, within the depth. Where there is none the cursor stays.
+/// Parses the next use tree, within `depth` levels. On an error the cursor doesn't move.
 pub fn read_use(
     alloc: Global,
     at: &mut Cursor<'_>,

@@ -1,6 +1,6 @@
 //! Made by scripts/rust.sh from crates/lay_read_operators/src/assigns.rt, which is proved: change that.
 //!
-//! Assignments.
+//! Parsing of assignments.
 use crate::generated::lay_read_operators::rules::ExprRules;
 use crate::generated::lay_code::{Boxed, Expr, Op, Place};
 use crate::generated::lay_read_parts::joins::both;
@@ -10,7 +10,7 @@ use crate::generated::lay_read_tokens::stop::keep;
 use crate::generated::lay_read_tokens::{Ahead, Found, ReadNone};
 use crate::generated::lay_token::List;
 use crate::shims::Global;
-/// Operands with operators between them, as targets and a value.
+/// Splits operands with operators between them into targets and the value.
 fn split(
     alloc: Global,
     first: Boxed<Expr>,
@@ -29,7 +29,7 @@ fn split(
 impl<
     P: Fn(Global, &mut Ahead<'_>, Place, u32) -> Result<Found<Boxed<Expr>>, ReadNone>,
 > ExprRules<P> {
-    /// An expression with assignments behind it.
+    /// Parses the assignments after an expression, and gives the whole.
     #[inline(never)]
     pub fn assign_expr(
         &self,

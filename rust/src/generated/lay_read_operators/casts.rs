@@ -1,6 +1,6 @@
 //! Made by scripts/rust.sh from crates/lay_read_operators/src/casts.rt, which is proved: change that.
 //!
-//! Casts.
+//! Parsing of casts.
 use crate::generated::lay_read_operators::rules::ExprRules;
 use crate::generated::lay_code::{Boxed, Expr, Place, Ty, TypePlace};
 use crate::generated::lay_read_parts::joins::both;
@@ -13,20 +13,20 @@ use crate::generated::lay_read_tokens::{Ahead, Found, ReadNone};
 use crate::generated::lay_read_types::type_ahead;
 use crate::generated::lay_token::List;
 use crate::shims::Global;
-/// Types behind `as`, as parts that stand one behind another.
+/// Types after `as` as consecutive parts.
 pub struct Types;
 impl Part<Ty, ()> for Types {}
 impl<
     P: Fn(Global, &mut Ahead<'_>, Place, u32) -> Result<Found<Boxed<Expr>>, ReadNone>,
 > ExprRules<P> {
-    /// A type behind its `as`.
+    /// Parses a type after its `as`.
     #[inline(never)]
     fn one_type(&self, at: &mut Ahead<'_>, _place: ()) -> Result<Found<Ty>, ReadNone> {
         if takes_keyword(at, b"as") {
             type_ahead(self.alloc, at, TypePlace::NoBounds, self.depth)
         } else { Err(ReadNone::NoReading) }
     }
-    /// An expression with types behind it.
+    /// Parses the casts after an expression, and gives the whole.
     #[inline(never)]
     pub fn cast_expr(
         &self,

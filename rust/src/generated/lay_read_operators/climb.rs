@@ -1,6 +1,6 @@
 //! Made by scripts/rust.sh from crates/lay_read_operators/src/climb.rt, which is proved: change that.
 //!
-//! The operators behind an expression, from the strongest on.
+//! Precedence climbing: the operators after an expression, the tightest first.
 use crate::generated::lay_read_operators::rules::ExprRules;
 use crate::generated::lay_code::{Boxed, Expr, Place, Start};
 use crate::generated::lay_ops::ahead::{is_angle, is_dot_or_try, strength};
@@ -17,22 +17,24 @@ fn begins(start: Start) -> bool {
 fn is_whole(start: Start) -> bool {
     matches!(start, Start::Whole)
 }
-/// Where the expression before an operator of this level stands.
+/// The place of the expression before an operator of this precedence level.
 fn left_place(at: &Ahead<'_>, place: Place, level: u8) -> Place {
     let first = begins(place.start) && !(level == 13 && is_dot_or_try(at));
     before_op(level + 1, place.no_struct, first, is_angle(at))
 }
-/// Whether nothing but `.` and `?` goes on with an expression, and neither stands at the front.
+/// Whether the expression has ended as a statement: only `.` and `?` could go on with it, and
+/// neither comes next.
 pub fn is_ended(at: &Ahead<'_>, place: Place, expr: &Expr) -> bool {
     is_whole(place.start) && is_block_like(expr) && !is_dot_or_try(at)
 }
-/// Whether what is ahead may follow the root of an expression.
+/// Whether the next tokens may follow the root of the expression.
 fn root_follows(at: &Ahead<'_>, place: Place, expr: &Expr) -> bool {
     if is_whole(place.start) && is_block_like(expr) { !is_dot_or_try(at) } else {
         strength(at) <= place.level
     }
 }
-/// The expression, if it may stand at the place, what is ahead may follow it, and it is within the budget.
+/// The expression, if it may stand at the place, the next tokens may follow it, and it is nested no
+/// deeper than `budget`.
 pub fn accepted(
     at: &Ahead<'_>,
     place: Place,
@@ -43,7 +45,8 @@ pub fn accepted(
         && root_follows(at, place, found.node.get()) && found.need <= budget;
     if passes { Ok(found) } else { refused(found) }
 }
-/// Whether an operator that the place allows goes on, below the level that is reached.
+/// Whether an operator comes next that the place allows and whose precedence level is below
+/// `reached`.
 fn goes_on(at: &Ahead<'_>, place: Place, reached: u8) -> bool {
     let strength = strength(at);
     place.level < strength && strength <= reached
@@ -51,7 +54,8 @@ fn goes_on(at: &Ahead<'_>, place: Place, reached: u8) -> bool {
 impl<
     P: Fn(Global, &mut Ahead<'_>, Place, u32) -> Result<Found<Boxed<Expr>>, ReadNone>,
 > ExprRules<P> {
-    /// The operators behind an expression that the place allows, from the strongest on, below a level that is reached.
+    /// Parses the operators after an expression that the place allows, the tightest first. Their
+    /// precedence level is below `from`.
     #[inline(never)]
     pub fn climb(
         &self,
@@ -68,8 +72,8 @@ impl<
         }
         accepted(at, place, lhs, self.depth + 1)
     }
-    /// What the operator of the level at the front makes of the expression before it, if that may stand there, and what
-    /// is made needn't be deeper than may be.
+    /// Parses the operators of one precedence level after an expression, if the expression may
+    /// stand before them and the whole isn't nested too deep.
     #[inline(never)]
     fn climb_once(
         &self,
@@ -84,7 +88,8 @@ impl<
         }
         self.stage(at, level, place.no_struct, lhs)
     }
-    /// What an operator of the level makes of the expression before it.
+    /// Parses the operators of this precedence level, or the postfix steps, after an expression, by
+    /// the rule of the level.
     #[inline(never)]
     fn stage(
         &self,

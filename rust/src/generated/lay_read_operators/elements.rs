@@ -1,6 +1,6 @@
 //! Made by scripts/rust.sh from crates/lay_read_operators/src/elements.rt, which is proved: change that.
 //!
-//! Expressions with commas between them, in delimiters.
+//! Parsing of expressions with commas between them, in delimiters.
 use crate::generated::lay_read_operators::rules::ExprRules;
 use crate::generated::lay_code::{Boxed, Expr, Place};
 use crate::generated::lay_ops::places::FREE;
@@ -9,13 +9,13 @@ use crate::generated::lay_read_shared::boxes::unboxed;
 use crate::generated::lay_read_tokens::{Ahead, Found, ReadNone};
 use crate::generated::lay_token::{Delim, List};
 use crate::shims::Global;
-/// Expressions one level deeper, as elements of a list.
+/// Expressions of the next deeper level as the elements of a list.
 pub struct Elements;
 impl Part<Boxed<Expr>, Place> for Elements {}
 impl<
     P: Fn(Global, &mut Ahead<'_>, Place, u32) -> Result<Found<Boxed<Expr>>, ReadNone>,
 > ExprRules<P> {
-    /// Expressions with commas, and the closing delimiter behind them, each in its box.
+    /// Parses expressions with commas between them, and the closing delimiter. Each is boxed.
     #[inline(never)]
     pub fn boxed_elements(
         &self,
@@ -30,7 +30,7 @@ impl<
             _,
         >(self.alloc, at, self.depth, Closer::Group(delim), self, ExprRules::inner, FREE)
     }
-    /// Expressions with commas, and the closing delimiter behind them.
+    /// Parses expressions with commas between them, and the closing delimiter.
     #[inline(never)]
     pub fn free_elements(
         &self,

@@ -1,11 +1,11 @@
 //! Made by scripts/rust.sh from crates/lay_read_operators/src/numbers.rt, which is proved: change that.
 //!
-//! Numbers, and the indices of tuples.
+//! Lookahead: tuple indices.
 use crate::generated::lay_node::are_digits;
 use crate::generated::lay_read_tokens::Ahead;
 use crate::generated::lay_read_tokens::front::takes_op;
 use crate::generated::lay_token::Kind;
-/// Whether the index of a tuple stands at the front.
+/// Whether a tuple index comes next.
 pub fn is_at_tuple_index(at: &Ahead<'_>) -> bool {
     match at.front() {
         Some(token) => {
@@ -14,7 +14,7 @@ pub fn is_at_tuple_index(at: &Ahead<'_>) -> bool {
         None => false,
     }
 }
-/// Whether a `.` and the index of a tuple stand at the front.
+/// Whether a `.` and then a tuple index come next.
 pub fn begins_tuple_index(at: &Ahead<'_>) -> bool {
     let mut behind = at.fork();
     takes_op(&mut behind, b".") && is_at_tuple_index(&behind)

@@ -1,6 +1,6 @@
 //! Made by scripts/rust.sh from crates/lay_read_operators/src/operands.rt, which is proved: change that.
 //!
-//! Operators of one level, and the operands behind them.
+//! Parsing of operators of one precedence level with their operands.
 use crate::generated::lay_read_operators::rules::ExprRules;
 use crate::generated::lay_code::{Boxed, Expr, Op, Place};
 use crate::generated::lay_ops::ahead::{begins_operand, binary, is_angle, strength};
@@ -15,16 +15,16 @@ use crate::generated::lay_read_tokens::front::pass;
 use crate::generated::lay_read_tokens::{Ahead, Found, ReadNone};
 use crate::generated::lay_token::List;
 use crate::shims::Global;
-/// Operators and their operands, as parts that stand one behind another.
+/// Operators with their operands as consecutive parts.
 pub struct Operands;
 impl Part<(Op, Boxed<Expr>), (u8, bool)> for Operands {}
-/// Passes so many tokens, or all there are.
+/// Moves past `count` tokens, or as many as there are.
 pub fn pass_tokens(at: &mut Ahead<'_>, count: usize) {
     for _passed in 0..count {
         pass(at);
     }
 }
-/// Whether an operand of the level may end where the tokens ahead stand.
+/// Whether an operand of this precedence level may end before the next tokens.
 fn operand_ends(at: &Ahead<'_>, operand: &Expr, level: u8, no_struct: bool) -> bool {
     if strength(at) == level + 1 {
         level != 4
@@ -34,7 +34,7 @@ fn operand_ends(at: &Ahead<'_>, operand: &Expr, level: u8, no_struct: bool) -> b
 impl<
     P: Fn(Global, &mut Ahead<'_>, Place, u32) -> Result<Found<Boxed<Expr>>, ReadNone>,
 > ExprRules<P> {
-    /// Operators of a level and their operands, as long as one begins.
+    /// Parses operators of one precedence level with their operands, as long as one begins.
     #[inline(never)]
     pub fn operands(
         &self,
@@ -58,7 +58,7 @@ impl<
             (level, no_struct),
         )
     }
-    /// An operator of a level, and its operand.
+    /// Parses an operator of this precedence level, and its operand.
     #[inline(never)]
     fn operand(
         &self,
@@ -77,7 +77,7 @@ impl<
         }
         Ok(Found { need: found.need, node: (op, found.node) })
     }
-    /// An operand at a level, if one begins.
+    /// Parses an operand of this precedence level, if one begins.
     #[inline(never)]
     pub fn operand_if(
         &self,
@@ -91,7 +91,8 @@ impl<
         let found = self.inner(at, plain(level, no_struct))?;
         Ok(Found { node: Some(found.node), need: found.need })
     }
-    /// An expression with operators of a level behind it.
+    /// Parses the operators of one precedence level after an expression with their operands, and
+    /// gives the whole.
     #[inline(never)]
     pub fn chain_expr(
         &self,

@@ -1,6 +1,6 @@
 //! Made by scripts/rust.sh from crates/lay_read_operators/src/postfix.rt, which is proved: change that.
 //!
-//! Postfix steps.
+//! Parsing of postfix steps.
 use crate::generated::lay_read_operators::numbers::{
     begins_tuple_index,
     is_at_tuple_index,
@@ -28,10 +28,10 @@ use crate::generated::lay_read_tokens::{Ahead, Found, ReadNone};
 use crate::generated::lay_read_types::args_ahead;
 use crate::generated::lay_token::{Delim, List};
 use crate::shims::Global;
-/// Postfix steps, as parts that stand one behind another.
+/// Postfix steps as consecutive parts.
 pub struct Steps;
 impl Part<Step, ()> for Steps {}
-/// The generic arguments behind a `::`.
+/// Parses the generic arguments after a `::`.
 fn read_late_args(
     alloc: Global,
     at: &mut Ahead<'_>,
@@ -47,7 +47,8 @@ fn read_late_args(
 impl<
     P: Fn(Global, &mut Ahead<'_>, Place, u32) -> Result<Found<Boxed<Expr>>, ReadNone>,
 > ExprRules<P> {
-    /// An expression with postfix steps behind it. A tuple index doesn't stand directly behind a number without suffix.
+    /// Parses the postfix steps after an expression, and gives the whole. A tuple index may not
+    /// directly follow a number without suffix.
     #[inline(never)]
     pub fn postfix_expr(
         &self,
@@ -73,7 +74,7 @@ impl<
             greater(lhs.need, found.need) + 1,
         )
     }
-    /// A step.
+    /// Parses a postfix step.
     #[inline(never)]
     fn one_step(&self, at: &mut Ahead<'_>, _place: ()) -> Result<Found<Step>, ReadNone> {
         if takes_op(at, b".") { self.dot_step(at) } else if takes_op(at, b"?") {
@@ -83,7 +84,7 @@ impl<
             Ok(Found { node: Step::Apply { args: found.node }, need: found.need })
         } else { self.bracket_step(at) }
     }
-    /// An index in brackets.
+    /// Parses an index after its `[`.
     #[inline(never)]
     fn bracket_step(&self, at: &mut Ahead<'_>) -> Result<Found<Step>, ReadNone> {
         if !takes_opener(at, Delim::Bracket) {
@@ -95,7 +96,7 @@ impl<
         }
         Ok(Found { need: found.need, node: Step::Index { index: found.node } })
     }
-    /// What stands behind a `.`.
+    /// Parses a postfix step after its `.`.
     #[inline(never)]
     fn dot_step(&self, at: &mut Ahead<'_>) -> Result<Found<Step>, ReadNone> {
         if takes_keyword(at, b"await") {
@@ -108,7 +109,7 @@ impl<
         let name = read_name(self.alloc, at)?;
         self.member(at, name)
     }
-    /// What stands behind a `.` and a name.
+    /// Parses a field access or a method call after its name.
     #[inline(never)]
     fn member(&self, at: &mut Ahead<'_>, name: Name) -> Result<Found<Step>, ReadNone> {
         if is_at_opened(at, Delim::Paren) {
@@ -120,7 +121,7 @@ impl<
             Ok(Found { node: Step::Field { name }, need: 0 })
         }
     }
-    /// A method behind its name, where generic arguments stand behind that.
+    /// Parses a method call with generic arguments, after its name.
     #[inline(never)]
     fn generic_method(
         &self,
@@ -131,7 +132,7 @@ impl<
         let generics = Found { node: Some(found.node), need: found.need };
         self.method(at, name, generics)
     }
-    /// The arguments of a method, behind its name and its generic arguments.
+    /// Parses the arguments of a method, after its name and its generic arguments.
     #[inline(never)]
     fn method(
         &self,

@@ -1,6 +1,6 @@
 //! Made by scripts/rust.sh from crates/lay_read_operators/src/ranges.rt, which is proved: change that.
 //!
-//! Ranges.
+//! Parsing of ranges.
 use crate::generated::lay_read_operators::rules::ExprRules;
 use crate::generated::lay_code::{Boxed, Expr, Place};
 use crate::generated::lay_read_parts::joins::{both, refused};
@@ -12,7 +12,7 @@ use crate::shims::Global;
 impl<
     P: Fn(Global, &mut Ahead<'_>, Place, u32) -> Result<Found<Boxed<Expr>>, ReadNone>,
 > ExprRules<P> {
-    /// A range, from its `..` or `..=` on.
+    /// Parses a range, from its `..` or `..=` on.
     #[inline(never)]
     pub fn range_expr(
         &self,
@@ -27,7 +27,7 @@ impl<
         }
         self.range_by(at, no_struct, start, inclusive)
     }
-    /// What stands behind the operator of a range.
+    /// Parses the end of a range, if it has one, after its operator.
     #[inline(never)]
     fn range_by(
         &self,

@@ -1,6 +1,6 @@
 //! Made by scripts/rust.sh from crates/lay_read_parts/src/leads.rt, which is proved: change that.
 //!
-//! What the tokens ahead begin.
+//! Lookahead: what kind of node the next tokens begin.
 use crate::generated::lay_read_tokens::Ahead;
 use crate::generated::lay_read_tokens::front::{
     is_at_closer,
@@ -11,7 +11,7 @@ use crate::generated::lay_read_tokens::front::{
 };
 use crate::generated::lay_token::word::{Class, word_class};
 use crate::generated::lay_token::{Delim, Kind, Token};
-/// What begins a type.
+/// The tokens that can begin a type.
 #[derive(Clone, Copy,)]
 pub enum Lead {
     Path,
@@ -25,7 +25,7 @@ pub enum Lead {
     Dyn,
     Func,
 }
-/// What the tokens ahead begin, if it is a type.
+/// How a type begins with the next tokens, if one does.
 pub fn lead_at(at: &Ahead<'_>) -> Option<Lead> {
     match at.peek(0) {
         Some(token) => {
@@ -42,7 +42,7 @@ pub fn lead_at(at: &Ahead<'_>) -> Option<Lead> {
         None => None,
     }
 }
-/// What a word begins, if it is a type.
+/// How a type begins with this word, if one does.
 fn lead_of_word(word: &[u8]) -> Option<Lead> {
     if matches!(word_class(word), Class::Plain | Class::PathWord) {
         Some(Lead::Path)
@@ -55,7 +55,7 @@ fn lead_of_word(word: &[u8]) -> Option<Lead> {
         Some(Lead::Func)
     } else { None }
 }
-/// What punctuation begins, if it is a type.
+/// How a type begins with this punctuation, if one does.
 fn lead_of_punct(character: &[u8], at: &Ahead<'_>) -> Option<Lead> {
     if character == b"!".as_slice() {
         Some(Lead::Never)
@@ -67,40 +67,40 @@ fn lead_of_punct(character: &[u8], at: &Ahead<'_>) -> Option<Lead> {
         None
     }
 }
-/// Whether a lifetime stands at the front.
+/// Whether a lifetime comes next.
 pub fn is_at_lifetime(at: &Ahead<'_>) -> bool {
     match at.peek(0) {
         Some(token) => matches!(token.kind, Kind::Lifetime),
         None => false,
     }
 }
-/// Whether a bound begins at the front.
+/// Whether a bound comes next.
 pub fn begins_bound(at: &Ahead<'_>) -> bool {
     is_at_lifetime(at) || is_at_keyword(at, b"use") || is_at_opened(at, Delim::Paren)
         || is_at_mark(at, b"?") || is_at_keyword(at, b"for")
         || matches!(lead_at(at), Some(Lead::Path))
 }
-/// Whether a predicate of a where clause begins at the front.
+/// Whether a predicate of a where clause comes next.
 pub(crate) fn begins_predicate(at: &Ahead<'_>) -> bool {
     is_at_lifetime(at) || lead_at(at).is_some()
 }
-/// Whether a parameter of a function type begins at the front.
+/// Whether a parameter of a function type comes next.
 pub(crate) fn begins_param(at: &Ahead<'_>) -> bool {
     !(is_at_closer(at, Delim::Paren) || at.op_is(b"..."))
 }
-/// Whether a parameter of a function begins at the front.
+/// Whether a parameter of a function comes next.
 pub(crate) fn begins_fn_param(at: &Ahead<'_>) -> bool {
     !is_at_closer(at, Delim::Paren)
 }
-/// Whether a field in the pattern of a struct begins at the front.
+/// Whether a field of a struct pattern comes next.
 pub(crate) fn begins_field(at: &Ahead<'_>) -> bool {
     !(is_at_closer(at, Delim::Brace) || at.op_is(b".."))
 }
-/// Whether generic arguments open at the front.
+/// Whether generic arguments open with the next token.
 pub fn opens_args(at: &Ahead<'_>) -> bool {
     at.op_is(b"<") || at.op_is(b"<<") || at.op_is(b"<-")
 }
-/// Whether generic arguments open behind a `::` at the front.
+/// Whether a `::` comes next, and then generic arguments open.
 pub fn opens_args_late(at: &Ahead<'_>) -> bool {
     let mut behind = at.fork();
     takes_colons(&mut behind) && opens_args(&behind)
@@ -119,21 +119,21 @@ fn is_literal(token: &Token) -> bool {
         _ => false,
     }
 }
-/// Whether a literal stands at the front.
+/// Whether a literal comes next.
 pub fn is_at_literal(at: &Ahead<'_>) -> bool {
     match at.peek(0) {
         Some(token) => is_literal(token),
         None => false,
     }
 }
-/// Whether a number stands at the front.
+/// Whether a number comes next.
 pub fn is_at_number(at: &Ahead<'_>) -> bool {
     match at.peek(0) {
         Some(token) => matches!(token.kind, Kind::Int | Kind::Float),
         None => false,
     }
 }
-/// Whether a generic argument that is a constant begins at the front.
+/// Whether a const generic argument comes next.
 pub fn begins_const(at: &Ahead<'_>) -> bool {
     is_at_literal(at) || is_at_mark(at, b"-") || is_at_opened(at, Delim::Brace)
 }

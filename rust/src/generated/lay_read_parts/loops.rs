@@ -1,6 +1,6 @@
 //! Made by scripts/rust.sh from crates/lay_read_parts/src/loops.rt, which is proved: change that.
 //!
-//! The loops of all rules, over a function that reads one part.
+//! The loops over lists and chains, which are given a reader of parts.
 use crate::generated::lay_read_parts::leads::{
     begins_field,
     begins_fn_param,
@@ -20,7 +20,7 @@ use crate::generated::lay_read_tokens::stop::keep;
 use crate::generated::lay_read_tokens::{Ahead, Found, ReadNone};
 use crate::generated::lay_token::{Delim, List};
 use crate::shims::Global;
-/// What closes a list.
+/// The token that closes a list.
 #[derive(Clone, Copy,)]
 pub enum Closer {
     Group(Delim),
@@ -29,7 +29,7 @@ pub enum Closer {
     /// `|`
     Bar,
 }
-/// What stands between the parts of a chain.
+/// The operator between the parts of a chain.
 #[derive(Clone, Copy,)]
 pub enum Joint {
     /// `+`
@@ -39,21 +39,21 @@ pub enum Joint {
     /// `|`
     Bar,
 }
-/// What goes on as long as a part of it begins.
+/// A list without a closing token, which goes on as long as a further part begins.
 #[derive(Clone, Copy,)]
 pub enum Opening {
     /// The parameters of a function type.
     Param,
     /// A where clause.
     Predicate,
-    /// The fields in the pattern of a struct.
+    /// The fields of a struct pattern.
     Field,
     /// The parameters of a function.
     FnParam,
 }
-/// How parts are read within a depth and at a place.
+/// A reader of parts, which are read within a depth and at a place.
 pub trait Part<T, X> {}
-/// Whether what closes the list stands at the front.
+/// Whether the token that closes the list comes next.
 fn is_at_end(at: &Ahead<'_>, closer: Closer) -> bool {
     match closer {
         Closer::Group(delim) => is_at_closer(at, delim),
@@ -61,7 +61,7 @@ fn is_at_end(at: &Ahead<'_>, closer: Closer) -> bool {
         Closer::Bar => is_at_mark(at, b"|"),
     }
 }
-/// Passes what closes the list, if it stands at the front.
+/// Moves past the token that closes the list if it comes next, and says whether it did.
 fn takes_end(at: &mut Ahead<'_>, closer: Closer) -> bool {
     match closer {
         Closer::Group(delim) => takes_closer(at, delim),
@@ -69,11 +69,12 @@ fn takes_end(at: &mut Ahead<'_>, closer: Closer) -> bool {
         Closer::Bar => takes_mark(at, b"|"),
     }
 }
-/// Behind an element a `,` is passed, and where there is none what closes the list stands.
+/// Moves past a `,` after an element. Without a `,` it says whether the token that closes the list
+/// comes next.
 fn takes_element_end(at: &mut Ahead<'_>, closer: Closer) -> bool {
     takes_mark(at, b",") || is_at_end(at, closer)
 }
-/// Passes what stands between two parts, if it stands at the front.
+/// Moves past the operator of the chain if it comes next, and says whether it did.
 fn takes_joint(at: &mut Ahead<'_>, joint: Joint) -> bool {
     match joint {
         Joint::Plus => takes_op(at, b"+"),
@@ -81,7 +82,7 @@ fn takes_joint(at: &mut Ahead<'_>, joint: Joint) -> bool {
         Joint::Bar => takes_op(at, b"|"),
     }
 }
-/// Elements with commas, and what closes them.
+/// Parses elements with commas between them, and the token that closes the list.
 pub fn read_elements<
     P: Part<T, X>,
     R,
@@ -109,7 +110,7 @@ pub fn read_elements<
     }
     Ok(Found { node: nodes, need })
 }
-/// Parts with what stands between them, one at least.
+/// Parses a chain of at least one part, with the operator between the parts.
 pub fn read_chain<
     P: Part<T, X>,
     R,
@@ -135,7 +136,7 @@ pub fn read_chain<
     }
     Ok(Found { node: nodes, need })
 }
-/// Whether a part that goes on begins at the front.
+/// Whether a further part begins with the next tokens.
 fn goes_on(at: &Ahead<'_>, opening: Opening) -> bool {
     match opening {
         Opening::Param => begins_param(at),
@@ -144,7 +145,8 @@ fn goes_on(at: &Ahead<'_>, opening: Opening) -> bool {
         Opening::FnParam => begins_fn_param(at),
     }
 }
-/// Elements with commas as long as one begins; and whether a comma stands behind the last of them, or there is none.
+/// Parses elements with commas between them, as long as one begins. The flag says that a comma
+/// follows the last one, or that there is none.
 pub fn read_open_elements<
     P: Part<T, X>,
     R,

@@ -1,6 +1,6 @@
 //! Made by scripts/rust.sh from crates/lay_read_parts/src/parts.rt, which is proved: change that.
 //!
-//! Lifetimes, literals, binders, constants and ABIs.
+//! Parsing of lifetimes, literals, binders, const arguments and ABIs.
 use crate::generated::lay_read_parts::joins::{both, refused};
 use crate::generated::lay_read_parts::leads::{
     is_at_lifetime,
@@ -41,7 +41,7 @@ use crate::generated::lay_read_tokens::tokens::read_tokens;
 use crate::generated::lay_read_tokens::{Ahead, Found, ReadNone};
 use crate::generated::lay_token::{Delim, List, NoMemory};
 use crate::shims::Global;
-/// A lifetime.
+/// Parses a lifetime.
 pub fn read_lifetime(alloc: Global, at: &mut Ahead<'_>) -> Result<Lifetime, ReadNone> {
     let token = match at.peek(0) {
         Some(token) => token,
@@ -54,7 +54,7 @@ pub fn read_lifetime(alloc: Global, at: &mut Ahead<'_>) -> Result<Lifetime, Read
     pass(at);
     Ok(Lifetime { text })
 }
-/// A lifetime, if one stands at the front.
+/// Parses a lifetime, if one comes next.
 pub fn read_lifetime_if(
     alloc: Global,
     at: &mut Ahead<'_>,
@@ -65,10 +65,10 @@ pub fn read_lifetime_if(
     let lifetime = read_lifetime(alloc, at)?;
     Ok(Some(lifetime))
 }
-/// Lifetimes, as parts of a chain.
+/// Lifetimes as the parts of a chain.
 struct Lifetimes;
 impl Part<Lifetime, ()> for Lifetimes {}
-/// A lifetime, which needs no depth.
+/// Parses a lifetime, which needs no depth.
 fn free_lifetime(
     alloc: &Global,
     at: &mut Ahead<'_>,
@@ -77,7 +77,7 @@ fn free_lifetime(
     let node = read_lifetime(*alloc, at)?;
     Ok(Found { node, need: 0 })
 }
-/// Lifetimes behind a `:`.
+/// Parses the lifetimes after a `:`.
 pub fn read_lifetimes(
     alloc: Global,
     at: &mut Ahead<'_>,
@@ -94,11 +94,11 @@ pub fn read_lifetimes(
     >(alloc, at, 0, Joint::Plus, &alloc, free_lifetime, ())?;
     Ok(found.node)
 }
-/// What a lifetime outlives, if anything is said of it.
+/// Parses the bounds of a lifetime, if it has any.
 fn read_outlived(alloc: Global, at: &mut Ahead<'_>) -> Result<List<Lifetime>, ReadNone> {
     if takes_op(at, b":") { read_lifetimes(alloc, at) } else { Ok(List::new(alloc)) }
 }
-/// A lifetime that is a parameter, behind its attributes.
+/// Parses a lifetime parameter; its attributes were read.
 pub fn read_lifetime_behind(
     alloc: Global,
     at: &mut Ahead<'_>,
@@ -108,7 +108,7 @@ pub fn read_lifetime_behind(
     let ((attrs, lifetime), bounds) = both((attrs, lifetime), read_outlived(alloc, at))?;
     Ok(LifetimeParam { attrs, lifetime, bounds })
 }
-/// A lifetime that is a parameter, with its attributes.
+/// Parses a lifetime parameter with its attributes.
 fn read_lifetime_param(
     alloc: Global,
     at: &mut Ahead<'_>,
@@ -116,10 +116,10 @@ fn read_lifetime_param(
     let attrs = attrs_ahead(alloc, at, false)?;
     read_lifetime_behind(alloc, at, attrs)
 }
-/// Lifetimes that are parameters, as elements of a list.
+/// Lifetime parameters as the elements of a list.
 struct LifetimeParams;
 impl Part<LifetimeParam, ()> for LifetimeParams {}
-/// A lifetime that is a parameter, which needs no depth.
+/// Parses a lifetime parameter, which needs no depth.
 fn free_param(
     alloc: &Global,
     at: &mut Ahead<'_>,
@@ -128,7 +128,7 @@ fn free_param(
     let node = read_lifetime_param(*alloc, at)?;
     Ok(Found { node, need: 0 })
 }
-/// The parameters of a binder, behind its `<`.
+/// Parses the parameters of a binder, after its `<`.
 fn read_params(
     alloc: Global,
     at: &mut Ahead<'_>,
@@ -142,7 +142,7 @@ fn read_params(
     >(alloc, at, 0, Closer::Angle, &alloc, free_param, ())?;
     Ok(found.node)
 }
-/// A binder, if one stands at the front.
+/// Parses a binder, if one comes next.
 pub fn read_binder_if(
     alloc: Global,
     at: &mut Ahead<'_>,
@@ -156,12 +156,12 @@ pub fn read_binder_if(
     let params = read_params(alloc, at)?;
     Ok(Some(Binder { params }))
 }
-/// Whether a word may be captured: a name, or `Self`.
+/// Whether the word may stand in `use<..>`: a name, or `Self`.
 fn is_captured(word: &Word) -> bool {
     word.raw || is_plain(word.text.as_bytes())
         || word.text.as_bytes() == b"Self".as_slice()
 }
-/// A lifetime or a word that is captured.
+/// Parses a lifetime or a word in `use<..>`.
 fn read_capture(alloc: Global, at: &mut Ahead<'_>) -> Result<Capture, ReadNone> {
     if is_at_lifetime(at) {
         let lifetime = read_lifetime(alloc, at)?;
@@ -172,10 +172,10 @@ fn read_capture(alloc: Global, at: &mut Ahead<'_>) -> Result<Capture, ReadNone> 
         Err(ReadNone::NoReading)
     }
 }
-/// What is captured, as elements of a list.
+/// The arguments of `use<..>` as the elements of a list.
 struct Captures;
 impl Part<Capture, ()> for Captures {}
-/// A lifetime or a word that is captured, which needs no depth.
+/// Parses a lifetime or a word in `use<..>`, which needs no depth.
 fn free_capture(
     alloc: &Global,
     at: &mut Ahead<'_>,
@@ -184,7 +184,7 @@ fn free_capture(
     let node = read_capture(*alloc, at)?;
     Ok(Found { node, need: 0 })
 }
-/// What is captured, behind its `<`.
+/// Parses the arguments of `use<..>`, after the `<`.
 fn read_captured(alloc: Global, at: &mut Ahead<'_>) -> Result<List<Capture>, ReadNone> {
     let found = read_elements::<
         Captures,
@@ -195,7 +195,7 @@ fn read_captured(alloc: Global, at: &mut Ahead<'_>) -> Result<List<Capture>, Rea
     >(alloc, at, 0, Closer::Angle, &alloc, free_capture, ())?;
     Ok(found.node)
 }
-/// What is captured, behind `use`.
+/// Parses the `<..>` of `use<..>`.
 pub fn read_captures(
     alloc: Global,
     at: &mut Ahead<'_>,
@@ -205,7 +205,7 @@ pub fn read_captures(
     }
     read_captured(alloc, at)
 }
-/// The first token as a literal, if it passes.
+/// The next token as a literal, if `passes`.
 pub fn read_literal(
     alloc: Global,
     at: &mut Ahead<'_>,
@@ -222,7 +222,7 @@ pub fn read_literal(
     pass(at);
     Ok(Literal { kind: token.kind, text })
 }
-/// A generic argument that is a constant.
+/// Parses a const generic argument.
 pub fn read_const(alloc: Global, at: &mut Ahead<'_>) -> Result<ConstArg, ReadNone> {
     if is_at_literal(at) {
         let literal = read_literal(alloc, at, true)?;
@@ -231,13 +231,13 @@ pub fn read_const(alloc: Global, at: &mut Ahead<'_>) -> Result<ConstArg, ReadNon
         read_braces(alloc, at)
     }
 }
-/// A number, behind its `-`.
+/// Parses the number after a `-`.
 fn read_negative(alloc: Global, at: &mut Ahead<'_>) -> Result<ConstArg, ReadNone> {
     let passes = is_at_number(at);
     let literal = read_literal(alloc, at, passes)?;
     Ok(ConstArg::Negative(literal))
 }
-/// A constant in braces.
+/// Parses a const argument in braces.
 fn read_braces(alloc: Global, at: &mut Ahead<'_>) -> Result<ConstArg, ReadNone> {
     if !takes_opener(at, Delim::Brace) {
         return Err(ReadNone::NoReading);
@@ -247,7 +247,7 @@ fn read_braces(alloc: Global, at: &mut Ahead<'_>) -> Result<ConstArg, ReadNone> 
         refused(tokens)
     }
 }
-/// Whether a string without suffix stands at the front.
+/// Whether a string without suffix comes next.
 fn is_at_string(alloc: Global, at: &Ahead<'_>) -> Result<bool, ReadNone> {
     match at.front() {
         Some(token) => {
@@ -260,7 +260,7 @@ fn is_at_string(alloc: Global, at: &Ahead<'_>) -> Result<bool, ReadNone> {
         None => Ok(false),
     }
 }
-/// An ABI, behind `extern`.
+/// Parses the string of an ABI, after `extern`.
 fn read_abi_name(
     alloc: Global,
     at: &mut Ahead<'_>,
@@ -271,7 +271,7 @@ fn read_abi_name(
     let name = read_literal(alloc, at, true)?;
     Ok(Some(name))
 }
-/// An ABI, if one stands at the front.
+/// Parses an ABI, if one comes next.
 pub fn read_abi_if(alloc: Global, at: &mut Ahead<'_>) -> Result<Option<Abi>, ReadNone> {
     if !takes_keyword(at, b"extern") {
         return Ok(None);

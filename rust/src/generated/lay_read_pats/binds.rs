@@ -1,6 +1,6 @@
 //! Made by scripts/rust.sh from crates/lay_read_pats/src/binds.rt, which is proved: change that.
 //!
-//! Names that are bound.
+//! Parsing of bindings.
 use crate::generated::lay_read_pats::rules::PatRules;
 use crate::generated::lay_node::{Name, Pat, PatPlace};
 use crate::generated::lay_read_parts::joins::{both, refused};
@@ -8,18 +8,18 @@ use crate::generated::lay_read_tokens::front::{is_at_keyword, takes_keyword, tak
 use crate::generated::lay_read_tokens::names::read_name;
 use crate::generated::lay_read_tokens::{Ahead, Found, ReadNone};
 use crate::shims::Global;
-/// Whether a name behind `ref` or `mut` begins at the front.
+/// Whether a binding comes next that begins with `ref` or `mut`.
 pub fn begins_bind(at: &Ahead<'_>) -> bool {
     is_at_keyword(at, b"ref") || is_at_keyword(at, b"mut")
 }
-/// A name that is bound, if neither `::` nor `!` stands behind it.
+/// The binding that was read, if neither `::` nor `!` follows.
 fn bound(at: &Ahead<'_>, found: Found<Pat>) -> Result<Found<Pat>, ReadNone> {
     if at.op_is(b"::") || at.op_is(b"!") { refused(found) } else { Ok(found) }
 }
 impl<
     P: Fn(Global, &mut Ahead<'_>, PatPlace, u32) -> Result<Found<Pat>, ReadNone>,
 > PatRules<P> {
-    /// What a name is bound to, behind it.
+    /// Parses the `@` and the pattern of a binding, if they come next.
     pub fn bind(
         &self,
         at: &mut Ahead<'_>,
@@ -36,7 +36,7 @@ impl<
             bound(at, Found { node, need: 1 })
         }
     }
-    /// A name behind `ref` or `mut`, or both.
+    /// Parses a binding that begins with `ref` or `mut`.
     pub fn marked_bind(&self, at: &mut Ahead<'_>) -> Result<Found<Pat>, ReadNone> {
         let by_ref = takes_keyword(at, b"ref");
         let mutable = takes_keyword(at, b"mut");

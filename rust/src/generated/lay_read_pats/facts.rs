@@ -1,16 +1,16 @@
 //! Made by scripts/rust.sh from crates/lay_read_pats/src/facts.rt, which is proved: change that.
 //!
-//! What the rules ask of a pattern or a path that was read.
+//! Facts about patterns and paths that the rules need.
 use crate::generated::lay_node::{Args, Pat, Path, PathStart, Word};
 use crate::generated::lay_token::word::{Class, word_class};
-/// Whether the pattern is a name that is bound, with nothing behind it.
+/// Whether the pattern is a name alone, which it binds.
 pub(crate) fn is_short(pat: &Pat) -> bool {
     match pat {
         Pat::Bind { of, .. } => of.is_none(),
         _ => false,
     }
 }
-/// Whether the pattern is a span.
+/// Whether the pattern is a range.
 pub(crate) fn is_span(pat: &Pat) -> bool {
     matches!(pat, Pat::Span { .. })
 }
@@ -18,7 +18,7 @@ pub(crate) fn is_span(pat: &Pat) -> bool {
 pub fn is_rest(pat: &Pat) -> bool {
     matches!(pat, Pat::Rest)
 }
-/// The word that the path is, without arguments.
+/// The word of a path that is one word without generic arguments.
 pub(crate) fn lone_word(path: &Path) -> Option<&Word> {
     if !matches!(path.start, PathStart::Local) {
         return None;

@@ -1,6 +1,6 @@
 //! Made by scripts/rust.sh from crates/lay_read_pats/src/groups.rt, which is proved: change that.
 //!
-//! Patterns in delimiters, and references.
+//! Parsing of patterns in delimiters, and of reference patterns.
 use crate::generated::lay_read_pats::facts::{is_rest, is_span};
 use crate::generated::lay_read_pats::rules::PatRules;
 use crate::generated::lay_node::{Pat, PatPlace};
@@ -12,7 +12,7 @@ use crate::generated::lay_read_tokens::stop::{boxed, keep};
 use crate::generated::lay_read_tokens::{Ahead, Found, ReadNone};
 use crate::generated::lay_token::{Delim, List};
 use crate::shims::Global;
-/// Patterns one level deeper, as elements of a list.
+/// Patterns of the next deeper level as the elements of a list.
 pub struct Elements;
 impl Part<Pat, PatPlace> for Elements {}
 /// A list of one pattern.
@@ -21,7 +21,7 @@ fn only(alloc: Global, pat: Pat) -> Result<List<Pat>, ReadNone> {
     keep(&mut pats, pat)?;
     Ok(pats)
 }
-/// A pattern alone in parentheses, behind it and the `)`: `..` is the one element of a tuple.
+/// A pattern alone in parentheses, which were read: a tuple if it is `..`, else in parentheses.
 fn alone_of(
     alloc: Global,
     at: &Ahead<'_>,
@@ -35,7 +35,7 @@ fn alone_of(
     let inner = boxed(alloc, found.node)?;
     Ok(Found { node: Pat::Paren { inner }, need })
 }
-/// A tuple of a first element and the others. One that is `..` alone has no comma.
+/// A tuple pattern of a first element and the others. After `..` alone it has no comma.
 fn tuple_of(
     at: &Ahead<'_>,
     first: Found<Pat>,
@@ -51,7 +51,7 @@ fn tuple_of(
 impl<
     P: Fn(Global, &mut Ahead<'_>, PatPlace, u32) -> Result<Found<Pat>, ReadNone>,
 > PatRules<P> {
-    /// Patterns with commas, and the closing delimiter behind them.
+    /// Parses patterns with commas between them, and the closing delimiter.
     pub fn elements(
         &self,
         at: &mut Ahead<'_>,
@@ -73,7 +73,7 @@ impl<
             PatPlace::Alternatives,
         )
     }
-    /// What stands behind a `&`.
+    /// Parses a pattern after its `&`.
     pub fn ref_pat(&self, at: &mut Ahead<'_>) -> Result<Found<Pat>, ReadNone> {
         let mutable = takes_keyword(at, b"mut");
         let found = self.inner(at, PatPlace::Single)?;
@@ -84,12 +84,12 @@ impl<
         let inner = boxed(self.alloc, found.node)?;
         Ok(Found { node: Pat::Ref { mutable, inner }, need })
     }
-    /// What stands behind a `[`.
+    /// Parses a pattern after its `[`.
     pub fn slice_pat(&self, at: &mut Ahead<'_>) -> Result<Found<Pat>, ReadNone> {
         let found = self.elements(at, Delim::Bracket)?;
         Ok(Found { node: Pat::Slice { elements: found.node }, need: found.need + 1 })
     }
-    /// What stands behind a `(`.
+    /// Parses a pattern after its `(`.
     pub fn paren_pat(&self, at: &mut Ahead<'_>) -> Result<Found<Pat>, ReadNone> {
         if takes_closer(at, Delim::Paren) {
             let elements = List::new(self.alloc);
@@ -98,7 +98,7 @@ impl<
         let first = self.inner(at, PatPlace::Alternatives)?;
         self.paren_by(at, first)
     }
-    /// What stands behind a `(` and a pattern.
+    /// Parses a pattern after its `(` and the first pattern in it.
     fn paren_by(
         &self,
         at: &mut Ahead<'_>,

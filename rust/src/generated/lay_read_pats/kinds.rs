@@ -1,6 +1,6 @@
 //! Made by scripts/rust.sh from crates/lay_read_pats/src/kinds.rt, which is proved: change that.
 //!
-//! Each kind of pattern, told from what begins it.
+//! Parsing of each kind of pattern, by its first token.
 use crate::generated::lay_read_pats::binds::begins_bind;
 use crate::generated::lay_read_pats::rules::PatRules;
 use crate::generated::lay_read_pats::values::{
@@ -22,24 +22,24 @@ use crate::generated::lay_read_tokens::{Ahead, Found, ReadNone};
 use crate::generated::lay_read_types::types::begins_call;
 use crate::generated::lay_token::Delim;
 use crate::shims::Global;
-/// A macro call that is a pattern.
+/// Parses a macro call as a pattern.
 fn call_pat(alloc: Global, at: &mut Ahead<'_>) -> Result<Found<Pat>, ReadNone> {
     let call = call_ahead(alloc, at)?;
     Ok(Found { node: Pat::Call { call }, need: 1 })
 }
-/// Whether what no pattern is followed by stands at the front.
+/// Whether a token comes next that can't follow a pattern.
 fn goes_on(at: &Ahead<'_>) -> bool {
     is_at_opened(at, Delim::Paren) || is_at_opened(at, Delim::Brace) || begins_dots(at)
 }
 impl<
     P: Fn(Global, &mut Ahead<'_>, PatPlace, u32) -> Result<Found<Pat>, ReadNone>,
 > PatRules<P> {
-    /// A pattern that isn't followed by what goes on with one.
+    /// Parses a pattern that isn't an alternation, and that nothing goes on with.
     pub fn single_by(&self, at: &mut Ahead<'_>) -> Result<Found<Pat>, ReadNone> {
         let found = self.pat_by(at)?;
         if goes_on(at) { refused(found) } else { Ok(found) }
     }
-    /// A pattern, told from what begins it.
+    /// Parses a pattern by its first token.
     fn pat_by(&self, at: &mut Ahead<'_>) -> Result<Found<Pat>, ReadNone> {
         if begins_value(at) {
             value_pat(self.alloc, at, self.depth)
@@ -56,7 +56,7 @@ impl<
             self.word_led(at)
         }
     }
-    /// A pattern that begins with a word, or with what a path begins with.
+    /// Parses a pattern that begins with a word or a path.
     fn word_led(&self, at: &mut Ahead<'_>) -> Result<Found<Pat>, ReadNone> {
         if begins_bind(at) {
             self.marked_bind(at)

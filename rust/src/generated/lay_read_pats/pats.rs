@@ -1,6 +1,6 @@
 //! Made by scripts/rust.sh from crates/lay_read_pats/src/pats.rt, which is proved: change that.
 //!
-//! Patterns at their places.
+//! The recursion: patterns at their places, within a depth limit.
 use crate::generated::lay_read_pats::rules::PatRules;
 use crate::generated::lay_node::{Pat, PatPlace};
 use crate::generated::lay_read_parts::loops::{Joint, Part, read_chain};
@@ -8,16 +8,16 @@ use crate::generated::lay_read_tokens::front::takes_op;
 use crate::generated::lay_read_tokens::{Ahead, Found, ReadNone};
 use crate::generated::lay_token::List;
 use crate::shims::Global;
-/// A depth, at which alternatives are read.
+/// The depth limit at which alternatives are read.
 #[derive(Clone, Copy,)]
 struct Level {
     alloc: Global,
     depth: u32,
 }
-/// Patterns without alternatives, as parts of a chain.
+/// Single patterns as the parts of an alternation.
 struct Singles;
 impl Part<Pat, ()> for Singles {}
-/// A pattern at its place, within a depth.
+/// Parses a pattern at its place, within `depth` levels.
 pub fn pat_ahead(
     alloc: Global,
     at: &mut Ahead<'_>,
@@ -33,7 +33,7 @@ pub fn pat_ahead(
         }
     }
 }
-/// A pattern without alternatives, within a depth.
+/// Parses a pattern that is no alternation, within `depth` levels.
 pub fn single_ahead(
     alloc: Global,
     at: &mut Ahead<'_>,
@@ -45,7 +45,7 @@ pub fn single_ahead(
     let rules = PatRules { alloc, depth: depth - 1, pats: pat_ahead };
     rules.single_by(at)
 }
-/// Patterns with a `|` between them, one at least.
+/// Parses one or more patterns with a `|` between them.
 fn alternatives(
     alloc: Global,
     at: &mut Ahead<'_>,
@@ -60,7 +60,7 @@ fn alternatives(
         _,
     >(alloc, at, depth, Joint::Bar, &level, one_alternative, ())
 }
-/// One of several alternatives.
+/// Parses one of the alternatives.
 fn one_alternative(
     level: &Level,
     at: &mut Ahead<'_>,
@@ -68,7 +68,8 @@ fn one_alternative(
 ) -> Result<Found<Pat>, ReadNone> {
     single_ahead(level.alloc, at, level.depth)
 }
-/// Alternatives, where there are several, which stand one level deeper, within the depth; and else the one pattern.
+/// The alternation of these patterns, which counts one level of depth more; or, if there is only
+/// one, that pattern.
 pub fn alternatives_of(
     at: &Ahead<'_>,
     found: Found<List<Pat>>,

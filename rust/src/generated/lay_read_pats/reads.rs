@@ -1,12 +1,13 @@
 //! Made by scripts/rust.sh from crates/lay_read_pats/src/reads.rt, which is proved: change that.
 //!
-//! The pattern at a cursor.
+//! The public readers of patterns.
 use crate::generated::lay_read_pats::pats::pat_ahead;
 use crate::generated::lay_nest::Cursor;
 use crate::generated::lay_node::{Pat, PatPlace};
 use crate::generated::lay_read_tokens::{Ahead, ReadNone};
 use crate::shims::Global;
-/// The pattern at the front, which may be several alternatives, within a depth. Where there is none the cursor stays.
+/// Parses the next pattern, which may be an alternation, within `depth` levels. On an error the
+/// cursor doesn't move.
 pub fn read_pat(
     alloc: Global,
     at: &mut Cursor<'_>,
@@ -14,7 +15,8 @@ pub fn read_pat(
 ) -> Result<Pat, ReadNone> {
     read_at(alloc, at, PatPlace::Alternatives, depth)
 }
-/// The pattern at the front, which is no alternatives, within a depth. Where there is none the cursor stays.
+/// Parses the next pattern that is no alternation, within `depth` levels. On an error the cursor
+/// doesn't move.
 pub fn read_pat_no_alt(
     alloc: Global,
     at: &mut Cursor<'_>,
@@ -22,7 +24,8 @@ pub fn read_pat_no_alt(
 ) -> Result<Pat, ReadNone> {
     read_at(alloc, at, PatPlace::Single, depth)
 }
-/// The pattern at the front, at its place and within a depth. Where there is none the cursor stays.
+/// Parses the next pattern at its place, within `depth` levels. On an error the cursor doesn't
+/// move.
 fn read_at(
     alloc: Global,
     at: &mut Cursor<'_>,

@@ -1,21 +1,21 @@
 //! Made by scripts/rust.sh from crates/lay_read_pats/src/rules.rt, which is proved: change that.
 //!
-//! The rules of a level, and how what is one level deeper is read.
+//! The rules of one level, over the reader of the next deeper level.
 use crate::generated::lay_node::{Boxed, Pat, PatPlace};
 use crate::generated::lay_read_tokens::stop::boxed;
 use crate::generated::lay_read_tokens::{Ahead, Found, ReadNone};
 use crate::shims::Global;
-/// The rules of a level, over the reader of patterns one level deeper, at a place.
+/// The rules of one level, over the reader of patterns of the next deeper level.
 pub struct PatRules<P> {
     pub alloc: Global,
-    /// At this depth what is one level deeper is read.
+    /// The depth limit of the next deeper level.
     pub depth: u32,
     pub pats: P,
 }
 impl<
     P: Fn(Global, &mut Ahead<'_>, PatPlace, u32) -> Result<Found<Pat>, ReadNone>,
 > PatRules<P> {
-    /// A pattern one level deeper.
+    /// Parses a pattern of the next deeper level.
     pub fn inner(
         &self,
         at: &mut Ahead<'_>,
@@ -23,7 +23,7 @@ impl<
     ) -> Result<Found<Pat>, ReadNone> {
         (self.pats)(self.alloc, at, place, self.depth)
     }
-    /// The same in a box.
+    /// Parses a pattern of the next deeper level, and boxes it.
     pub fn boxed_inner(
         &self,
         at: &mut Ahead<'_>,

@@ -1,6 +1,6 @@
 //! Made by scripts/rust.sh from crates/lay_read_pats/src/structs.rt, which is proved: change that.
 //!
-//! What begins with a path.
+//! Parsing of patterns that begin with a path.
 use crate::generated::lay_read_pats::facts::{is_name, is_self, is_short, lone_word};
 use crate::generated::lay_read_pats::rules::PatRules;
 use crate::generated::lay_read_pats::values::{begins_dots, span};
@@ -32,14 +32,14 @@ use crate::generated::lay_read_tokens::{Ahead, Found, ReadNone};
 use crate::generated::lay_read_types::path_ahead;
 use crate::generated::lay_token::{Delim, Kind, List, Text};
 use crate::shims::Global;
-/// A path that is a pattern, if no `!` stands behind it.
+/// The path as a pattern, if no `!` follows.
 fn plain_path(at: &Ahead<'_>, path: Found<Path>) -> Result<Found<Pat>, ReadNone> {
     if at.op_is(b"!") {
         return refused(path);
     }
     Ok(Found { node: Pat::Path { path: path.node }, need: path.need + 1 })
 }
-/// Whether the number of a field and a `:` stand at the front.
+/// Whether a tuple index and a `:` come next.
 fn is_at_index(at: &Ahead<'_>) -> bool {
     match at.peek(0) {
         Some(token) => {
@@ -50,7 +50,7 @@ fn is_at_index(at: &Ahead<'_>) -> bool {
         None => false,
     }
 }
-/// The number that a field is called by, and the `:` behind it, if they stand at the front.
+/// Parses a tuple index and the `:` after it, if they come next.
 pub fn read_index_if(
     alloc: Global,
     at: &mut Ahead<'_>,
@@ -65,13 +65,13 @@ pub fn read_index_if(
         _ => Ok(None),
     }
 }
-/// Whether a name and a `:` behind it stand at the front.
+/// Whether a name and a `:` come next.
 fn is_at_field_name(at: &Ahead<'_>) -> bool {
     let mut behind = at.fork();
     pass(&mut behind);
     is_at_name(at) && behind.op_is(b":")
 }
-/// A name with a `:` behind it, if they stand at the front.
+/// Parses a name and the `:` after it, if they come next.
 fn read_field_name_if(
     alloc: Global,
     at: &mut Ahead<'_>,
@@ -83,18 +83,18 @@ fn read_field_name_if(
     pass(at);
     Ok(Some(name))
 }
-/// Fields, as elements of the pattern of a struct.
+/// Fields as the elements of a struct pattern.
 pub struct Fields;
 impl Part<FieldPat, ()> for Fields {}
 impl<
     P: Fn(Global, &mut Ahead<'_>, PatPlace, u32) -> Result<Found<Pat>, ReadNone>,
 > PatRules<P> {
-    /// A path, and what stands behind it.
+    /// Parses a pattern that begins with a path.
     pub fn path_pat(&self, at: &mut Ahead<'_>) -> Result<Found<Pat>, ReadNone> {
         let path = path_ahead(self.alloc, at, PathStyle::Code, self.depth)?;
         self.path_by(at, path)
     }
-    /// What stands behind a path.
+    /// Parses a pattern after the path that it begins with.
     fn path_by(
         &self,
         at: &mut Ahead<'_>,
@@ -109,7 +109,7 @@ impl<
             span(self.alloc, at, self.depth, start)
         } else { self.word_pat(at, path) }
     }
-    /// A path with nothing behind it: where it is one word that is a name, that is bound.
+    /// A path that nothing follows: a binding, if it is one word that is a name.
     fn word_pat(
         &self,
         at: &mut Ahead<'_>,
@@ -121,7 +121,7 @@ impl<
             _ => plain_path(at, path),
         }
     }
-    /// The word is a name that is bound.
+    /// Parses a binding of this word, which is a name.
     fn word_bind(
         &self,
         at: &mut Ahead<'_>,
@@ -131,7 +131,7 @@ impl<
         let name = Name { raw: word.raw, text };
         self.bind(at, false, false, name)
     }
-    /// Elements in parentheses, behind a path and the `(`.
+    /// Parses the elements of a tuple struct pattern, after its path and the `(`.
     fn tuple_struct(
         &self,
         at: &mut Ahead<'_>,
@@ -145,7 +145,7 @@ impl<
             },
         )
     }
-    /// Fields in braces, behind a path and the `{`.
+    /// Parses the fields of a struct pattern, after its path and the `{`.
     fn struct_pat(
         &self,
         at: &mut Ahead<'_>,
@@ -161,7 +161,7 @@ impl<
             },
         )
     }
-    /// Fields behind a `{`, and whether a `..` stands behind them.
+    /// Parses fields after the `{`. The flag says that a `..` follows them.
     fn fields(
         &self,
         at: &mut Ahead<'_>,
@@ -184,7 +184,7 @@ impl<
         }
         Ok(Found { node: (fields, rest), need })
     }
-    /// A field, with its attributes.
+    /// Parses a field with its attributes.
     fn one_field(
         &self,
         at: &mut Ahead<'_>,
@@ -197,7 +197,7 @@ impl<
             None => self.named_field(at, attrs),
         }
     }
-    /// A field behind its number and the `:`.
+    /// Parses the pattern of a field after its tuple index and the `:`.
     fn index_field(
         &self,
         at: &mut Ahead<'_>,
@@ -215,7 +215,7 @@ impl<
             },
         )
     }
-    /// A field that is called by its name, behind its attributes.
+    /// Parses a field with a name; its attributes were read.
     fn named_field(
         &self,
         at: &mut Ahead<'_>,
@@ -227,7 +227,7 @@ impl<
             None => self.short_field(at, attrs),
         }
     }
-    /// A field behind its name and the `:`.
+    /// Parses the pattern of a field after its name and the `:`.
     fn full_field(
         &self,
         at: &mut Ahead<'_>,
@@ -245,7 +245,7 @@ impl<
             },
         )
     }
-    /// A field that is bound to its own name.
+    /// Parses a field that is bound to its own name.
     fn short_field(
         &self,
         at: &mut Ahead<'_>,

@@ -1,6 +1,6 @@
 //! Made by scripts/rust.sh from crates/lay_read_pats/src/values.rt, which is proved: change that.
 //!
-//! Values, and spans of them.
+//! Parsing of literals in patterns, and of range patterns.
 use crate::generated::lay_node::{Pat, PatValue, PathStyle, SpanEnd};
 use crate::generated::lay_read_parts::joins::both;
 use crate::generated::lay_read_parts::leads::{
@@ -16,24 +16,24 @@ use crate::generated::lay_read_tokens::stop::boxed;
 use crate::generated::lay_read_tokens::{Ahead, Found, ReadNone};
 use crate::generated::lay_read_types::path_ahead;
 use crate::shims::Global;
-/// Whether the `..` or `..=` of a span stands at the front.
+/// Whether the `..` or `..=` of a range pattern comes next.
 pub fn begins_dots(at: &Ahead<'_>) -> bool {
     at.op_is(b"..") || at.op_is(b"..=")
 }
-/// Whether a value begins at the front.
+/// Whether a literal or a negative number comes next.
 pub fn begins_value(at: &Ahead<'_>) -> bool {
     is_at_literal(at) || is_at_mark(at, b"-")
 }
-/// Whether the end of a span begins at the front.
+/// Whether the end of a range pattern comes next.
 fn begins_span_end(at: &Ahead<'_>) -> bool {
     begins_value(at) || matches!(lead_at(at), Some(Lead::Path))
 }
-/// Passes three tokens, if there are so many.
+/// Moves past three tokens, or as many as there are.
 fn pass_three(at: &mut Ahead<'_>) {
     pass(at);
     pass_two(at);
 }
-/// A literal, or a number behind a `-`.
+/// Parses a literal, or a negative number.
 fn read_value(alloc: Global, at: &mut Ahead<'_>) -> Result<PatValue, ReadNone> {
     if takes_mark(at, b"-") {
         let passes = is_at_number(at);
@@ -45,7 +45,7 @@ fn read_value(alloc: Global, at: &mut Ahead<'_>) -> Result<PatValue, ReadNone> {
         Ok(PatValue { negative: false, literal })
     }
 }
-/// An end of a span.
+/// Parses an end of a range pattern.
 fn one_end(
     alloc: Global,
     at: &mut Ahead<'_>,
@@ -59,7 +59,7 @@ fn one_end(
         Ok(Found { node: SpanEnd::Path(path.node), need: path.need })
     }
 }
-/// A span that ends, behind its `..` or `..=`.
+/// Parses the end of a range pattern, after its `..` or `..=`.
 fn closed_span(
     alloc: Global,
     at: &mut Ahead<'_>,
@@ -73,7 +73,7 @@ fn closed_span(
     let (start, end) = both(start, boxed(alloc, end))?;
     Ok(Found { node: Pat::Span { start, inclusive, end }, need })
 }
-/// A `..` without an end behind it: a rest, or a span with its first end alone.
+/// A `..` that no end follows: a rest pattern, or a range with a start alone.
 fn open_span(
     alloc: Global,
     at: &Ahead<'_>,
@@ -89,7 +89,7 @@ fn open_span(
         None => Ok(Found { node: Pat::Rest, need: 1 }),
     }
 }
-/// A span, or a rest, from its `..` or `..=` on.
+/// Parses a range pattern from its `..` or `..=` on, or a rest pattern.
 pub fn span(
     alloc: Global,
     at: &mut Ahead<'_>,
@@ -105,7 +105,7 @@ pub fn span(
         open_span(alloc, at, start)
     }
 }
-/// A value, or a span that it begins.
+/// Parses a literal, or a range pattern that begins with one.
 pub fn value_pat(
     alloc: Global,
     at: &mut Ahead<'_>,

@@ -1,8 +1,8 @@
 //! Made by scripts/rust.sh from crates/lay_read_shared/src/alone.rt, which is proved: change that.
 //!
-//! Blocks, statements and arms by themselves: when one stands at the front of the tokens, and the functions that code which
-//! reads one is proved equal to.
+//! Blocks, statements and arms that stand alone: when the next tokens spell one, and the functions
+//! that their readers are proved equal to.
 //!
-//! Within an expression or an item what stands behind them is known; by themselves they may be followed by what begins
-//! anything. [`front_law`] and [`alone_law`] say what holds of every one.
+//! Inside an expression or an item it is known what follows them; alone, anything may follow.
+//! [`front_law`] and [`alone_law`] say what holds of all of them.
 mod laws;

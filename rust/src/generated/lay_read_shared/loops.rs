@@ -1,6 +1,6 @@
 //! Made by scripts/rust.sh from crates/lay_read_shared/src/loops.rt, which is proved: change that.
 //!
-//! The loop of parts that stand one behind another, over a function that reads one of them.
+//! The loop over consecutive parts, which is given a reader of parts.
 use crate::generated::lay_ops::ahead::{begins_step, strength};
 use crate::generated::lay_read_parts::loops::Part;
 use crate::generated::lay_read_tokens::found::greater;
@@ -9,26 +9,26 @@ use crate::generated::lay_read_tokens::stop::keep;
 use crate::generated::lay_read_tokens::{Ahead, Found, ReadNone};
 use crate::generated::lay_token::List;
 use crate::shims::Global;
-/// What goes on as long as a part of it begins.
+/// A list that goes on as long as a further part begins.
 #[derive(Clone, Copy,)]
 pub enum Going {
     /// Postfix steps.
     Steps,
-    /// Operators of this level and their operands.
+    /// Operators of this precedence level with their operands.
     Operands(u8),
-    /// Types behind `as`.
+    /// Types after `as`.
     Types,
-    /// What stands within braces.
+    /// Statements or items, up to the `}`.
     Items,
-    /// Branches behind `else if`.
+    /// Branches after `else if`.
     ElseIfs,
 }
-/// Whether `else if` stands at the front.
+/// Whether `else if` comes next.
 fn begins_else_if(at: &Ahead<'_>) -> bool {
     let mut behind = at.fork();
     takes_keyword(&mut behind, b"else") && is_at_keyword(&behind, b"if")
 }
-/// Whether one more part begins at the front.
+/// Whether a further part begins with the next tokens.
 fn goes_on(at: &Ahead<'_>, going: Going) -> bool {
     match going {
         Going::Steps => begins_step(at),
@@ -38,8 +38,8 @@ fn goes_on(at: &Ahead<'_>, going: Going) -> bool {
         Going::ElseIfs => begins_else_if(at),
     }
 }
-/// Keeps a part behind those before it, and tells what it needs. It is taken apart in a call of its own, so that the loop holds no
-/// room for the moves while a part is read.
+/// Appends the part to `nodes`, and gives the depth that it needs. It is a function of its own, so
+/// that the loop's frame has no room for these moves while a part is read.
 #[inline(never)]
 fn keep_part<
     T,
@@ -52,7 +52,7 @@ fn keep_part<
         Err(none) => Err(none),
     }
 }
-/// Parts as long as one begins.
+/// Parses parts as long as one begins.
 #[inline(never)]
 pub fn read_parts<
     P: Part<T, X>,

@@ -1,12 +1,12 @@
 //! Made by scripts/rust.sh from crates/lay_read_shared/src/types.rt, which is proved: change that.
 //!
-//! Types that may be there.
+//! Parsing of optional types.
 use crate::generated::lay_node::{Ty, TypePlace};
 use crate::generated::lay_read_tokens::front::takes_op;
 use crate::generated::lay_read_tokens::{Ahead, Found, ReadNone};
 use crate::generated::lay_read_types::type_ahead;
 use crate::shims::Global;
-/// A type behind an operator of one character, if that stands at the front.
+/// Parses an operator of one character and a type, if the operator comes next.
 pub fn type_if(
     alloc: Global,
     at: &mut Ahead<'_>,

@@ -1,6 +1,6 @@
 //! Made by scripts/rust.sh from crates/lay_read_tokens/src/attributes.rt, which is proved: change that.
 //!
-//! Attributes and documentation.
+//! Parsing of attributes and documentation.
 use crate::generated::lay_read_tokens::ahead::Ahead;
 use crate::generated::lay_read_tokens::front::{
     is_at_closer,
@@ -22,7 +22,8 @@ use crate::generated::lay_nest::Cursor;
 use crate::generated::lay_node::{Attr, MetaInput, MetaPath};
 use crate::generated::lay_token::{Delim, Kind, List, NoMemory, Text, Token};
 use crate::shims::Global;
-/// All the attributes at the front: inner ones, or outer ones. Where one that begins there can't be read the cursor stays.
+/// Parses all attributes that come next: the inner ones, or the outer ones. On an error the cursor
+/// doesn't move.
 pub fn read_attrs(
     alloc: Global,
     at: &mut Cursor<'_>,
@@ -33,7 +34,7 @@ pub fn read_attrs(
     *at = ahead.into_cursor();
     Ok(attrs)
 }
-/// The attribute at the front, an inner one or an outer one. Where there is none the cursor stays.
+/// Parses the next attribute, an inner or an outer one. On an error the cursor doesn't move.
 pub fn read_attr(
     alloc: Global,
     at: &mut Cursor<'_>,
@@ -44,7 +45,7 @@ pub fn read_attr(
     *at = ahead.into_cursor();
     Ok(attr)
 }
-/// The attributes at the front. Where one can't be read the cursor may stand anywhere.
+/// Parses all attributes that come next. After an error the cursor may be anywhere.
 pub fn attrs_ahead(
     alloc: Global,
     at: &mut Ahead<'_>,
@@ -57,7 +58,7 @@ pub fn attrs_ahead(
     }
     Ok(attrs)
 }
-/// Whether an attribute begins at the front.
+/// Whether an attribute comes next.
 fn begins_attr(at: &Ahead<'_>, inner: bool) -> bool {
     if is_at_doc(at, inner) {
         return true;
@@ -72,13 +73,13 @@ fn begins_attr(at: &Ahead<'_>, inner: bool) -> bool {
     pass(&mut behind);
     is_at_mark(&behind, b"!")
 }
-/// The attribute at the front. Where there is none the cursor may stand anywhere.
+/// Parses the next attribute. After an error the cursor may be anywhere.
 fn attr_ahead(alloc: Global, at: &mut Ahead<'_>, inner: bool) -> Result<Attr, ReadNone> {
     if is_at_doc(at, inner) { read_doc(alloc, at, inner) } else {
         read_meta(alloc, at, inner)
     }
 }
-/// Whether documentation stands at the front.
+/// Whether documentation comes next.
 fn is_at_doc(at: &Ahead<'_>, inner: bool) -> bool {
     match at.peek(0) {
         Some(token) => {
@@ -90,7 +91,7 @@ fn is_at_doc(at: &Ahead<'_>, inner: bool) -> bool {
         None => false,
     }
 }
-/// Documentation at the front, spelled as a comment.
+/// Parses a documentation comment.
 fn read_doc(alloc: Global, at: &mut Ahead<'_>, inner: bool) -> Result<Attr, ReadNone> {
     let token = match at.peek(0) {
         Some(token) => token,
@@ -103,7 +104,7 @@ fn read_doc(alloc: Global, at: &mut Ahead<'_>, inner: bool) -> Result<Attr, Read
     pass(at);
     Ok(Attr::Doc { inner, text })
 }
-/// An attribute in brackets.
+/// Parses an attribute in brackets.
 fn read_meta(alloc: Global, at: &mut Ahead<'_>, inner: bool) -> Result<Attr, ReadNone> {
     if !takes_opening(at, inner) {
         return Err(ReadNone::NoReading);
@@ -121,7 +122,7 @@ fn takes_opening(at: &mut Ahead<'_>, inner: bool) -> bool {
     }
     takes_opener(at, Delim::Bracket)
 }
-/// What an attribute is called.
+/// Parses the name of an attribute.
 fn read_meta_path(alloc: Global, at: &mut Ahead<'_>) -> Result<MetaPath, ReadNone> {
     if takes_keyword(at, b"unsafe") {
         return Ok(MetaPath::Unsafe);
@@ -129,7 +130,7 @@ fn read_meta_path(alloc: Global, at: &mut Ahead<'_>) -> Result<MetaPath, ReadNon
     let path = read_simple_path(alloc, at)?;
     Ok(MetaPath::Path(path))
 }
-/// What an attribute is given, and its closing bracket.
+/// Parses the input of an attribute, and its closing bracket.
 fn read_meta_input(
     alloc: Global,
     at: &mut Ahead<'_>,
@@ -142,7 +143,7 @@ fn read_meta_input(
         close(at, inner, path, MetaInput::Bare)
     }
 }
-/// The closing bracket of an attribute that is no documentation.
+/// Parses the closing bracket of an attribute that is no documentation.
 fn close(
     at: &mut Ahead<'_>,
     inner: bool,
@@ -153,7 +154,7 @@ fn close(
         Err(ReadNone::NoReading)
     }
 }
-/// The group that an attribute is given, and its closing bracket.
+/// Parses the input of an attribute that is a group, and the closing bracket.
 fn read_grouped(
     alloc: Global,
     at: &mut Ahead<'_>,
@@ -163,7 +164,7 @@ fn read_grouped(
     let group = read_group(alloc, at)?;
     close(at, inner, path, MetaInput::Group(group))
 }
-/// The value that an attribute is given, and its closing bracket.
+/// Parses the value of an attribute, and its closing bracket.
 fn read_value(
     alloc: Global,
     at: &mut Ahead<'_>,
@@ -178,7 +179,7 @@ fn read_value(
         None => read_other_value(alloc, at, inner, path),
     }
 }
-/// A value that makes no documentation of the attribute, and its closing bracket.
+/// Parses a value of an attribute that is no documentation, and the closing bracket.
 fn read_other_value(
     alloc: Global,
     at: &mut Ahead<'_>,
@@ -188,7 +189,7 @@ fn read_other_value(
     let input = read_listed(alloc, at)?;
     close(at, inner, path, input)
 }
-/// A token list of one token at least.
+/// Parses a token list with at least one token.
 fn read_listed(alloc: Global, at: &mut Ahead<'_>) -> Result<MetaInput, ReadNone> {
     let tokens = read_tokens(alloc, at)?;
     if tokens.as_slice().is_empty() {
@@ -196,7 +197,7 @@ fn read_listed(alloc: Global, at: &mut Ahead<'_>) -> Result<MetaInput, ReadNone>
     }
     Ok(MetaInput::Value(tokens))
 }
-/// The text of the documentation that an attribute is, where its value is one string before the closing bracket.
+/// The text of the documentation, if the value is one string literal before the closing bracket.
 fn doc_value(
     alloc: Global,
     at: &Ahead<'_>,
@@ -207,13 +208,13 @@ fn doc_value(
         Ok(None)
     }
 }
-/// Whether a closing bracket stands behind the first token.
+/// Whether a closing bracket stands after the first token.
 fn is_alone(at: &Ahead<'_>) -> bool {
     let mut behind = at.fork();
     pass(&mut behind);
     is_at_closer(&behind, Delim::Bracket)
 }
-/// The text of documentation whose value is the first token.
+/// The text of the documentation whose value is the next token.
 fn front_doc(
     alloc: Global,
     at: &Ahead<'_>,
@@ -224,7 +225,7 @@ fn front_doc(
         None => Ok(None),
     }
 }
-/// The text of documentation whose value is the token.
+/// The text of the documentation whose value is the token.
 fn doc_text(
     alloc: Global,
     token: &Token,
@@ -236,7 +237,7 @@ fn doc_text(
         Err(NoMemory) => Err(ReadNone::NoMemory),
     }
 }
-/// Whether an attribute is called `doc`.
+/// Whether the name of an attribute is `doc`.
 fn is_doc_path(path: &MetaPath) -> bool {
     match path {
         MetaPath::Path(path) => {

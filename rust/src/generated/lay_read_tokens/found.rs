@@ -1,13 +1,13 @@
 //! Made by scripts/rust.sh from crates/lay_read_tokens/src/found.rt, which is proved: change that.
 //!
-//! What a reader finds where nodes may stand within nodes.
-/// What was found, and the least depth at which it is spelled.
+//! The result of a reader of nodes that can be nested.
+/// A node, and the least depth at which its tokens spell it.
 #[derive(Debug,)]
 pub struct Found<T> {
     pub node: T,
     pub need: u32,
 }
-/// The greater of two needs.
+/// The greater of two depths.
 pub fn greater(need: u32, other: u32) -> u32 {
     if need < other { other } else { need }
 }

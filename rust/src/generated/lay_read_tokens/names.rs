@@ -1,6 +1,6 @@
 //! Made by scripts/rust.sh from crates/lay_read_tokens/src/names.rt, which is proved: change that.
 //!
-//! Names and the words of paths.
+//! Parsing of names and of the words of paths.
 use crate::generated::lay_read_tokens::ahead::Ahead;
 use crate::generated::lay_read_tokens::front::{pass, takes_colons, takes_underscore};
 use crate::generated::lay_read_tokens::stop::{ReadNone, copy_of, keep};
@@ -16,7 +16,7 @@ pub fn is_plain(word: &[u8]) -> bool {
 fn is_path_word(word: &[u8]) -> bool {
     matches!(word_class(word), Class::Plain | Class::PathWord)
 }
-/// Whether the token is a name, and then whether it is a raw one.
+/// Whether the token is a name; if it is, whether it is a raw identifier.
 fn name_of(token: &Token) -> Option<bool> {
     match token.kind {
         Kind::Ident if is_plain(token.text.as_bytes()) => Some(false),
@@ -24,7 +24,7 @@ fn name_of(token: &Token) -> Option<bool> {
         _ => None,
     }
 }
-/// Whether the token is a word of a path, and then whether it is a raw identifier.
+/// Whether the token is a word of a path; if it is, whether it is a raw identifier.
 fn word_of(token: &Token) -> Option<bool> {
     match token.kind {
         Kind::Ident if is_path_word(token.text.as_bytes()) => Some(false),
@@ -32,7 +32,7 @@ fn word_of(token: &Token) -> Option<bool> {
         _ => None,
     }
 }
-/// The name at the front.
+/// Parses a name.
 pub fn read_name(alloc: Global, at: &mut Ahead<'_>) -> Result<Name, ReadNone> {
     let token = match at.peek(0) {
         Some(token) => token,
@@ -47,14 +47,14 @@ pub fn read_name(alloc: Global, at: &mut Ahead<'_>) -> Result<Name, ReadNone> {
         None => Err(ReadNone::NoReading),
     }
 }
-/// Whether a name stands at the front.
+/// Whether a name comes next.
 pub fn is_at_name(at: &Ahead<'_>) -> bool {
     match at.peek(0) {
         Some(token) => name_of(token).is_some(),
         None => false,
     }
 }
-/// The word at the front.
+/// Parses a word of a path.
 pub fn read_word(alloc: Global, at: &mut Ahead<'_>) -> Result<Word, ReadNone> {
     let token = match at.peek(0) {
         Some(token) => token,
@@ -69,7 +69,7 @@ pub fn read_word(alloc: Global, at: &mut Ahead<'_>) -> Result<Word, ReadNone> {
         None => Err(ReadNone::NoReading),
     }
 }
-/// The words of a path that have a `::` behind them.
+/// Parses the words of a path that have a `::` after them.
 pub fn read_path_words(
     alloc: Global,
     at: &mut Ahead<'_>,
@@ -81,7 +81,7 @@ pub fn read_path_words(
     }
     Ok(words)
 }
-/// Whether a word and a `::` behind it stand at the front.
+/// Whether a word comes next, and then a `::`.
 fn begins_path_word(at: &Ahead<'_>) -> bool {
     match at.peek(0) {
         Some(token) => {
@@ -92,12 +92,12 @@ fn begins_path_word(at: &Ahead<'_>) -> bool {
         None => false,
     }
 }
-/// A word and the `::` behind it.
+/// Parses a word and the `::` after it.
 fn read_path_word(alloc: Global, at: &mut Ahead<'_>) -> Result<Word, ReadNone> {
     let word = read_word(alloc, at)?;
     if takes_colons(at) { Ok(word) } else { Err(ReadNone::NoReading) }
 }
-/// A name, or `_`.
+/// Parses a name, or `_`.
 pub fn read_given_name(
     alloc: Global,
     at: &mut Ahead<'_>,

@@ -1,6 +1,6 @@
 //! Made by scripts/rust.sh from crates/lay_read_tokens/src/simple_paths.rt, which is proved: change that.
 //!
-//! Simple paths.
+//! Parsing of simple paths.
 use crate::generated::lay_read_tokens::ahead::Ahead;
 use crate::generated::lay_read_tokens::front::{is_at_colons, pass_two, takes_colons};
 use crate::generated::lay_read_tokens::names::read_word;
@@ -8,7 +8,7 @@ use crate::generated::lay_read_tokens::stop::{ReadNone, keep};
 use crate::generated::lay_node::{SimplePath, Word};
 use crate::generated::lay_token::List;
 use crate::shims::Global;
-/// A simple path.
+/// Parses a simple path.
 pub fn read_simple_path(
     alloc: Global,
     at: &mut Ahead<'_>,
@@ -18,7 +18,8 @@ pub fn read_simple_path(
     let words = read_words(alloc, at, first)?;
     Ok(SimplePath { global, words })
 }
-/// The words of a simple path: its first one, and those behind it, each with a `::` before it.
+/// Parses the words of a simple path after the word `first`, each with a `::` before it, and gives
+/// all of them.
 fn read_words(
     alloc: Global,
     at: &mut Ahead<'_>,
@@ -32,7 +33,7 @@ fn read_words(
     }
     Ok(words)
 }
-/// A word behind its `::`.
+/// Parses a `::` and a word.
 fn read_further_word(alloc: Global, at: &mut Ahead<'_>) -> Result<Word, ReadNone> {
     pass_two(at);
     read_word(alloc, at)

@@ -1,6 +1,6 @@
 //! Made by scripts/rust.sh from crates/lay_read_types/src/arguments.rt, which is proved: change that.
 //!
-//! Generic arguments.
+//! Parsing of generic arguments.
 use crate::generated::lay_read_types::paths::into_path;
 use crate::generated::lay_read_types::rules::Rules;
 use crate::generated::lay_node::{
@@ -37,14 +37,14 @@ use crate::generated::lay_read_tokens::stop::boxed;
 use crate::generated::lay_read_tokens::{Ahead, Found, ReadNone};
 use crate::generated::lay_token::{Delim, List};
 use crate::shims::Global;
-/// Generic arguments, as parts of a list.
+/// Generic arguments as the elements of a list.
 pub struct Arguments;
 impl Part<Arg, ()> for Arguments {}
 impl<
     F: Fn(Global, &mut Ahead<'_>, TypePlace, u32) -> Result<Found<Ty>, ReadNone>,
     G: Fn(Global, &mut Ahead<'_>, u32) -> Result<Found<Constraint>, ReadNone>,
 > Rules<F, G> {
-    /// A generic argument.
+    /// Parses a generic argument.
     fn arg(&self, at: &mut Ahead<'_>, _place: ()) -> Result<Found<Arg>, ReadNone> {
         if is_at_lifetime(at) {
             let lifetime = read_lifetime(self.alloc, at)?;
@@ -57,7 +57,8 @@ impl<
         let ty = self.inner(at, TypePlace::Bounds)?;
         self.arg_rest(at, ty)
     }
-    /// What a type among generic arguments is: the argument, or a name of which something is asked behind it.
+    /// Parses a generic argument that begins with a type: the type alone, or a name with a
+    /// constraint.
     #[inline(never)]
     fn arg_rest(
         &self,
@@ -80,7 +81,7 @@ impl<
             },
         )
     }
-    /// Generic arguments behind a `<`, and the `>` behind them.
+    /// Parses generic arguments after the `<`, and the `>`.
     fn angle_args(&self, at: &mut Ahead<'_>) -> Result<Found<List<Arg>>, ReadNone> {
         read_elements::<
             Arguments,
@@ -90,7 +91,7 @@ impl<
             _,
         >(self.alloc, at, self.depth, Closer::Angle, self, Rules::arg, ())
     }
-    /// Generic arguments in `<` and `>`.
+    /// Parses generic arguments in `<` and `>`.
     fn angle(&self, at: &mut Ahead<'_>) -> Result<Found<Args>, ReadNone> {
         if !takes_mark(at, b"<") {
             return Err(ReadNone::NoReading);
@@ -98,7 +99,7 @@ impl<
         let args = self.angle_args(at)?;
         Ok(Found { need: args.need, node: Args::Angle { args: args.node } })
     }
-    /// A return type, if one stands there.
+    /// Parses a return type, if one comes next.
     pub fn output(
         &self,
         at: &mut Ahead<'_>,
@@ -111,7 +112,7 @@ impl<
         let output = boxed(self.alloc, found.node)?;
         Ok(Found { node: Some(output), need: found.need })
     }
-    /// Types in parentheses and a return type.
+    /// Parses types in parentheses and a return type, as in `Fn(A) -> B`.
     fn round(&self, at: &mut Ahead<'_>) -> Result<Found<Args>, ReadNone> {
         if !takes_opener(at, Delim::Paren) {
             return Err(ReadNone::NoReading);
@@ -125,7 +126,7 @@ impl<
             },
         )
     }
-    /// The generic arguments of a segment, if there are any.
+    /// Parses the generic arguments of a segment, if it has any.
     pub fn args(
         &self,
         at: &mut Ahead<'_>,
@@ -144,7 +145,7 @@ impl<
         Ok(Found { node: Args::None, need: 0 })
     }
 }
-/// Whether generic arguments stand in parentheses.
+/// Whether the generic arguments are in parentheses.
 fn is_round(args: &Args) -> bool {
     match args {
         Args::None => false,
@@ -152,14 +153,14 @@ fn is_round(args: &Args) -> bool {
         Args::Round { .. } => true,
     }
 }
-/// The name and the generic arguments that a type is, if it is no more.
+/// The name and the generic arguments of a type that is nothing more.
 fn into_named(ty: Ty) -> Option<(Name, Args)> {
     match into_path(ty) {
         Some(path) => into_named_path(path),
         None => None,
     }
 }
-/// The name and the generic arguments that a path is, if it is no more.
+/// The name and the generic arguments of a path that is nothing more.
 fn into_named_path(path: Path) -> Option<(Name, Args)> {
     let Path { start, segments } = path;
     match start {
@@ -167,7 +168,7 @@ fn into_named_path(path: Path) -> Option<(Name, Args)> {
         _ => None,
     }
 }
-/// The name and the generic arguments that segments are, if they are one.
+/// The name and the generic arguments of a single segment.
 fn into_segment(segments: List<(Word, Args)>) -> Option<(Name, Args)> {
     let mut segments = segments.into_vec();
     if segments.len() != 1 {
@@ -178,7 +179,7 @@ fn into_segment(segments: List<(Word, Args)>) -> Option<(Name, Args)> {
         None => None,
     }
 }
-/// A name and generic arguments, where the word is a name and they stand in no parentheses.
+/// A name and its generic arguments, if the word is a name and the arguments aren't in parentheses.
 fn into_name(word: Word, args: Args) -> Option<(Name, Args)> {
     let Word { raw, text } = word;
     if !is_round(&args) && (raw || is_plain(text.as_bytes())) {

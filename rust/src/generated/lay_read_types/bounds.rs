@@ -1,6 +1,6 @@
 //! Made by scripts/rust.sh from crates/lay_read_types/src/bounds.rt, which is proved: change that.
 //!
-//! Bounds, and what is asked of a name among generic arguments.
+//! Parsing of bounds, and of constraints among generic arguments.
 use crate::generated::lay_read_types::rules::Rules;
 use crate::generated::lay_node::{Bound, Constraint, PathStyle, Ty, TypePlace};
 use crate::generated::lay_read_parts::joins::{both, prepended, refused};
@@ -22,10 +22,10 @@ use crate::generated::lay_read_tokens::front::{
 use crate::generated::lay_read_tokens::{Ahead, Found, ReadNone};
 use crate::generated::lay_token::{Delim, List};
 use crate::shims::Global;
-/// Bounds, as parts of a chain.
+/// Bounds as the parts of a chain.
 pub struct Bounds;
 impl Part<Bound, ()> for Bounds {}
-/// What is captured, behind `use`.
+/// Parses the arguments of `use<..>`, after the `use`.
 #[inline(never)]
 fn captures(alloc: Global, at: &mut Ahead<'_>) -> Result<Found<Bound>, ReadNone> {
     let captured = read_captures(alloc, at)?;
@@ -35,7 +35,7 @@ impl<
     F: Fn(Global, &mut Ahead<'_>, TypePlace, u32) -> Result<Found<Ty>, ReadNone>,
     G: Fn(Global, &mut Ahead<'_>, u32) -> Result<Found<Constraint>, ReadNone>,
 > Rules<F, G> {
-    /// A bound that is a path, in parentheses or not.
+    /// Parses a bound that is a path; `parens` says that it is in parentheses.
     fn meets(&self, at: &mut Ahead<'_>, parens: bool) -> Result<Found<Bound>, ReadNone> {
         let maybe = takes_mark(at, b"?");
         let binder = read_binder_if(self.alloc, at)?;
@@ -47,7 +47,7 @@ impl<
             },
         )
     }
-    /// A bound.
+    /// Parses a bound.
     fn bound(&self, at: &mut Ahead<'_>, _place: ()) -> Result<Found<Bound>, ReadNone> {
         if is_at_lifetime(at) {
             let lifetime = read_lifetime(self.alloc, at)?;
@@ -62,7 +62,7 @@ impl<
         let bound = self.meets(at, true)?;
         if takes_closer(at, Delim::Paren) { Ok(bound) } else { refused(bound) }
     }
-    /// Bounds, one at least.
+    /// Parses one or more bounds.
     pub fn all_bounds(
         &self,
         at: &mut Ahead<'_>,
@@ -75,7 +75,7 @@ impl<
             _,
         >(self.alloc, at, self.depth, Joint::Plus, self, Rules::bound, ())
     }
-    /// As many bounds as there are, or one alone, by where they stand.
+    /// Parses one or more bounds, or only one where the place allows no more.
     pub fn bounds(
         &self,
         at: &mut Ahead<'_>,
@@ -90,7 +90,7 @@ impl<
             }
         }
     }
-    /// What a name is equal to, behind its `=`.
+    /// Parses what a name is equal to, after the `=`.
     fn equal(&self, at: &mut Ahead<'_>) -> Result<Found<Constraint>, ReadNone> {
         if begins_const(at) {
             let value = read_const(self.alloc, at)?;
@@ -99,7 +99,7 @@ impl<
         let ty = self.inner(at, TypePlace::Bounds)?;
         Ok(Found { need: ty.need + 1, node: Constraint::Equal { ty: ty.node } })
     }
-    /// What is asked of a name among generic arguments.
+    /// Parses the constraint of a name among generic arguments.
     pub fn constraint(&self, at: &mut Ahead<'_>) -> Result<Found<Constraint>, ReadNone> {
         if takes_op(at, b":") {
             let bounds = self.all_bounds(at)?;

@@ -1,6 +1,6 @@
 //! Made by scripts/rust.sh from crates/lay_read_types/src/knot.rt, which is proved: change that.
 //!
-//! What is read within a depth.
+//! The recursion: types, and what contains them, within a depth limit.
 use crate::generated::lay_read_types::rules::Rules;
 use crate::generated::lay_node::{
     Args,
@@ -14,7 +14,7 @@ use crate::generated::lay_node::{
 use crate::generated::lay_read_tokens::{Ahead, Found, ReadNone};
 use crate::generated::lay_token::List;
 use crate::shims::Global;
-/// A type at its place, within a depth.
+/// Parses a type at a place. What it contains fits in `depth` levels.
 pub fn type_ahead(
     alloc: Global,
     at: &mut Ahead<'_>,
@@ -32,7 +32,7 @@ pub fn type_ahead(
     };
     rules.type_by(at, place)
 }
-/// What is asked of a name among generic arguments, within a depth.
+/// Parses the constraint of a name among generic arguments, within `depth` levels.
 pub fn constraint_ahead(
     alloc: Global,
     at: &mut Ahead<'_>,
@@ -49,7 +49,7 @@ pub fn constraint_ahead(
     };
     rules.constraint(at)
 }
-/// A path, with what is within it within the depth.
+/// Parses a path. What it contains fits in `depth` levels.
 pub fn path_ahead(
     alloc: Global,
     at: &mut Ahead<'_>,
@@ -59,7 +59,7 @@ pub fn path_ahead(
     let rules = Rules { alloc, depth, types: type_ahead, constraints: constraint_ahead };
     rules.path(at, style)
 }
-/// Generic arguments, with what is within them within the depth.
+/// Parses generic arguments. What they contain fits in `depth` levels.
 pub fn args_ahead(
     alloc: Global,
     at: &mut Ahead<'_>,
@@ -69,7 +69,7 @@ pub fn args_ahead(
     let rules = Rules { alloc, depth, types: type_ahead, constraints: constraint_ahead };
     rules.args(at, style)
 }
-/// Bounds, one at least, with what is within them within the depth.
+/// Parses one or more bounds. Everything nested in them fits in `depth` levels.
 pub fn bounds_ahead(
     alloc: Global,
     at: &mut Ahead<'_>,

@@ -1,6 +1,6 @@
 //! Made by scripts/rust.sh from crates/lay_read_types/src/paths.rt, which is proved: change that.
 //!
-//! Paths.
+//! Parsing of paths.
 use crate::generated::lay_read_types::rules::Rules;
 use crate::generated::lay_node::{
     Args,
@@ -27,14 +27,14 @@ use crate::generated::lay_read_tokens::stop::boxed;
 use crate::generated::lay_read_tokens::{Ahead, Found, ReadNone};
 use crate::generated::lay_token::List;
 use crate::shims::Global;
-/// Segments, as parts of a path.
+/// Segments as the parts of a path.
 pub struct Segments;
 impl Part<(Word, Args), PathStyle> for Segments {}
 impl<
     F: Fn(Global, &mut Ahead<'_>, TypePlace, u32) -> Result<Found<Ty>, ReadNone>,
     G: Fn(Global, &mut Ahead<'_>, u32) -> Result<Found<Constraint>, ReadNone>,
 > Rules<F, G> {
-    /// A segment.
+    /// Parses a segment.
     fn segment(
         &self,
         at: &mut Ahead<'_>,
@@ -44,7 +44,7 @@ impl<
         let args = self.args(at, style)?;
         Ok(Found { need: args.need, node: (word, args.node) })
     }
-    /// Segments, one at least.
+    /// Parses one or more segments.
     fn segments(
         &self,
         at: &mut Ahead<'_>,
@@ -58,7 +58,7 @@ impl<
             _,
         >(self.alloc, at, self.depth, Joint::Colons, self, Rules::segment, style)
     }
-    /// A trait, which is one level deeper, as a type is.
+    /// Parses a trait, which counts one level of depth more, as a type does.
     fn trait_path(&self, at: &mut Ahead<'_>) -> Result<Found<Path>, ReadNone> {
         let Found { node, need } = self.inner(at, TypePlace::NoBounds)?;
         match into_path(node) {
@@ -66,7 +66,7 @@ impl<
             None => Err(ReadNone::NoReading),
         }
     }
-    /// The trait that a type is taken as, if there is one.
+    /// Parses the `as` and the trait of `<A as B>::`, if they come next.
     fn trait_if(
         &self,
         at: &mut Ahead<'_>,
@@ -78,7 +78,7 @@ impl<
         let path = boxed(self.alloc, found.node)?;
         Ok(Found { node: Some(path), need: found.need })
     }
-    /// A type in `<` and `>::`, and the trait that it is taken as.
+    /// Parses `<A as B>::` or `<A>::`.
     fn qualified(&self, at: &mut Ahead<'_>) -> Result<Found<PathStart>, ReadNone> {
         if !takes_mark(at, b"<") {
             return Err(ReadNone::NoReading);
@@ -92,13 +92,13 @@ impl<
         let (of, ty) = both(of.node, boxed(self.alloc, ty.node))?;
         Ok(Found { node: PathStart::Qualified { ty, of }, need })
     }
-    /// What a path begins with.
+    /// Parses the beginning of a path.
     fn path_start(&self, at: &mut Ahead<'_>) -> Result<Found<PathStart>, ReadNone> {
         if is_at_mark(at, b"<") { self.qualified(at) } else if takes_colons(at) {
             Ok(Found { node: PathStart::Global, need: 0 })
         } else { Ok(Found { node: PathStart::Local, need: 0 }) }
     }
-    /// A path.
+    /// Parses a path.
     pub fn path(
         &self,
         at: &mut Ahead<'_>,
@@ -117,7 +117,7 @@ impl<
         )
     }
 }
-/// The path that a type is, if it is one.
+/// The path of a type that is a path.
 pub fn into_path(ty: Ty) -> Option<Path> {
     match ty {
         Ty::Path { path } => Some(path),
@@ -132,7 +132,7 @@ fn has_output(args: &Args) -> bool {
         Args::Round { output, .. } => output.is_some(),
     }
 }
-/// Whether a return type stands on the last segment alone.
+/// Whether only the last segment has a return type.
 fn returns_last(segments: &[(Word, Args)]) -> bool {
     let mut rest = segments;
     while let [segment, behind @ ..] = rest {

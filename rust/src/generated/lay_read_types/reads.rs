@@ -1,6 +1,6 @@
 //! Made by scripts/rust.sh from crates/lay_read_types/src/reads.rt, which is proved: change that.
 //!
-//! What stands at the front of the tokens of a text.
+//! The public readers of types, paths, generic arguments and bounds.
 use crate::generated::lay_read_types::knot::{
     args_ahead,
     bounds_ahead,
@@ -12,7 +12,7 @@ use crate::generated::lay_node::{Args, Bound, Path, PathStyle, Ty, TypePlace};
 use crate::generated::lay_read_tokens::{Ahead, ReadNone};
 use crate::generated::lay_token::List;
 use crate::shims::Global;
-/// The type at the front, at its place and within the depth. Where there is none the cursor stays.
+/// Parses the next type, at `place` and within `depth` levels. On an error the cursor doesn't move.
 pub fn read_type(
     alloc: Global,
     at: &mut Cursor<'_>,
@@ -24,8 +24,8 @@ pub fn read_type(
     *at = ahead.into_cursor();
     Ok(found.node)
 }
-/// The path at the front, in the style and within the depth. What is within stands one level deeper. Where there is
-/// none the cursor stays.
+/// Parses the next path, with generic arguments in this style, within `depth` levels, of which the
+/// path takes one. On an error the cursor doesn't move.
 pub fn read_path(
     alloc: Global,
     at: &mut Cursor<'_>,
@@ -40,8 +40,8 @@ pub fn read_path(
     *at = ahead.into_cursor();
     Ok(found.node)
 }
-/// The generic arguments at the front, in code with their `::`, within the depth. What is within stands one level
-/// deeper. Where there is none the cursor stays.
+/// Parses the next generic arguments, within `depth` levels, of which they take one; in an
+/// expression they begin with `::`. On an error the cursor doesn't move.
 pub fn read_args(
     alloc: Global,
     at: &mut Cursor<'_>,
@@ -56,8 +56,8 @@ pub fn read_args(
     *at = ahead.into_cursor();
     Ok(found.node)
 }
-/// The bounds at the front, as many as there are, within the depth. What is within stands one level deeper. Where
-/// there is none the cursor stays.
+/// Parses the next bounds, as many as there are, within `depth` levels, of which they take one. On
+/// an error the cursor doesn't move.
 pub fn read_bounds(
     alloc: Global,
     at: &mut Cursor<'_>,

@@ -1,6 +1,6 @@
 //! Made by scripts/rust.sh from crates/lay_read_types/src/types.rt, which is proved: change that.
 //!
-//! Types.
+//! Parsing of types.
 use crate::generated::lay_read_types::passed::takes_simple_path;
 use crate::generated::lay_read_types::rules::Rules;
 use crate::generated::lay_node::{
@@ -43,17 +43,17 @@ use crate::generated::lay_read_tokens::tokens::read_tokens;
 use crate::generated::lay_read_tokens::{Ahead, Found, ReadNone};
 use crate::generated::lay_token::{Delim, List};
 use crate::shims::Global;
-/// Types one level deeper, as parts of a list.
+/// Types of the next deeper level as the elements of a list.
 pub struct Types;
 impl Part<Ty, TypePlace> for Types {}
-/// Parameters of a function type, as parts of a list.
+/// Parameters of a function type as the elements of a list.
 pub struct FuncParams;
 impl Part<FuncParam, ()> for FuncParams {}
 impl<
     F: Fn(Global, &mut Ahead<'_>, TypePlace, u32) -> Result<Found<Ty>, ReadNone>,
     G: Fn(Global, &mut Ahead<'_>, u32) -> Result<Found<Constraint>, ReadNone>,
 > Rules<F, G> {
-    /// A type at its place, told from what begins it.
+    /// Parses a type at a place, by the token that it begins with.
     pub fn type_by(
         &self,
         at: &mut Ahead<'_>,
@@ -69,7 +69,7 @@ impl<
             None => Err(ReadNone::NoReading),
         }
     }
-    /// A type behind the token that begins it.
+    /// Parses a type after the token that it begins with.
     fn marked_type(
         &self,
         at: &mut Ahead<'_>,
@@ -89,7 +89,7 @@ impl<
             Lead::Func => Err(ReadNone::NoReading),
         }
     }
-    /// Types with commas, and the closing parenthesis behind them.
+    /// Parses types with commas between them, and the closing parenthesis.
     pub fn paren_types(&self, at: &mut Ahead<'_>) -> Result<Found<List<Ty>>, ReadNone> {
         read_elements::<
             Types,
@@ -107,7 +107,7 @@ impl<
             TypePlace::Bounds,
         )
     }
-    /// What stands behind a `(`.
+    /// Parses a type after its `(`.
     #[inline(never)]
     fn paren_type(&self, at: &mut Ahead<'_>) -> Result<Found<Ty>, ReadNone> {
         if takes_closer(at, Delim::Paren) {
@@ -118,7 +118,7 @@ impl<
         let first = self.inner(at, TypePlace::Bounds)?;
         self.paren_rest(at, first)
     }
-    /// What stands behind a `(` and a type.
+    /// Parses a type after its `(` and the first type in it.
     fn paren_rest(
         &self,
         at: &mut Ahead<'_>,
@@ -140,7 +140,7 @@ impl<
             },
         )
     }
-    /// What stands behind a `[`.
+    /// Parses a type after its `[`.
     #[inline(never)]
     fn bracket_type(&self, at: &mut Ahead<'_>) -> Result<Found<Ty>, ReadNone> {
         let inner = self.inner(at, TypePlace::Bounds)?;
@@ -152,7 +152,7 @@ impl<
             Ok(Found { node: Ty::Slice { inner }, need })
         } else { refused(inner) }
     }
-    /// What stands behind a `&`.
+    /// Parses a type after its `&`.
     #[inline(never)]
     fn reference_type(&self, at: &mut Ahead<'_>) -> Result<Found<Ty>, ReadNone> {
         let lifetime = read_lifetime_if(self.alloc, at)?;
@@ -162,7 +162,7 @@ impl<
         let (lifetime, inner) = both(lifetime, boxed(self.alloc, found.node))?;
         Ok(Found { node: Ty::Ref { lifetime, mutable, inner }, need })
     }
-    /// What stands behind a `*`.
+    /// Parses a type after its `*`.
     fn pointer_type(&self, at: &mut Ahead<'_>) -> Result<Found<Ty>, ReadNone> {
         let mutable = is_mutable(at)?;
         let found = self.inner(at, TypePlace::NoBounds)?;
@@ -170,7 +170,7 @@ impl<
         let inner = boxed(self.alloc, found.node)?;
         Ok(Found { node: Ty::Ptr { mutable, inner }, need })
     }
-    /// What stands behind `impl` or `dyn`.
+    /// What follows `impl` or `dyn`.
     fn bounds_type(
         &self,
         at: &mut Ahead<'_>,
@@ -229,7 +229,7 @@ impl<
             _,
         >(self.alloc, at, self.depth, Opening::Param, self, Rules::func_param, ())
     }
-    /// The parameters of a function type, and whether `...` stands behind them.
+    /// The parameters of a function type, and whether `...` stands after them.
     fn func_params(
         &self,
         at: &mut Ahead<'_>,
@@ -275,13 +275,13 @@ impl<
         )
     }
 }
-/// Whether what a pointer leads to may change: `mut` or `const`.
+/// Parses `mut` or `const` of a raw pointer, and says whether it is `mut`.
 fn is_mutable(at: &mut Ahead<'_>) -> Result<bool, ReadNone> {
     if takes_keyword(at, b"mut") { Ok(true) } else if takes_keyword(at, b"const") {
         Ok(false)
     } else { Err(ReadNone::NoReading) }
 }
-/// An array, behind its `;`.
+/// Parses an array after its `;`.
 fn array(
     alloc: Global,
     at: &mut Ahead<'_>,
@@ -295,12 +295,12 @@ fn array(
     let (length, inner) = both(length, boxed(alloc, element.node))?;
     Ok(Found { node: Ty::Array { inner, length }, need })
 }
-/// Whether a macro call begins at the front: a path of words before a `!`. Nothing of it is kept, so no memory is taken.
+/// Whether a macro call comes next: a simple path and a `!`. Nothing is allocated.
 pub fn begins_call(alloc: Global, at: &Ahead<'_>) -> Result<bool, ReadNone> {
     let mut behind = at.fork();
     Ok(takes_simple_path(&mut behind) && behind.op_is(b"!"))
 }
-/// The name of a parameter and the `:` behind it, if they stand there.
+/// Parses the name of a parameter and the `:` after it, if they come next.
 fn read_param_name_if(
     alloc: Global,
     at: &mut Ahead<'_>,
@@ -318,7 +318,7 @@ fn read_param_name_if(
         Err(ReadNone::NoMemory) => Err(ReadNone::NoMemory),
     }
 }
-/// Passes `...`, if it may stand at the front and does.
+/// Moves past `...`, if it may stand here and comes next, and says whether it did.
 fn takes_dots(at: &mut Ahead<'_>, may_vary: bool) -> bool {
     let found = may_vary && at.op_is(b"...");
     if found {

@@ -1,34 +1,34 @@
 //! Made by scripts/rust.sh from crates/lay_ring/src/bytes.rt, which is proved: change that.
 //!
-//! Bytes that wait, in room of one of two lengths.
+//! A queue of bytes, in a buffer of one of two fixed lengths.
 use crate::shims::Vec;
 use crate::generated::lay_layout::MARGIN;
 use crate::generated::lay_text::NoMemory;
 use crate::shims::Global;
-/// How many bytes there is room for at first.
+/// The length of the first buffer, in bytes.
 const FIRST: usize = 128;
-/// How many there is room for in the full room.
+/// The length of the full buffer, in bytes.
 const FULL: usize = 1024;
-/// How many bytes a text has at the most: as many as a line has columns.
+/// The greatest length of a text, in bytes: as many as a line has columns.
 const LONGEST: usize = MARGIN as usize;
-/// Bytes that are added at the end and taken from the front. Contracts see them as a list, and whether the room is the
-/// full one.
+/// A queue of bytes: they are added at the back and taken from the front. Contracts see them as a
+/// list, and whether the buffer is the full one.
 pub struct Bytes {
     room: Vec<u8>,
     is_full: bool,
-    /// They stand from here up to `end`.
+    /// The bytes are those with the indices from `first` up to `end`.
     first: usize,
     end: usize,
 }
 impl Bytes {
-    /// No bytes, and little room.
+    /// An empty queue with the first buffer.
     pub fn new(alloc: Global) -> Result<Bytes, NoMemory> {
         match crate::shims::filled(alloc, 0u8, FIRST) {
             Ok(room) => Ok(Bytes { room, is_full: false, first: 0, end: 0 }),
             Err(_) => Err(NoMemory),
         }
     }
-    /// Makes the full room.
+    /// Allocates the full buffer.
     #[inline(never)]
     pub fn grow(&mut self) -> Result<(), NoMemory> {
         match self.room.resize(FULL, 0) {
@@ -39,7 +39,7 @@ impl Bytes {
             Err(_) => Err(NoMemory),
         }
     }
-    /// How many of so many texts there is surely room for: all in the full room, and one at the most in the first.
+    /// How many of `count` texts surely fit: all in the full buffer, and at most one in the first.
     #[inline(always)]
     pub fn room_for(&self, count: usize) -> usize {
         if self.is_full {
@@ -50,24 +50,24 @@ impl Bytes {
         }
         0
     }
-    /// Adds bytes at the end. There must be room for them.
+    /// Adds bytes at the back. There must be room for them.
     #[inline(always)]
     pub fn add(&mut self, more: &[u8]) {
         make_room(self.room.as_mut_slice(), &mut self.first, &mut self.end, more.len());
         put_at(self.room.as_mut_slice(), self.end, more);
         self.end += more.len();
     }
-    /// How many there are.
+    /// How many bytes there are.
     #[inline(always)]
     pub fn len(&self) -> usize {
         self.end - self.first
     }
-    /// The first ones.
+    /// The first `count` bytes.
     #[inline(always)]
     pub fn front(&self, count: usize) -> &[u8] {
         &self.room.as_slice()[self.first..self.first + count]
     }
-    /// Takes the first ones.
+    /// Drops the first `count` bytes.
     #[inline(always)]
     pub fn drop_front(&mut self, count: usize) {
         self.first += count;
@@ -77,7 +77,7 @@ impl Bytes {
         }
     }
 }
-/// Moves the bytes that wait to the front, where the room behind them is too little.
+/// Moves the bytes to the beginning of the buffer, if the room after them is too small for `more`.
 #[inline(always)]
 fn make_room(room: &mut [u8], first: &mut usize, end: &mut usize, more: usize) {
     if more <= room.len() - *end {
@@ -87,12 +87,12 @@ fn make_room(room: &mut [u8], first: &mut usize, end: &mut usize, more: usize) {
     *end -= *first;
     *first = 0;
 }
-/// Puts bytes behind those that stand before a place.
+/// Copies bytes into the buffer, from the index `place` on.
 #[inline(always)]
 fn put_at(room: &mut [u8], place: usize, more: &[u8]) {
     room[place..place + more.len()].copy_from_slice(more);
 }
-/// Moves what stands from a place on to the front.
+/// Moves the bytes from the index `place` on to the beginning of the buffer.
 #[inline(never)]
 fn turn(room: &mut [u8], place: usize) {
     room.rotate_left(place);

@@ -4,17 +4,17 @@
 use crate::shims::Vec;
 use crate::generated::lay_text::NoMemory;
 use crate::shims::Global;
-/// Room is made for so many items at once, so that those which wait are seldom moved to its front.
+/// For how many items room is made at once, so that the waiting ones are seldom moved.
 const FEW: usize = 256;
-/// Items, of which the oldest is the first, and how many more there is room for. After `NoMemory` they are
-/// as they were.
+/// A list of items, the oldest first, and how many more there is room for. After `NoMemory` it is
+/// as it was.
 pub struct Marks<T> {
-    /// The items, from `first` on. Before it are some that were taken.
+    /// The items are those from the index `first` on; those before were taken.
     kept: Vec<T>,
     first: usize,
 }
 impl<T: Copy> Marks<T> {
-    /// No items, and room for so many.
+    /// An empty list with room for `room` items.
     pub fn new(alloc: Global, room: usize) -> Result<Marks<T>, NoMemory> {
         match Vec::with_capacity(alloc, room) {
             Ok(kept) => Ok(Marks { kept, first: 0 }),
@@ -28,7 +28,7 @@ impl<T: Copy> Marks<T> {
         self.add(item);
         Ok(())
     }
-    /// Adds an item as the newest, where there is room.
+    /// Adds an item as the newest. There must be room.
     #[inline(always)]
     pub fn add(&mut self, item: T) {
         self.kept.push_reserved(item);
@@ -48,7 +48,7 @@ impl<T: Copy> Marks<T> {
         self.drop_oldest(1);
         Some(oldest)
     }
-    /// Takes so many of the oldest items.
+    /// Drops the `count` oldest items.
     #[inline(always)]
     pub fn drop_oldest(&mut self, count: usize) {
         self.first += count;
@@ -65,7 +65,7 @@ impl<T: Copy> Marks<T> {
         }
         Some(self.kept[self.kept.len() - 1])
     }
-    /// The item at a place, counted from the oldest.
+    /// The item with this index, counted from the oldest.
     #[inline(always)]
     pub fn get(&self, place: usize) -> Option<T> {
         if place >= self.kept.len() - self.first {
@@ -73,7 +73,7 @@ impl<T: Copy> Marks<T> {
         }
         Some(self.kept[self.first + place])
     }
-    /// Puts an item at a place in place of the one that stands there.
+    /// Replaces the item with this index.
     #[inline(always)]
     pub fn set(&mut self, place: usize, item: T) {
         self.kept[self.first + place] = item;
@@ -83,7 +83,7 @@ impl<T: Copy> Marks<T> {
     pub fn len(&self) -> usize {
         self.kept.len() - self.first
     }
-    /// Makes room for so many more items.
+    /// Makes room for `n` more items.
     #[inline(always)]
     pub fn reserve(&mut self, n: usize) -> Result<(), NoMemory> {
         if n <= self.kept.capacity() - self.kept.len() {
@@ -91,8 +91,8 @@ impl<T: Copy> Marks<T> {
         }
         self.grow(n)
     }
-    /// Makes room for so many more items: that of those that were taken, where they are half of all and it is
-    /// enough, and otherwise new room, of [`FEW`] items at least.
+    /// Makes room for `n` more items: it reuses the room of the items that were taken, if they are
+    /// half of all and that is enough; otherwise it allocates for at least [`FEW`] items.
     #[inline(never)]
     fn grow(&mut self, n: usize) -> Result<(), NoMemory> {
         let held = self.kept.len() - self.first;

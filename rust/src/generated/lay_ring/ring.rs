@@ -1,26 +1,27 @@
 //! Made by scripts/rust.sh from crates/lay_ring/src/ring.rt, which is proved: change that.
 //!
-//! A list of entries with numbers.
+//! A queue of numbered entries.
 use crate::generated::lay_ring::entry::{Entry, Size};
 use crate::generated::lay_ring::room;
 use crate::shims::HeapCircularBuffer;
 use crate::generated::lay_text::NoMemory;
 use crate::shims::Global;
-/// Entries, the number of the first one, and how many more there is room for. Each entry has a number, which
-/// is one more than that of the entry before it, modulo 2^64. After `NoMemory` the ring is as it was.
+/// A queue of entries, the number of the first one, and how many more there is room for. The number
+/// of each entry is one more than that of the entry before it, modulo 2^64. After `NoMemory` the
+/// ring is as it was.
 pub struct Ring {
     buffer: HeapCircularBuffer<Entry>,
     first: u64,
 }
 impl Ring {
-    /// No entries, room for so many, and 0 as the number of the first one to come.
+    /// An empty ring with room for `room` entries. The first one will have the number 0.
     pub fn new(alloc: Global, room: usize) -> Result<Ring, NoMemory> {
         match HeapCircularBuffer::with_capacity(alloc, room) {
             Ok(buffer) => Ok(Ring { buffer, first: 0 }),
             Err(_) => Err(NoMemory),
         }
     }
-    /// Adds an entry at the end and answers its number. `Err` hands the entry back for want of memory.
+    /// Adds an entry at the back and gives its number. `Err` gives the entry back if memory is out.
     pub fn push(&mut self, entry: Entry) -> Result<u64, Entry> {
         if room::reserve(&mut self.buffer, 1).is_err() {
             return Err(entry);
@@ -31,8 +32,8 @@ impl Ring {
             Err(entry) => Err(entry),
         }
     }
-    /// Writes back the size of the entry with this number, which must be held with an unknown size, and which
-    /// has a size from now on.
+    /// Sets the size of the entry with this number, which must be in the ring with an unknown size.
+    /// The new size is known.
     pub fn size_at(&mut self, number: u64, size: Size) {
         let place = number.wrapping_sub(self.first) as usize;
         if let Some(entry) = self.buffer.get_mut(place) {
@@ -49,12 +50,12 @@ impl Ring {
         self.first = self.first.wrapping_add(1);
         Some(entry)
     }
-    /// Gives a number to an entry that isn't kept, where none is held.
+    /// Skips a number, for an entry that isn't kept. The ring must be empty.
     #[inline(always)]
     pub fn pass(&mut self) {
         self.first = self.first.wrapping_add(1);
     }
-    /// The number of the first entry, or of the next one to be pushed where there is none.
+    /// The number of the first entry, or of the next one that is pushed if there is none.
     pub fn first(&self) -> u64 {
         self.first
     }
@@ -62,7 +63,7 @@ impl Ring {
     pub fn len(&self) -> usize {
         self.buffer.len()
     }
-    /// Makes room for so many more entries.
+    /// Makes room for `n` more entries.
     pub fn reserve(&mut self, n: usize) -> Result<(), NoMemory> {
         room::reserve(&mut self.buffer, n)
     }

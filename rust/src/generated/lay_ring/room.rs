@@ -7,7 +7,7 @@ use crate::generated::lay_text::NoMemory;
 pub fn spare<T>(buffer: &HeapCircularBuffer<T>) -> usize {
     buffer.capacity() - buffer.len()
 }
-/// Makes room for so many more items.
+/// Makes room for `more` items.
 #[inline(always)]
 pub fn reserve<
     T,
@@ -17,8 +17,8 @@ pub fn reserve<
     }
     grow(buffer, more)
 }
-/// Makes more room, twice as much at the least, so that items which are pushed one by one are moved a bounded
-/// number of times each.
+/// Makes room, at least twice as much as there was, so that items which are pushed one by one are
+/// moved a bounded number of times each.
 fn grow<T>(buffer: &mut HeapCircularBuffer<T>, more: usize) -> Result<(), NoMemory> {
     let wanted = match buffer.len().checked_add(more) {
         Some(wanted) => wanted,

@@ -1,47 +1,47 @@
 //! Made by scripts/rust.sh from crates/lay_ring/src/row.rt, which is proved: change that.
 //!
-//! A list of entries with numbers, in little memory.
+//! A queue of numbered entries, in little memory.
 use crate::generated::lay_ring::bytes::Bytes;
 use crate::generated::lay_ring::marks::Marks;
 use crate::generated::lay_layout::Break;
 use crate::generated::lay_text::NoMemory;
 use crate::shims::Global;
-/// A token whose text is lent.
+/// A token that borrows its text.
 #[derive(Clone, Copy, Debug,)]
 pub enum LentTok<'a> {
     /// A text, written as it is.
     Text(&'a [u8]),
-    /// A place where a line may end.
+    /// A place where a line may be broken.
     Break(Break),
     /// A group begins.
     Begin {
         consistent: bool,
         offset: i8,
     },
-    /// The group that was begun last ends.
+    /// The innermost open group ends.
     End,
 }
-/// What is lent of a token that waits: the token, and its size, which is below 0 while it isn't known.
+/// A waiting token and its size, borrowed. The size is negative while it is unknown.
 #[derive(Clone, Copy, Debug,)]
 pub struct LentEntry<'a> {
     pub tok: LentTok<'a>,
     pub size: i64,
 }
-/// Texts that wait one behind the other, as one.
+/// Consecutive waiting texts, as one, and their number.
 #[derive(Clone, Copy, Debug,)]
 pub struct Texts<'a> {
     pub bytes: &'a [u8],
     pub count: usize,
 }
-/// What stands for a size that isn't known yet.
+/// The value of a size that isn't known yet.
 pub const UNKNOWN: i64 = -1;
-/// Once so many entries were taken, the full room is made for texts even where the first one serves: in that, room is asked
-/// for before each token.
+/// Once this many entries were taken, the full buffer is allocated for texts even if the first one
+/// would do: with the first one, room has to be looked for before each token.
 const MANY: u64 = 4096;
-/// What kind of token an entry is.
+/// An entry's token without its text.
 #[derive(Clone, Copy,)]
 enum Kind {
-    /// A text of so many bytes.
+    /// A text of this many bytes.
     Text(u8),
     Break(Break),
     Begin {
@@ -50,30 +50,31 @@ enum Kind {
     },
     End,
 }
-/// A token without its text, and its size, which is below 0 while it isn't known.
+/// A token without its text, and its size, which is negative while it is unknown.
 #[derive(Clone, Copy,)]
 struct SmallEntry {
     kind: Kind,
     size: i64,
 }
-/// Entries as in a [`Ring`](crate::Ring), in little memory: each is of 24 bytes, and their texts stand one
-/// behind the other in room for 128 bytes, and once that is too little or many came in room for 1,024. So texts are
-/// copied, and only `new` and `reserve` take memory. A text has at most 89 bytes.
+/// A queue of entries as a [`Ring`](crate::Ring), in little memory: each takes 24 bytes, and their
+/// texts are in one buffer of 128 bytes, or of 1,024 once that is too small or many entries came.
+/// Texts are copied, and only `new` and `reserve` allocate. A text has at most 89 bytes.
 pub struct Row {
     entries: Marks<SmallEntry>,
     /// The number of the first entry.
     number: u64,
-    /// The texts of the entries.
+    /// The texts of the entries, one after the other.
     bytes: Bytes,
 }
 impl Row {
-    /// No entries, and 0 as the number of the first one to come.
+    /// An empty row. The first entry will have the number 0.
     pub fn new(alloc: Global) -> Result<Row, NoMemory> {
         let entries = Marks::new(alloc, 0)?;
         let bytes = Bytes::new(alloc)?;
         Ok(Row { entries, number: 0, bytes })
     }
-    /// Adds an entry at the end and answers its number. There must be room for it, and its text is copied.
+    /// Adds an entry at the back and gives its number. There must be room for it. Its text is
+    /// copied.
     #[inline(always)]
     pub fn push(&mut self, tok: LentTok<'_>, size: i64) -> u64 {
         let number = self.number.wrapping_add(self.entries.len() as u64);
@@ -82,7 +83,7 @@ impl Row {
         self.entries.add(SmallEntry { kind, size });
         number
     }
-    /// Writes back the size of the entry with this number, which must be held with an unknown size.
+    /// Sets the size of the entry with this number, which must be in the row with an unknown size.
     #[inline(always)]
     pub fn size_at(&mut self, number: u64, size: u64) {
         let place = number.wrapping_sub(self.number) as usize;
@@ -99,7 +100,7 @@ impl Row {
         let tok = lend(small.kind, &self.bytes);
         Some(LentEntry { tok, size: small.size })
     }
-    /// The texts at the front, as one, up to the first entry that is none.
+    /// The texts at the front, up to the first entry that is none, as one.
     #[inline(always)]
     pub fn texts(&self) -> Texts<'_> {
         let (held, all) = (self.entries.len(), self.bytes.len());
@@ -117,14 +118,14 @@ impl Row {
         }
         Texts { bytes: self.bytes.front(len), count }
     }
-    /// Takes so many texts away that stand at the front, of so many bytes in all.
+    /// Drops `count` texts at the front, which have `len` bytes together.
     #[inline(always)]
     pub fn pop_texts(&mut self, count: usize, len: usize) {
         self.entries.drop_oldest(count);
         self.bytes.drop_front(len);
         self.number = self.number.wrapping_add(count as u64);
     }
-    /// Takes the first entry away. The number of the first one is then one more.
+    /// Drops the first entry. The number of the first one is then one more.
     #[inline(always)]
     pub fn pop_front(&mut self) {
         if let Some(small) = self.entries.pop_oldest() {
@@ -134,7 +135,7 @@ impl Row {
             self.number = self.number.wrapping_add(1);
         }
     }
-    /// Gives a number to an entry that isn't kept, where none is held.
+    /// Skips a number, for an entry that isn't kept. The row must be empty.
     #[inline(always)]
     pub fn pass(&mut self) {
         self.number = self.number.wrapping_add(1);
@@ -144,7 +145,7 @@ impl Row {
     pub fn len(&self) -> usize {
         self.entries.len()
     }
-    /// Makes room for so many more entries.
+    /// Makes room for `n` more entries.
     #[inline(always)]
     pub fn reserve(&mut self, n: usize) -> Result<(), NoMemory> {
         self.entries.reserve(n)?;
@@ -170,7 +171,7 @@ fn text_of<'a>(tok: LentTok<'a>) -> &'a [u8] {
         _ => &[],
     }
 }
-/// What kind of token it is.
+/// The token without its text.
 #[inline(always)]
 fn kind_of(tok: LentTok<'_>) -> Kind {
     match tok {
@@ -180,7 +181,7 @@ fn kind_of(tok: LentTok<'_>) -> Kind {
         LentTok::End => Kind::End,
     }
 }
-/// The token of this kind, whose text is the first of the bytes.
+/// The token of this kind; its text is the first of the bytes.
 #[inline(always)]
 fn lend<'a>(kind: Kind, bytes: &'a Bytes) -> LentTok<'a> {
     match kind {
@@ -190,7 +191,7 @@ fn lend<'a>(kind: Kind, bytes: &'a Bytes) -> LentTok<'a> {
         Kind::End => LentTok::End,
     }
 }
-/// How many bytes the text at a place has, if it is one.
+/// The length in bytes of the text with this index, if the entry is a text.
 #[inline(always)]
 fn text_at(entries: &Marks<SmallEntry>, place: usize) -> Option<usize> {
     let small = entries.get(place)?;

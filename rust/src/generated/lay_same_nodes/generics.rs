@@ -1,6 +1,6 @@
 //! Made by scripts/rust.sh from crates/lay_same_nodes/src/generics.rt, which is proved: change that.
 //!
-//! Generic parameters and where clauses.
+//! Equality of generic parameters and where clauses.
 use crate::generated::lay_same_nodes::lists::Same;
 use crate::generated::lay_node::{
     ConstDefault,

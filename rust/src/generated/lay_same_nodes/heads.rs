@@ -1,6 +1,6 @@
 //! Made by scripts/rust.sh from crates/lay_same_nodes/src/heads.rt, which is proved: change that.
 //!
-//! Fields, functions, and the heads of items.
+//! Equality of fields, functions, and the heads of items.
 use crate::generated::lay_same_nodes::lists::Same;
 use crate::generated::lay_node::{
     Alias,

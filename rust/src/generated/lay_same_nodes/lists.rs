@@ -1,9 +1,9 @@
 //! Made by scripts/rust.sh from crates/lay_same_nodes/src/lists.rt, which is proved: change that.
 //!
-//! What can be compared, and the lists and options of it.
+//! The trait of nodes that can be compared, and lists and options of them.
 use crate::generated::lay_node::Boxed;
 use crate::generated::lay_token::{List, Text};
-/// A node, or a part of one, that can be compared with another of its kind.
+/// A node, or a part of one, that can be compared with another of its type.
 pub trait Same {
     /// Whether the two are equal.
     fn same(&self, other: &Self) -> bool;

@@ -1,6 +1,6 @@
 //! Made by scripts/rust.sh from crates/lay_same_nodes/src/patterns.rt, which is proved: change that.
 //!
-//! Patterns.
+//! Equality of patterns.
 use crate::generated::lay_same_nodes::lists::Same;
 use crate::generated::lay_node::{Boxed, FieldPat, Pat, PatValue, SpanEnd};
 impl Same for PatValue {
@@ -167,7 +167,7 @@ impl Same for FieldPat {
         }
     }
 }
-/// Whether two lists of patterns are equal.
+/// Whether two slices of patterns are equal.
 fn same_patterns(elements: &[Pat], others: &[Pat]) -> bool {
     if elements.len() != others.len() {
         return false;
@@ -191,7 +191,7 @@ fn same_fields(fields: &[FieldPat], others: &[FieldPat]) -> bool {
     }
     true
 }
-/// Whether the patterns behind two names are equal.
+/// Whether the patterns after the `@` of two bindings are equal.
 fn same_bound(pattern: &Option<Boxed<Pat>>, other: &Option<Boxed<Pat>>) -> bool {
     match pattern {
         None => other.is_none(),

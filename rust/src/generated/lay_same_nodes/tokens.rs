@@ -1,6 +1,7 @@
 //! Made by scripts/rust.sh from crates/lay_same_nodes/src/tokens.rt, which is proved: change that.
 //!
-//! Tokens, and what is made of tokens alone: names, words, token lists, attributes, and visibilities.
+//! Equality of tokens, and of what is made of tokens alone: names, words, token lists, attributes,
+//! and visibilities.
 use crate::generated::lay_same_nodes::lists::{Same, same_items};
 use crate::generated::lay_node::{
     Attr,

@@ -1,6 +1,6 @@
 //! Made by scripts/rust.sh from crates/lay_same_nodes/src/types.rt, which is proved: change that.
 //!
-//! Types, and the paths, generic arguments and bounds that they are made of.
+//! Equality of types, paths, generic arguments and bounds.
 use crate::generated::lay_same_nodes::lists::Same;
 use crate::generated::lay_node::{
     Abi,
@@ -352,7 +352,7 @@ fn same_output(output: &Option<Boxed<Ty>>, other: &Option<Boxed<Ty>>) -> bool {
         Some(output) => matches!(other, Some(given) if output.get().same(given.get())),
     }
 }
-/// Whether the traits that two types are taken as are equal.
+/// Whether the traits in two paths as `<A as B>::` are equal.
 fn same_trait(path: &Option<Boxed<Path>>, other: &Option<Boxed<Path>>) -> bool {
     match path {
         None => other.is_none(),

@@ -1,6 +1,6 @@
 //! Made by scripts/rust.sh from crates/lay_same_nodes/src/uses.rt, which is proved: change that.
 //!
-//! Use trees.
+//! Equality of use trees.
 use crate::generated::lay_same_nodes::lists::Same;
 use crate::generated::lay_node::{UseEnd, UseTree};
 impl Same for UseTree {

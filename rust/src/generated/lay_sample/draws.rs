@@ -1,18 +1,18 @@
 //! Made by scripts/rust.sh from crates/lay_sample/src/draws.rt, which is proved: change that.
 //!
-//! What a seed draws.
+//! Pseudo-random draws from a seed.
 use crate::generated::lay_sample::items::Item;
-/// By how much a draw multiplies the state.
+/// The multiplier of the generator.
 const MULTIPLIER: u64 = 6364136223846793005;
-/// What a draw then adds to the state.
+/// The increment of the generator.
 const INCREMENT: u64 = 1442695040888963407;
-/// Numbers and items, drawn one after another. The state begins at the seed.
+/// Draws numbers and items. The state begins as the seed.
 #[derive(Debug,)]
 pub struct Draws {
     pub state: u64,
 }
 impl Draws {
-    /// Draws an item: its kind, and its number where the kind has one.
+    /// Draws an item: its kind, and its number if the kind has one.
     pub fn item(&mut self) -> Item {
         match self.below(4) {
             0 => Item::Struct,
@@ -21,8 +21,8 @@ impl Draws {
             _ => Item::Constant(self.below(100)),
         }
     }
-    /// Draws a number below `n`. The lowest 33 bits of the state are left out, since low bits soon come again in the same
-    /// order.
+    /// Draws a number below `n`. The lowest 33 bits of the state aren't used, since low bits repeat
+    /// with a short period.
     fn below(&mut self, n: u64) -> u64 {
         self.state = self.state.wrapping_mul(MULTIPLIER).wrapping_add(INCREMENT);
         (self.state >> 33) % n

@@ -1,7 +1,8 @@
 //! Made by scripts/rust.sh from crates/lay_sample/src/items.rt, which is proved: change that.
 //!
 //! The items of a sample.
-/// What is drawn for an item. Its place in the sample, from 0, stands in its line too, save in that of a `Use`.
+/// What is drawn for an item. The line of each item but a `Use` also holds its index in the sample,
+/// from 0.
 #[derive(Clone, Copy, Debug,)]
 pub enum Item {
     /// `struct S0{a:u8,b:Vec<u8>}`.

@@ -6,8 +6,8 @@ use crate::generated::lay_sample::items::Item;
 use crate::shims::Buffer;
 use crate::generated::lay_text::{NoMemory, Text};
 use crate::shims::Global;
-/// The sample of a seed: a text of that many items, each on a line of its own that ends with LF. Asking for more items
-/// only adds lines. Memory is taken for the text alone, and `NoMemory` is answered where it isn't found.
+/// The sample of a seed: a text of this many items, each on a line of its own that ends with LF.
+/// With more items it only gets more lines. Only the text is allocated; `NoMemory` if that fails.
 pub fn sample(alloc: Global, seed: u64, items: u32) -> Result<Text, NoMemory> {
     let mut draws = Draws { state: seed };
     let mut text = Text::new(alloc);
@@ -16,7 +16,7 @@ pub fn sample(alloc: Global, seed: u64, items: u32) -> Result<Text, NoMemory> {
     }
     Ok(text)
 }
-/// Adds the line of item `i`.
+/// Appends the line of item `i`.
 fn push_line(text: &mut Text, i: u64, item: Item) -> Result<(), NoMemory> {
     match item {
         Item::Struct => {
@@ -39,7 +39,7 @@ fn push_line(text: &mut Text, i: u64, item: Item) -> Result<(), NoMemory> {
         }
     }
 }
-/// Adds bytes, and a number in decimal digits behind them.
+/// Appends bytes, and a number in decimal digits.
 fn push_number(text: &mut Text, before: &[u8], number: u64) -> Result<(), NoMemory> {
     text.push_bytes(before)?;
     text.push_bytes(Buffer::new().format(number).as_bytes())

@@ -1,6 +1,6 @@
 //! Made by scripts/rust.sh from crates/lay_stream/src/line.rt, which is proved: change that.
 //!
-//! The line that is being written, and what is put on it.
+//! The line that is being written.
 use crate::generated::lay_io::{Failed, Sink};
 use crate::generated::lay_layout::{
     Break,
@@ -12,16 +12,16 @@ use crate::generated::lay_layout::{
     Mark,
     shifted,
 };
-/// The blanks that are to be written before what comes next, the room of the line and what was used of it.
+/// The blanks that are pending, the columns of the line, and how many of them are used.
 #[derive(Clone, Copy, Debug,)]
 pub struct Line {
     pub pending: u64,
     pub room: u64,
     pub used: u64,
 }
-/// The greatest count of what was used of a line: the space is exact down to -2^62.
+/// The greatest count of used columns: the space that is left is exact down to -2^62.
 const USED: u64 = GREATEST_WIDTH + MARGIN;
-/// Whether the sum of a width and a length is greater than the space.
+/// Whether `width + length` is greater than the space that is left.
 #[inline(always)]
 pub fn exceeds(line: &Line, width: u64, length: u64) -> bool {
     if line.used > line.room {
@@ -34,7 +34,7 @@ pub fn exceeds(line: &Line, width: u64, length: u64) -> bool {
     space - width < length
 }
 impl Line {
-    /// Writes the blanks that wait, if there are any.
+    /// Writes the pending blanks, if there are any.
     #[inline(always)]
     fn write_blanks<K: Sink>(&mut self, sink: &mut K) -> Result<(), Failed> {
         if self.pending == 0 {
@@ -42,7 +42,7 @@ impl Line {
         }
         self.write_pending(sink)
     }
-    /// Writes the blanks that wait, up to 64 at once.
+    /// Writes the pending blanks, up to 64 in a write.
     #[inline(never)]
     fn write_pending<K: Sink>(&mut self, sink: &mut K) -> Result<(), Failed> {
         let blanks = [b' '; 64];
@@ -53,7 +53,7 @@ impl Line {
         }
         Ok(())
     }
-    /// Writes the blanks that wait, and then the bytes.
+    /// Writes the pending blanks and then the bytes.
     pub fn write<K: Sink>(&mut self, sink: &mut K, bytes: &[u8]) -> Result<(), Failed> {
         self.write_blanks(sink)?;
         sink.write(bytes)?;
@@ -70,7 +70,7 @@ impl Line {
             Mark::CloseBrace => self.write(sink, b"}"),
         }
     }
-    /// Begins a line with so many blanks, which wait.
+    /// Writes a newline. The blanks that begin the new line are pending.
     fn start_line<K: Sink>(&mut self, sink: &mut K, blanks: u64) -> Result<(), Failed> {
         sink.write(b"\n")?;
         self.pending = blanks;
@@ -78,7 +78,7 @@ impl Line {
         self.used = 0;
         Ok(())
     }
-    /// A break that is a newline, in a frame of this indent.
+    /// Writes a break that is a newline, in a frame with this indent.
     #[inline(never)]
     fn newline<
         K: Sink,
@@ -87,19 +87,19 @@ impl Line {
         self.start_line(sink, shifted(indent, brk.offset))?;
         self.put_mark(sink, brk.after)
     }
-    /// Blanks that wait, up to the greatest count.
+    /// Adds pending blanks, up to [`GREATEST_BLANKS`].
     #[inline(always)]
     fn add_blanks(&mut self, blank: u16) {
         self.pending = self.pending.saturating_add(blank as u64).min(GREATEST_BLANKS);
         self.used = self.used.saturating_add(blank as u64).min(USED);
     }
-    /// A break that is no newline.
+    /// Writes a break that is no newline.
     #[inline(always)]
     fn skip<K: Sink>(&mut self, sink: &mut K, brk: Break) -> Result<(), Failed> {
         self.add_blanks(brk.blank);
         self.put_mark(sink, brk.instead)
     }
-    /// A break in a frame.
+    /// Writes a break in this frame.
     #[inline(always)]
     pub fn put_break<
         K: Sink,

@@ -1,8 +1,8 @@
 //! Made by scripts/rust.sh from crates/lay_text/src/refusal.rt, which is proved: change that.
 //!
-//! Why no text is given.
+//! The error types: why reading or formatting failed.
 use crate::shims::{AllocError, AllocFailed};
-/// Memory was not found. It says nothing of the input.
+/// Memory could not be allocated. It says nothing about the input.
 #[derive(Clone, Copy, Debug, PartialEq, Eq)]
 pub struct NoMemory;
 impl From<AllocError> for NoMemory {
@@ -15,34 +15,34 @@ impl<T> From<AllocFailed<T>> for NoMemory {
         NoMemory
     }
 }
-/// Why an input is refused, and where.
+/// A syntax error: why an input is refused, and at which byte.
 ///
-/// `at` counts bytes from 0: in the input for `NotUtf8`, else in the text without a byte order mark in
-/// which each CR LF is one LF.
+/// `at` is a byte offset from 0. For `NotUtf8` it counts in the input; for all others in the text
+/// that is lexed, which has no byte order mark and one LF for each CR LF.
 #[derive(Clone, Copy, Debug, PartialEq, Eq)]
 pub enum Refusal {
-    /// The input is no UTF-8; `at` is the length of its longest valid prefix.
+    /// The input is not UTF-8; `at` is the length of its longest valid prefix.
     NotUtf8 {
         at: usize,
     },
-    /// No token is had at this place.
+    /// No token begins at this place.
     NoToken {
         at: usize,
     },
-    /// This delimiter has no partner.
+    /// The delimiter here has no partner.
     Unbalanced {
         at: usize,
     },
-    /// The longest run of inner attributes and then items ends before this token.
+    /// The longest run of inner attributes and then items ends before the token here.
     NoItem {
         at: usize,
     },
 }
-/// Why a call that formats gives no text.
+/// Why a call that formats failed.
 #[derive(Clone, Copy, Debug, PartialEq, Eq)]
 pub enum FormatError {
-    /// The input has no reading.
+    /// The input has a syntax error.
     Refused(Refusal),
-    /// Memory was not found.
+    /// Memory could not be allocated.
     NoMemory,
 }

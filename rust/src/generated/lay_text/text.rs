@@ -1,12 +1,12 @@
 //! Made by scripts/rust.sh from crates/lay_text/src/text.rt, which is proved: change that.
 //!
-//! Texts: lists of bytes.
+//! [`Text`], a growable byte string.
 use crate::generated::lay_text::refusal::NoMemory;
 use crate::shims::SmallVec;
 use crate::shims::Global;
-/// How many bytes a text keeps in the value itself.
+/// How many bytes a text keeps inline, without allocating.
 const INLINE: usize = 22;
-/// A list of bytes. Up to 22 of them are kept in the value itself, where no memory is taken.
+/// A byte string. Up to 22 bytes are kept inline, without allocating.
 #[derive(Clone, PartialEq, Eq)]
 pub struct Text {
     bytes: SmallVec<u8, 22>,
@@ -16,7 +16,7 @@ impl Text {
     pub fn new(alloc: Global) -> Text {
         Text { bytes: SmallVec::new(alloc) }
     }
-    /// A copy of the bytes. At most 22 bytes take no memory.
+    /// A copy of the bytes. It allocates only for more than 22 bytes.
     #[inline(always)]
     pub fn from_bytes(alloc: Global, bytes: &[u8]) -> Result<Text, NoMemory> {
         match bytes {
@@ -38,14 +38,14 @@ impl Text {
         }
         Text { bytes: copy }
     }
-    /// A copy of the bytes, with no more room than it needs.
+    /// A copy of the bytes, allocated with no spare room.
     fn long(alloc: Global, bytes: &[u8]) -> Result<Text, NoMemory> {
         let mut text = Text::new(alloc);
         text.bytes.reserve_exact(bytes.len())?;
         text.push_bytes(bytes)?;
         Ok(text)
     }
-    /// Adds a byte at the end. A text of fewer than 22 bytes takes no memory for it.
+    /// Appends a byte. It doesn't allocate while the text has fewer than 22 bytes.
     #[inline]
     pub fn push(&mut self, byte: u8) -> Result<(), NoMemory> {
         match self.bytes.push(byte) {
@@ -53,14 +53,14 @@ impl Text {
             Err(_) => Err(NoMemory),
         }
     }
-    /// Adds bytes at the end. A text of at most 22 bytes with them takes no memory for them.
+    /// Appends bytes. It doesn't allocate if the text then has at most 22 bytes.
     pub fn push_bytes(&mut self, bytes: &[u8]) -> Result<(), NoMemory> {
         match self.bytes.extend_from_slice(bytes) {
             Ok(()) => Ok(()),
             Err(_) => Err(NoMemory),
         }
     }
-    /// All the bytes.
+    /// All bytes, as a slice.
     pub fn as_bytes(&self) -> &[u8] {
         self.bytes.as_slice()
     }

@@ -14,16 +14,17 @@ use crate::generated::lay_code::{
 };
 use crate::generated::lay_node::Boxed;
 use crate::generated::lay_paren_defs::Enclosed;
-/// Whether the file is the constant `const _: () = e;` alone, where `e` is the expression with each part in parentheses, itself too: all but
-/// what is the whole of a statement and, as the body of an arm or of a closure, a block without a label.
+/// Whether the file is only the constant `const _: () = e;`, where `e` is the expression with
+/// itself and each part in parentheses. No pair is put round what is the whole of a statement, nor
+/// round an unlabelled block as the body of an arm or of a closure.
 ///
-/// It is for programs that make trees. No place refuses what stands in parentheses: so the text of such a constant reads back to it exactly
-/// where the expression lacks nothing but parentheses.
+/// It is for programs that make trees. Anything may stand in parentheses: so the text of this
+/// constant parses back to it exactly if the expression lacks nothing but parentheses.
 pub fn same_enclosed(expr: &Expr, file: &File) -> bool {
     file.shebang.is_none() && file.attrs.as_slice().is_empty()
         && is_alone(expr, file.items.as_slice())
 }
-/// Whether the items are the constant alone.
+/// Whether the constant is the only item.
 fn is_alone(expr: &Expr, items: &[Item]) -> bool {
     match items {
         [item] => is_constant(expr, item),
@@ -35,21 +36,21 @@ fn is_constant(expr: &Expr, item: &Item) -> bool {
     item.attrs.as_slice().is_empty() && matches!(item.vis, Vis::Inherited)
         && is_value(expr, item.kind.get())
 }
-/// Whether the item is the constant, without its attributes and its visibility.
+/// Whether the item is the constant; its attributes and visibility aren't compared here.
 fn is_value(expr: &Expr, item: &ItemKind) -> bool {
     match item {
         ItemKind::Value { head, value } => is_head(head) && is_enclosed(expr, value),
         _ => false,
     }
 }
-/// Whether the value is the expression in parentheses, with each part of it in parentheses.
+/// Whether the value is the expression with itself and each part in parentheses.
 fn is_enclosed(expr: &Expr, value: &Option<Boxed<Expr>>) -> bool {
     match value {
         Some(given) => same_part::<Enclosed>(expr, given.get()),
         None => false,
     }
 }
-/// Whether it is the head of the constant, `const _: ()`.
+/// Whether it is `const _: ()`.
 fn is_head(value_head: &ValueHead) -> bool {
     match value_head {
         ValueHead::Const { name, ty } => {

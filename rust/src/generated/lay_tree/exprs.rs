@@ -1,8 +1,9 @@
 //! Made by scripts/rust.sh from crates/lay_tree/src/exprs.rt, which is proved: change that.
 //!
-//! Whether a tree is what another becomes: expressions, blocks and items, which hold each other.
+//! Comparison of expressions, blocks and items, which contain each other.
 //!
-//! What a tree becomes goes by the type `X`: itself, or itself with each part in parentheses.
+//! The functions compare a tree with what another tree becomes by `X`: the same tree (`AsIs`), or
+//! the tree with each part in parentheses (`Enclosed`).
 use crate::generated::lay_tree::operators::{same_op, same_params, same_prefixes};
 use crate::generated::lay_code::{
     Arm,
@@ -21,7 +22,7 @@ use crate::generated::lay_code::{
 use crate::generated::lay_node::Boxed;
 use crate::generated::lay_paren_defs::{Enclose, is_body_enclosed};
 use crate::generated::lay_same_nodes::Same;
-/// Whether the other expression is what this one becomes, with no parentheses round it.
+/// Whether `other` is what `expr` becomes, without a pair of parentheses round the whole.
 pub fn same_whole<X: Enclose>(expr: &Expr, other: &Expr) -> bool {
     match expr {
         Expr::Lit { literal } => {
@@ -272,7 +273,7 @@ pub fn same_whole<X: Enclose>(expr: &Expr, other: &Expr) -> bool {
         }
     }
 }
-/// Whether the other expression is what this one becomes as a part.
+/// Whether `other` is what `expr` becomes as a part: in parentheses, if parts get them.
 pub fn same_part<X: Enclose>(expr: &Expr, other: &Expr) -> bool {
     if !X::on() {
         return same_whole::<X>(expr, other);
@@ -282,13 +283,13 @@ pub fn same_part<X: Enclose>(expr: &Expr, other: &Expr) -> bool {
         _ => false,
     }
 }
-/// Whether the other expression is what this one becomes as the body of an arm or of a closure.
+/// Whether `other` is what `body` becomes as the body of an arm or of a closure.
 fn same_body_part<X: Enclose>(body: &Expr, other: &Expr) -> bool {
     if is_body_enclosed::<X>(body) { same_part::<X>(body, other) } else {
         same_whole::<X>(body, other)
     }
 }
-/// Whether the other expressions are what these become as parts.
+/// Whether `others` are what `exprs` become as parts.
 fn same_parts<X: Enclose>(exprs: &[Expr], others: &[Expr]) -> bool {
     if exprs.len() != others.len() {
         return false;
@@ -300,7 +301,7 @@ fn same_parts<X: Enclose>(exprs: &[Expr], others: &[Expr]) -> bool {
     }
     true
 }
-/// Whether the other part, which may be left out, is what this one becomes.
+/// Whether `other` is what the optional part `operand` becomes.
 fn same_operand<
     X: Enclose,
 >(operand: &Option<Boxed<Expr>>, other: &Option<Boxed<Expr>>) -> bool {
@@ -311,7 +312,7 @@ fn same_operand<
         ),
     }
 }
-/// Whether a chain's other operators and operands are what these become.
+/// Whether `others` are what the operators and operands of a chain become.
 fn same_operands<
     X: Enclose,
 >(operands: &[(Op, Boxed<Expr>)], others: &[(Op, Boxed<Expr>)]) -> bool {
@@ -326,7 +327,7 @@ fn same_operands<
     }
     true
 }
-/// Whether a struct literal's other base is what this one becomes, behind a `..` where there is one.
+/// Whether `other` is what the base of a struct literal becomes.
 fn same_base<
     X: Enclose,
 >(base: &Option<Option<Boxed<Expr>>>, other: &Option<Option<Boxed<Expr>>>) -> bool {
@@ -338,7 +339,7 @@ fn same_base<
         }
     }
 }
-/// Whether an assignment's other targets are what these become.
+/// Whether `others` are what the targets of an assignment become.
 fn same_targets<
     X: Enclose,
 >(targets: &[(Boxed<Expr>, Op)], others: &[(Boxed<Expr>, Op)]) -> bool {
@@ -352,7 +353,7 @@ fn same_targets<
     }
     true
 }
-/// Whether a struct literal's other field is what this one becomes.
+/// Whether `other` is what the field of a struct literal becomes.
 fn same_field<X: Enclose>(field: &FieldExpr, other: &FieldExpr) -> bool {
     match field {
         FieldExpr::Named { attrs, name, value } => {
@@ -391,7 +392,7 @@ fn same_field<X: Enclose>(field: &FieldExpr, other: &FieldExpr) -> bool {
         }
     }
 }
-/// Whether a struct literal's other fields are what these become.
+/// Whether `others` are what the fields of a struct literal become.
 fn same_fields<X: Enclose>(fields: &[FieldExpr], others: &[FieldExpr]) -> bool {
     if fields.len() != others.len() {
         return false;
@@ -403,7 +404,7 @@ fn same_fields<X: Enclose>(fields: &[FieldExpr], others: &[FieldExpr]) -> bool {
     }
     true
 }
-/// Whether the other step is what this one becomes.
+/// Whether `other` is what `step` becomes.
 fn same_step<X: Enclose>(step: &Step, other: &Step) -> bool {
     match step {
         Step::Field { name } => matches!(
@@ -443,7 +444,7 @@ fn same_step<X: Enclose>(step: &Step, other: &Step) -> bool {
         Step::Await => matches!(other, Step::Await),
     }
 }
-/// Whether the other steps are what these become.
+/// Whether `others` are what `steps` become.
 fn same_steps<X: Enclose>(steps: &[Step], others: &[Step]) -> bool {
     if steps.len() != others.len() {
         return false;
@@ -455,19 +456,19 @@ fn same_steps<X: Enclose>(steps: &[Step], others: &[Step]) -> bool {
     }
     true
 }
-/// Whether the other block is what this one becomes.
+/// Whether `other` is what `block` becomes.
 pub fn same_block<X: Enclose>(block: &Block, other: &Block) -> bool {
     block.attrs.same(&other.attrs)
         && same_stmts::<X>(block.stmts.as_slice(), other.stmts.as_slice())
 }
-/// Whether the other block, which may be left out, is what this one becomes.
+/// Whether `other` is what the optional block `body` becomes.
 fn same_body<X: Enclose>(body: &Option<Block>, other: &Option<Block>) -> bool {
     match body {
         None => other.is_none(),
         Some(body) => matches!(other, Some(given) if same_block::<X>(body, given)),
     }
 }
-/// Whether the other statement is what this one becomes.
+/// Whether `other` is what `stmt` becomes.
 pub fn same_stmt<X: Enclose>(stmt: &Stmt, other: &Stmt) -> bool {
     match stmt {
         Stmt::Let { attrs, pat, ty, value, otherwise } => {
@@ -507,7 +508,7 @@ pub fn same_stmt<X: Enclose>(stmt: &Stmt, other: &Stmt) -> bool {
         }
     }
 }
-/// Whether the other statements are what these become.
+/// Whether `others` are what `stmts` become.
 fn same_stmts<X: Enclose>(stmts: &[Stmt], others: &[Stmt]) -> bool {
     if stmts.len() != others.len() {
         return false;
@@ -519,12 +520,12 @@ fn same_stmts<X: Enclose>(stmts: &[Stmt], others: &[Stmt]) -> bool {
     }
     true
 }
-/// Whether the other branch is what this one becomes.
+/// Whether `other` is what `branch` becomes.
 fn same_branch<X: Enclose>(branch: &Branch, other: &Branch) -> bool {
     same_condition::<X>(&branch.condition, &other.condition)
         && same_block::<X>(&branch.body, &other.body)
 }
-/// Whether the other branches are what these become.
+/// Whether `others` are what `branches` become.
 fn same_branches<X: Enclose>(branches: &[Branch], others: &[Branch]) -> bool {
     if branches.len() != others.len() {
         return false;
@@ -536,11 +537,11 @@ fn same_branches<X: Enclose>(branches: &[Branch], others: &[Branch]) -> bool {
     }
     true
 }
-/// Whether the other condition is what this one becomes.
+/// Whether `other` is what `condition` becomes.
 fn same_condition<X: Enclose>(condition: &Condition, other: &Condition) -> bool {
     same_links::<X>(condition.links.as_slice(), other.links.as_slice())
 }
-/// Whether a condition's other link is what this one becomes.
+/// Whether `other` is what `link` becomes.
 fn same_link<X: Enclose>(link: &Link, other: &Link) -> bool {
     match link {
         Link::Expr { expr } => {
@@ -559,7 +560,7 @@ fn same_link<X: Enclose>(link: &Link, other: &Link) -> bool {
         }
     }
 }
-/// Whether a condition's other links are what these become.
+/// Whether `others` are what `links` become.
 fn same_links<X: Enclose>(links: &[Link], others: &[Link]) -> bool {
     if links.len() != others.len() {
         return false;
@@ -571,13 +572,13 @@ fn same_links<X: Enclose>(links: &[Link], others: &[Link]) -> bool {
     }
     true
 }
-/// Whether the other arm is what this one becomes.
+/// Whether `other` is what `arm` becomes.
 pub fn same_arm<X: Enclose>(arm: &Arm, other: &Arm) -> bool {
     arm.attrs.same(&other.attrs) && arm.pat.same(&other.pat)
         && same_operand::<X>(&arm.guard, &other.guard)
         && same_body_part::<X>(arm.body.get(), other.body.get())
 }
-/// Whether the other arms are what these become.
+/// Whether `others` are what `arms` become.
 fn same_arms<X: Enclose>(arms: &[Arm], others: &[Arm]) -> bool {
     if arms.len() != others.len() {
         return false;
@@ -589,12 +590,12 @@ fn same_arms<X: Enclose>(arms: &[Arm], others: &[Arm]) -> bool {
     }
     true
 }
-/// Whether the other item is what this one becomes.
+/// Whether `other` is what `item` becomes.
 pub fn same_item<X: Enclose>(item: &Item, other: &Item) -> bool {
     item.attrs.same(&other.attrs) && item.vis.same(&other.vis)
         && same_kind::<X>(item.kind.get(), other.kind.get())
 }
-/// Whether the other items are what these become.
+/// Whether `others` are what `items` become.
 pub fn same_items<X: Enclose>(items: &[Item], others: &[Item]) -> bool {
     if items.len() != others.len() {
         return false;
@@ -606,7 +607,7 @@ pub fn same_items<X: Enclose>(items: &[Item], others: &[Item]) -> bool {
     }
     true
 }
-/// Whether the other item is what this one becomes, without their attributes and visibilities.
+/// Whether `other` is what `kind` becomes.
 fn same_kind<X: Enclose>(kind: &ItemKind, other: &ItemKind) -> bool {
     match kind {
         ItemKind::ExternCrate { item } => {

@@ -1,6 +1,6 @@
 //! Made by scripts/rust.sh from crates/lay_tree/src/operators.rt, which is proved: change that.
 //!
-//! Operators, and the parameters of closures.
+//! Equality of operators, and of the parameters of closures.
 use crate::generated::lay_code::{ClosureParam, Op, Prefix};
 use crate::generated::lay_same_nodes::Same;
 /// Whether two operators are equal.
@@ -39,7 +39,7 @@ pub fn same_op(op: &Op, other: &Op) -> bool {
         Op::Rem => matches!(other, Op::Rem),
     }
 }
-/// Whether two prefixes are equal.
+/// Whether two prefix operators are equal.
 fn same_prefix(prefix: &Prefix, other: &Prefix) -> bool {
     match prefix {
         Prefix::Neg => matches!(other, Prefix::Neg),
@@ -56,7 +56,7 @@ fn same_param(param: &ClosureParam, other: &ClosureParam) -> bool {
     param.attrs.same(&other.attrs) && param.pat.same(&other.pat)
         && param.ty.same(&other.ty)
 }
-/// Whether two lists of prefixes are equal.
+/// Whether two lists of prefix operators are equal.
 pub fn same_prefixes(prefixes: &[Prefix], others: &[Prefix]) -> bool {
     if prefixes.len() != others.len() {
         return false;

@@ -1,6 +1,6 @@
 //! Made by scripts/rust.sh from crates/lay_depth/src/nodes/functions.rt, which is proved: change that.
 //!
-//! The heads of functions.
+//! The depth of the heads of functions.
 use crate::generated::lay_depth::nodes::generics::{generics_depth, type_or_none_depth};
 use crate::generated::lay_depth::nodes::levels::{Deep, deepest};
 use crate::generated::lay_depth::nodes::patterns::pat_depth;

@@ -1,10 +1,10 @@
 //! Made by scripts/rust.sh from crates/lay_depth/src/nodes/generics.rt, which is proved: change that.
 //!
-//! Generic parameters and where clauses.
+//! The depth of generic parameters and where clauses.
 use crate::generated::lay_depth::nodes::levels::{Deep, deepest};
 use crate::generated::lay_depth::nodes::types::{bounds_depth, type_depth};
 use crate::generated::lay_node::{GenericParam, Generics, Predicate, Ty, Wheres};
-/// The depth of a type that may be left out: 0 where it is.
+/// The depth of an optional type; 0 if there is none.
 pub fn type_or_none_depth(ty: &Option<Ty>) -> u32 {
     match ty {
         Some(ty) => type_depth(ty),

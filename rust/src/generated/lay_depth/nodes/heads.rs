@@ -1,6 +1,6 @@
 //! Made by scripts/rust.sh from crates/lay_depth/src/nodes/heads.rt, which is proved: change that.
 //!
-//! Fields, and the heads of items.
+//! The depth of fields and of the heads of items.
 use crate::generated::lay_depth::nodes::generics::{
     generics_depth,
     type_or_none_depth,
@@ -65,7 +65,7 @@ pub fn enum_depth(item: &Enum) -> u32 {
     generics_depth(&item.generics).max(wheres_depth(&item.wheres))
         .max(deepest(item.variants.as_slice()))
 }
-/// The depth of what stands before the value of a constant or a static.
+/// The depth of a constant or a static without its value.
 pub fn value_head_depth(head: &ValueHead) -> u32 {
     match head {
         ValueHead::Const { ty, .. } | ValueHead::Static { ty, .. } => type_depth(ty),

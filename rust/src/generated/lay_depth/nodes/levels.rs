@@ -1,17 +1,16 @@
 //! Made by scripts/rust.sh from crates/lay_depth/src/nodes/levels.rt, which is proved: change that.
 //!
-//! One level more, and the deepest of several nodes.
-/// The depth of what holds a node of this depth and nothing deeper. It counts up to the greatest number of 32 bits, and
-/// stays there.
+//! One level more, and the greatest depth of several nodes.
+/// The depth of a node whose deepest part has this depth: one more, but at most `u32::MAX`.
 pub fn deeper(depth: u32) -> u32 {
     depth.saturating_add(1)
 }
-/// A node that stands in a list of its own kind.
+/// A node whose depth is counted, and that stands in lists.
 pub trait Deep {
     /// Its depth.
     fn depth(&self) -> u32;
 }
-/// The depth of the deepest of the nodes, and 0 without any.
+/// The greatest depth of the nodes; 0 if there are none.
 pub fn deepest<T: Deep>(nodes: &[T]) -> u32 {
     let mut most = 0u32;
     for node in nodes {

@@ -1,6 +1,6 @@
 //! Made by scripts/rust.sh from crates/lay_depth/src/nodes/patterns.rt, which is proved: change that.
 //!
-//! Patterns.
+//! The depth of patterns.
 use crate::generated::lay_depth::nodes::levels::deeper;
 use crate::generated::lay_depth::nodes::types::path_depth;
 use crate::generated::lay_node::{FieldPat, Pat, SpanEnd};
@@ -31,7 +31,7 @@ pub fn pat_depth(pat: &Pat) -> u32 {
         }
     }
 }
-/// The depth of the deepest of the patterns.
+/// The greatest depth of the patterns.
 fn pats_depth(pats: &[Pat]) -> u32 {
     let mut most = 0u32;
     for pat in pats {
@@ -39,7 +39,7 @@ fn pats_depth(pats: &[Pat]) -> u32 {
     }
     most
 }
-/// The depth of the deepest of the fields of a struct's pattern.
+/// The greatest depth of the fields of a struct pattern.
 fn fields_depth(fields: &[FieldPat]) -> u32 {
     let mut most = 0u32;
     for field in fields {
@@ -47,14 +47,14 @@ fn fields_depth(fields: &[FieldPat]) -> u32 {
     }
     most
 }
-/// The depth of a field of a struct's pattern.
+/// The depth of a field of a struct pattern.
 fn field_depth(field: &FieldPat) -> u32 {
     match field {
         FieldPat::Named { pat, .. } | FieldPat::Index { pat, .. }
         | FieldPat::Short { pat, .. } => pat_depth(pat),
     }
 }
-/// The depth of an end of a span, which may be left out.
+/// The depth of an end of a range pattern; 0 if there is none.
 fn end_depth(end: &Option<SpanEnd>) -> u32 {
     match end {
         Some(end) => {

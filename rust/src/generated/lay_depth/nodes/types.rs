@@ -1,6 +1,6 @@
 //! Made by scripts/rust.sh from crates/lay_depth/src/nodes/types.rt, which is proved: change that.
 //!
-//! Types, and the paths, generic arguments and bounds that they are made of.
+//! The depth of types, paths, generic arguments and bounds.
 use crate::generated::lay_depth::nodes::levels::deeper;
 use crate::generated::lay_node::{
     Arg,
@@ -30,7 +30,7 @@ pub fn type_depth(ty: &Ty) -> u32 {
         Ty::Bounds { bounds, .. } => deeper(bounds_depth(bounds.as_slice())),
     }
 }
-/// The depth of the deepest of the types.
+/// The greatest depth of the types.
 pub fn types_depth(types: &[Ty]) -> u32 {
     let mut most = 0u32;
     for ty in types {
@@ -38,7 +38,7 @@ pub fn types_depth(types: &[Ty]) -> u32 {
     }
     most
 }
-/// The depth of the deepest of the parameters of a function type.
+/// The greatest depth of the parameters of a function type.
 fn params_depth(params: &[FuncParam]) -> u32 {
     let mut most = 0u32;
     for param in params {
@@ -46,18 +46,18 @@ fn params_depth(params: &[FuncParam]) -> u32 {
     }
     most
 }
-/// The depth of a return type, and 0 without one.
+/// The depth of a return type; 0 if there is none.
 fn output_depth(output: &Option<Boxed<Ty>>) -> u32 {
     match output {
         Some(ty) => type_depth(ty.get()),
         None => 0,
     }
 }
-/// The depth of a path. That of its generic arguments is the same in code and elsewhere.
+/// The depth of a path, which doesn't depend on how its generic arguments are spelled.
 pub fn path_depth(path: &Path) -> u32 {
     start_depth(&path.start).max(segments_depth(path.segments.as_slice()))
 }
-/// The depth of what a path begins with. The trait that a type is taken as stands one level deeper.
+/// The depth of the beginning of a path. In `<A as B>::` the trait counts one level more.
 fn start_depth(start: &PathStart) -> u32 {
     match start {
         PathStart::Local | PathStart::Global => 0,
@@ -70,7 +70,7 @@ fn start_depth(start: &PathStart) -> u32 {
         }
     }
 }
-/// The depth of the deepest generic arguments of the segments.
+/// The greatest depth of the generic arguments of the segments.
 fn segments_depth(segments: &[(Word, Args)]) -> u32 {
     let mut most = 0u32;
     for (_, args) in segments {
@@ -88,7 +88,7 @@ fn args_depth(args: &Args) -> u32 {
         }
     }
 }
-/// The depth of the deepest of generic arguments.
+/// The greatest depth of the generic arguments.
 pub fn arguments_depth(args: &[Arg]) -> u32 {
     let mut most = 0u32;
     for arg in args {
@@ -96,7 +96,8 @@ pub fn arguments_depth(args: &[Arg]) -> u32 {
     }
     most
 }
-/// The depth of a generic argument. A name with its constraint stands one level above what is in them.
+/// The depth of a generic argument. A name with its constraint counts one level more than what is
+/// in them.
 fn arg_depth(arg: &Arg) -> u32 {
     match arg {
         Arg::Region { .. } | Arg::Const { .. } => 0,
@@ -106,7 +107,7 @@ fn arg_depth(arg: &Arg) -> u32 {
         }
     }
 }
-/// The depth of what is asked of a name.
+/// The depth of what a generic argument says of an associated item.
 fn constraint_depth(constraint: &Constraint) -> u32 {
     match constraint {
         Constraint::EqualConst { .. } => 0,
@@ -114,7 +115,7 @@ fn constraint_depth(constraint: &Constraint) -> u32 {
         Constraint::Limit { bounds } => bounds_depth(bounds.as_slice()),
     }
 }
-/// The depth of the deepest of the bounds.
+/// The greatest depth of the bounds.
 pub fn bounds_depth(bounds: &[Bound]) -> u32 {
     let mut most = 0u32;
     for bound in bounds {

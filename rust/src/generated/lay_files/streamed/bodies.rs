@@ -1,6 +1,6 @@
 //! Made by scripts/rust.sh from crates/lay_files/src/streamed/bodies.rt, which is proved: change that.
 //!
-//! Files, and the bodies of modules.
+//! The layout of files and of the bodies of modules, window by window.
 use crate::generated::lay_files::streamed::modules::{close, open, put_empty};
 use crate::generated::lay_files::streamed::parts::put_parts;
 use crate::generated::lay_files::streamed::stop::{NotPut, told, unread};
@@ -9,9 +9,10 @@ use crate::generated::lay_files::windows::window::{Window, read_window};
 use crate::generated::lay_lex::{Source, Stop};
 use crate::generated::lay_stream::Emit;
 use crate::shims::Global;
-/// Feeds the layout of the file that the tokens of the text spell, without its shebang, where it is read by windows.
+/// Emits the layout of the file that the tokens of the text spell, without its shebang line, if the
+/// file can be read window by window.
 ///
-/// The items of the file stand at the depth, and those within another item one lower.
+/// The items of the file fit in `depth` levels, and items within an item in one fewer.
 pub fn put_source<
     E: Emit,
 >(
@@ -29,9 +30,9 @@ pub fn put_source<
         Err(error) => Err(error),
     }
 }
-/// Feeds inner attributes and items from a place on, where the first window stands, up to the end of the text, or behind the
-/// closing brace of the module that they stand in: whether they end in that. Within a module each has a newline before it, and
-/// else behind it.
+/// Emits inner attributes and items from a byte offset on, where the first window begins, to the
+/// end of the text, or past the closing brace of the module that they are in. Says whether they end
+/// in that brace. Inside a module each has a newline before it, else after it.
 #[inline(never)]
 fn put_body<
     E: Emit,
@@ -63,7 +64,7 @@ fn put_body<
     }
     Err(NotPut::NoReading)
 }
-/// Feeds a module of this head, whose body stands from a place on, up to behind its closing brace.
+/// Emits the module with this head, whose body begins at a byte offset, past its closing brace.
 fn put_module<
     E: Emit,
 >(
@@ -87,14 +88,14 @@ fn put_module<
         Err(error) => Err(error),
     }
 }
-/// The window at a place.
+/// The window that begins at a byte offset.
 fn window_at<F>(alloc: Global, text: &str, place: usize) -> Result<Window, NotPut<F>> {
     match read_window(alloc, text, place) {
         Ok(window) => Ok(window),
         Err(none) => Err(unread(none)),
     }
 }
-/// Whether the window is the closing brace of a module alone, so that nothing stands in the module.
+/// Whether the window is only the closing brace of a module, so the module is empty.
 fn is_empty_body(window: &Window) -> bool {
     match window.stop {
         Stop::Closed => window.nested.cursor().is_end(),

@@ -1,6 +1,6 @@
 //! Made by scripts/rust.sh from crates/lay_files/src/streamed/modules.rt, which is proved: change that.
 //!
-//! What stands around the body of a module.
+//! The layout around the body of a module.
 use crate::generated::lay_files::streamed::lines::{put_line_before, put_line_behind};
 use crate::generated::lay_files::windows::heads::Head;
 use crate::generated::lay_out_heads::items::open_head;
@@ -9,17 +9,17 @@ use crate::generated::lay_out_pats::add_attrs;
 use crate::generated::lay_out_types::calls::{add_text, add_word};
 use crate::generated::lay_out_types::lists::add_end;
 use crate::generated::lay_stream::Emit;
-/// Opens a module that holds something, with a newline before it within another.
+/// Opens a module that isn't empty, with a newline before it inside another one.
 pub fn open<E: Emit>(out: &mut E, within: bool, head: &Head) -> Result<(), E::Fault> {
     put_head(out, within, head)?;
     open_body(out, Ok(()), true)
 }
-/// Closes a module that holds something, with a newline behind it where it stands in none.
+/// Closes a module that isn't empty, with a newline after it outside modules.
 pub fn close<E: Emit>(out: &mut E, within: bool) -> Result<(), E::Fault> {
     close_body(out, Ok(()))?;
     put_line_behind(out, within)
 }
-/// A module that holds nothing.
+/// Emits an empty module.
 pub fn put_empty<
     E: Emit,
 >(out: &mut E, within: bool, head: &Head) -> Result<(), E::Fault> {
@@ -27,12 +27,12 @@ pub fn put_empty<
     out.text(b" {}")?;
     put_line_behind(out, within)
 }
-/// The head of a module, on a line of its own within another.
+/// Emits the head of a module, on a line of its own inside another one.
 fn put_head<E: Emit>(out: &mut E, within: bool, head: &Head) -> Result<(), E::Fault> {
     put_line_before(out, within)?;
     put_module_head(out, head)
 }
-/// The head of a module, with its attributes, each with a newline behind it.
+/// Emits the head of a module, with its attributes, each with a newline after it.
 fn put_module_head<E: Emit>(out: &mut E, head: &Head) -> Result<(), E::Fault> {
     let attrs = add_attrs(out, Ok(()), head.attrs.as_slice());
     let opened = open_head(out, attrs, &head.vis);

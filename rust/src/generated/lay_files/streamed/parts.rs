@@ -1,6 +1,6 @@
 //! Made by scripts/rust.sh from crates/lay_files/src/streamed/parts.rt, which is proved: change that.
 //!
-//! The parts of a file or of a module that stand in a window.
+//! The layout of the parts of a file or of a module that are in a window.
 use crate::generated::lay_files::streamed::lines::{put_attr_line, put_item_line};
 use crate::generated::lay_files::streamed::stop::{NotPut, told, unread};
 use crate::generated::lay_files::windows::heads::{Head, read_head};
@@ -10,8 +10,9 @@ use crate::generated::lay_read_code::read_item;
 use crate::generated::lay_read_tokens::{ReadNone, read_attr};
 use crate::generated::lay_stream::Emit;
 use crate::shims::Global;
-/// Feeds the inner attributes and the items that the tokens are, all but the head of a module at their end, if one stands
-/// there. The flag says whether items were fed before, behind which no inner attribute stands, and then whether any were.
+/// Parses the tokens of a window as inner attributes and items, and emits these. If the head of a
+/// module is at the end, it isn't emitted. The flag says whether items were emitted before, after
+/// which no inner attribute may stand; the result says so for what follows.
 pub fn put_parts<
     E: Emit,
 >(
@@ -36,7 +37,7 @@ pub fn put_parts<
         Err(none) => Err(unread(none)),
     }
 }
-/// Feeds inner attributes, as long as one is read, where no items were fed before.
+/// Parses inner attributes and emits them, as many as there are, if no items were emitted before.
 fn put_inner<
     E: Emit,
 >(
@@ -48,7 +49,7 @@ fn put_inner<
 ) -> Result<(), NotPut<E::Fault>> {
     if are_items { Ok(()) } else { put_attrs(alloc, at, within, out) }
 }
-/// Feeds inner attributes, as long as one is read.
+/// Parses inner attributes and emits them, as many as there are.
 fn put_attrs<
     E: Emit,
 >(
@@ -66,7 +67,7 @@ fn put_attrs<
     }
     Ok(())
 }
-/// Feeds items, as long as one is read. Each is given back before the next one is read.
+/// Parses items and emits them, as many as there are. Each is dropped before the next one is read.
 fn put_items<
     E: Emit,
 >(

@@ -1,25 +1,25 @@
 //! Made by scripts/rust.sh from crates/lay_files/src/streamed/stop.rt, which is proved: change that.
 //!
-//! Why the stream of a file isn't appended.
+//! Why laying out window by window stops.
 use crate::generated::lay_read_tokens::ReadNone;
-/// Why the stream of a file wasn't appended whole.
+/// Why the stream of a file wasn't emitted completely.
 #[derive(Debug,)]
 pub enum NotPut<F> {
-    /// The text isn't read by windows, which says nothing of it.
+    /// The text can't be read window by window, which says nothing about it.
     NoReading,
-    /// Memory was not found.
+    /// Memory could not be allocated.
     NoMemory,
-    /// What takes the stream has failed.
+    /// The `Emit` failed.
     Fault(F),
 }
-/// Why nothing is put where nothing is read.
+/// The cause, if nothing was read.
 pub fn unread<F>(none: ReadNone) -> NotPut<F> {
     match none {
         ReadNone::NoReading => NotPut::NoReading,
         ReadNone::NoMemory => NotPut::NoMemory,
     }
 }
-/// What was fed, with a fault told as the cause.
+/// The result of an emission, with its error as the cause.
 pub fn told<F>(fed: Result<(), F>) -> Result<(), NotPut<F>> {
     match fed {
         Ok(()) => Ok(()),

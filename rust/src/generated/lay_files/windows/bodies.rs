@@ -1,6 +1,6 @@
 //! Made by scripts/rust.sh from crates/lay_files/src/windows/bodies.rt, which is proved: change that.
 //!
-//! Files, and the bodies of modules.
+//! Parsing of files and of the bodies of modules, window by window.
 use crate::generated::lay_files::windows::heads::Head;
 use crate::generated::lay_files::windows::parts::read_parts;
 use crate::generated::lay_files::windows::window::read_window;
@@ -10,9 +10,9 @@ use crate::generated::lay_read_tokens::ReadNone;
 use crate::generated::lay_read_tokens::stop::{boxed, keep};
 use crate::generated::lay_token::List;
 use crate::shims::Global;
-/// The file that the tokens of the text spell, without its shebang, where it is read by windows.
+/// Parses the text as a file, without its shebang line, if the file can be read window by window.
 ///
-/// The items of the file stand at the depth, and those within another item one lower.
+/// The items of the file fit in `depth` levels, and items within an item in one fewer.
 pub fn read_source(
     alloc: Global,
     source: &Source,
@@ -26,12 +26,12 @@ pub fn read_source(
         Err(error) => Err(error),
     }
 }
-/// A file with nothing in it.
+/// An empty file.
 fn empty(alloc: Global) -> File {
     File { shebang: None, attrs: List::new(alloc), items: List::new(alloc) }
 }
-/// Inner attributes and items from a place on, up to the end of the text, or behind the closing brace of the module that
-/// they stand in: whether they end in that.
+/// Parses inner attributes and items from a byte offset on, to the end of the text, or past the
+/// closing brace of the module that they are in. Says whether they end in that brace.
 #[inline(never)]
 fn read_body(
     alloc: Global,
@@ -61,7 +61,7 @@ fn read_body(
     }
     Err(ReadNone::NoReading)
 }
-/// The module of this head, with the attributes and the items of this body.
+/// The module with this head, and the attributes and items of this body.
 fn module(alloc: Global, head: Head, body: File) -> Result<Item, ReadNone> {
     let Head { attrs, vis, name } = head;
     let File { shebang: _, attrs: inner, items } = body;

@@ -1,6 +1,6 @@
 //! Made by scripts/rust.sh from crates/lay_files/src/windows/heads.rt, which is proved: change that.
 //!
-//! Attributes, and the heads of modules.
+//! Parsing of attributes and of the heads of modules.
 use crate::generated::lay_code::{Attr, Name, Vis};
 use crate::generated::lay_nest::Cursor;
 use crate::generated::lay_read_heads::read_vis;
@@ -10,14 +10,14 @@ use crate::generated::lay_read_tokens::stop::keep;
 use crate::generated::lay_read_tokens::{Ahead, ReadNone, read_attr};
 use crate::generated::lay_token::List;
 use crate::shims::Global;
-/// What stands before the braces of a module.
+/// The head of a module: everything before its `{`.
 pub struct Head {
     /// Outer attributes.
     pub attrs: List<Attr>,
     pub vis: Vis,
     pub name: Name,
 }
-/// The head of a module, where the tokens ahead are one.
+/// Parses the head of a module, if all tokens ahead are one.
 pub fn read_head(alloc: Global, at: &mut Cursor<'_>) -> Result<Head, ReadNone> {
     let mut attrs = List::new(alloc);
     add_attrs(alloc, at, false, &mut attrs)?;
@@ -25,7 +25,7 @@ pub fn read_head(alloc: Global, at: &mut Cursor<'_>) -> Result<Head, ReadNone> {
     let name = read_module_name(alloc, at)?;
     Ok(Head { attrs, vis, name })
 }
-/// `mod` and a name, where the tokens ahead are these two.
+/// Parses `mod` and a name, if the tokens ahead are these two.
 fn read_module_name(alloc: Global, at: &Cursor<'_>) -> Result<Name, ReadNone> {
     let mut ahead = Ahead::new(at.fork());
     if !takes_keyword(&mut ahead, b"mod") {
@@ -34,7 +34,7 @@ fn read_module_name(alloc: Global, at: &Cursor<'_>) -> Result<Name, ReadNone> {
     let name = read_name(alloc, &mut ahead)?;
     if ahead.is_end() { Ok(name) } else { Err(ReadNone::NoReading) }
 }
-/// Adds attributes, as long as one is read.
+/// Parses attributes and appends them, as many as there are.
 pub fn add_attrs(
     alloc: Global,
     at: &mut Cursor<'_>,

@@ -1,6 +1,6 @@
 //! Made by scripts/rust.sh from crates/lay_files/src/windows/parts.rt, which is proved: change that.
 //!
-//! The parts of a file or of a module that stand in a window.
+//! Parsing of the parts of a file or of a module that are in a window.
 use crate::generated::lay_files::windows::heads::{Head, add_attrs, read_head};
 use crate::generated::lay_code::{Attr, File, Item, Site};
 use crate::generated::lay_nest::{Cursor, Nested};
@@ -9,8 +9,8 @@ use crate::generated::lay_read_tokens::ReadNone;
 use crate::generated::lay_read_tokens::stop::keep;
 use crate::generated::lay_token::List;
 use crate::shims::Global;
-/// Adds the inner attributes and the items that the tokens are, all but the head of a module at their end, if one stands
-/// there.
+/// Parses the tokens of a window as inner attributes and items, and appends these. If the head of a
+/// module is at the end, it isn't read.
 pub fn read_parts(
     alloc: Global,
     nested: &Nested,
@@ -32,7 +32,7 @@ pub fn read_parts(
         Err(error) => Err(error),
     }
 }
-/// Adds inner attributes, as long as one is read, where they may stand.
+/// Parses inner attributes and appends them, as many as there are, if they may stand here.
 fn add_inner(
     alloc: Global,
     at: &mut Cursor<'_>,
@@ -41,7 +41,7 @@ fn add_inner(
 ) -> Result<(), ReadNone> {
     if may { add_attrs(alloc, at, true, attrs) } else { Ok(()) }
 }
-/// Adds items, as long as one is read.
+/// Parses items and appends them, as many as there are.
 fn add_items(
     alloc: Global,
     at: &mut Cursor<'_>,

@@ -6,17 +6,17 @@ use crate::generated::lay_nest::{Nested, nest};
 use crate::generated::lay_read_tokens::ReadNone;
 use crate::generated::lay_token::{Delim, FormatError, Kind, List, Token};
 use crate::shims::Global;
-/// A window has so many tokens at least, if an item ends behind them.
+/// The least number of tokens in a window, if an item ends after them.
 const LEAST: usize = 4096;
-/// Some of the tokens of a text.
+/// Consecutive tokens of a text, with balanced delimiters.
 pub struct Window {
-    /// The tokens, without the brace behind which they end.
+    /// The tokens, without a brace of a module that ends the window.
     pub nested: Nested,
     pub stop: Stop,
-    /// Where the text goes on, behind the brace.
+    /// The byte offset where the text goes on, after that brace.
     pub end: usize,
 }
-/// The tokens of the text from this place on.
+/// Lexes the window that begins at this byte offset.
 pub fn read_window(alloc: Global, text: &str, place: usize) -> Result<Window, ReadNone> {
     let window = match lex_window(alloc, text, place, LEAST) {
         Ok(window) => window,
@@ -29,7 +29,7 @@ pub fn read_window(alloc: Global, text: &str, place: usize) -> Result<Window, Re
         Err(error) => Err(unread(error)),
     }
 }
-/// The tokens without the brace behind which they end, if they end behind one.
+/// The tokens without the brace of a module that ends the window, if one does.
 fn without_brace(tokens: List<Token>, stop: Stop) -> Result<List<Token>, ReadNone> {
     match stop {
         Stop::End | Stop::More => Ok(tokens),
@@ -42,7 +42,7 @@ fn without_brace(tokens: List<Token>, stop: Stop) -> Result<List<Token>, ReadNon
         }
     }
 }
-/// Whether the token is the brace behind which tokens end so.
+/// Whether the token is the brace that ends a window that stops so.
 fn is_brace(token: &Token, stop: Stop) -> bool {
     match (stop, token.kind) {
         (Stop::Opened, Kind::Opener(Delim::Brace)) => {
@@ -54,7 +54,7 @@ fn is_brace(token: &Token, stop: Stop) -> bool {
         _ => false,
     }
 }
-/// Why nothing is read.
+/// The error of a reader for this error of the lexer.
 fn unread(error: FormatError) -> ReadNone {
     match error {
         FormatError::Refused(_) => ReadNone::NoReading,

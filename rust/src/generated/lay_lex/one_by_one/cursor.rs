@@ -1,34 +1,35 @@
 //! Made by scripts/rust.sh from crates/lay_lex/src/one_by_one/cursor.rt, which is proved: change that.
 //!
-//! A place in a text, and the token that comes next.
+//! A cursor that lexes as it moves.
 use crate::generated::lay_lex::{Before, after_gap, cut, is_point, text_of_piece};
 use crate::generated::lay_token::{Kind, piece_at};
-/// A token whose text is lent. It doesn't tell whether the next one is joint.
+/// A token that borrows its text. It doesn't say whether it is joint with the next one.
 #[derive(Clone, Copy, Debug,)]
 pub struct Lexeme<'a> {
     pub kind: Kind,
-    /// The text that the token has: of a raw identifier without `r#`, and of documentation without its marks and the blanks at the
-    /// end of one line.
+    /// The text of the token: a raw identifier without its `r#`, and documentation without its
+    /// marks, of which a line has no blanks at its end either.
     pub text: &'a [u8],
-    /// Where the piece begins, in bytes of the text.
+    /// Where the piece begins: a byte offset in the text.
     pub at: usize,
-    /// The bytes of the piece.
+    /// The length of the piece in bytes.
     pub len: usize,
 }
-/// A place in a text, of which what is ahead is lexed as it is asked for.
+/// A place in a text. What is ahead is lexed token by token.
 #[derive(Clone, Copy, Debug,)]
 pub struct Cursor<'a> {
     ahead: &'a str,
-    /// How many bytes the whole text has.
+    /// The length of the whole text in bytes.
     end: usize,
     before: Before,
 }
 impl<'a> Cursor<'a> {
-    /// The place in the text from which on it is lexed.
+    /// A cursor at the byte `start` of the text.
     pub fn new(text: &'a str, start: usize) -> Cursor<'a> {
         Cursor { ahead: &text[start..], end: text.len(), before: Before::Other }
     }
-    /// Goes past the next token and tells it; or nothing, where the text ends or no token is had.
+    /// Gives the next token and moves past it; `None` at the end of the text, or if no token begins
+    /// there.
     #[inline(always)]
     pub fn next(&mut self) -> Option<Lexeme<'a>> {
         let rest = after_gap(self.ahead)?;
@@ -46,12 +47,12 @@ impl<'a> Cursor<'a> {
         Some(lexeme)
     }
 }
-/// Whether a number may be an index.
+/// Whether a number here may be a tuple index.
 #[inline]
 fn is_index_place(before: Before) -> bool {
     before == Before::Point
 }
-/// What stands behind a piece; `touches` says that no gap stands before it.
+/// What precedes the place after this piece; `touches` says that no gap stands before the piece.
 #[inline]
 fn behind_piece(before: Before, kind: Kind, piece: &str, touches: bool) -> Before {
     match kind {

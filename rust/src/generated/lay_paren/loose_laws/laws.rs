@@ -1,3 +1,3 @@
 //! Made by scripts/rust.sh from crates/lay_paren/src/loose_laws/laws.rt, which is proved: change that.
 //!
-//! What holds of trees with each part in parentheses.
+//! The theorem about trees with each part in parentheses. (No code runs.)

@@ -1,3 +1,3 @@
 //! Made by scripts/rust.sh from crates/lay_paren_defs/src/loose/laws.rt, which is proved: change that.
 //!
-//! What holds of places and slots.
+//! The theorem about places and slots. (No code runs.)

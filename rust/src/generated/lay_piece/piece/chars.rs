@@ -1,35 +1,35 @@
 //! Made by scripts/rust.sh from crates/lay_piece/src/piece/chars.rt, which is proved: change that.
 //!
-//! The characters at the front of a text, and runs of them.
+//! Sets of characters, the first character of a text, and runs of characters.
 use crate::generated::lay_piece::piece::numbers::Base;
 /// A set of characters.
 #[derive(Clone, Copy, Debug, PartialEq, Eq)]
 pub enum CharSet {
-    /// What may begin a word.
+    /// What may begin an identifier: XID_Start or `_`.
     WordStart,
-    /// What may go on with a word.
+    /// What an identifier may go on with: XID_Continue.
     Word,
-    /// A quote or a `#`, which makes a word before it a prefix.
+    /// A quote or a `#`: after a word it makes the word a prefix, as in `b"x"`.
     Mark,
-    /// A `'` or a `#`, before which no lifetime ends.
+    /// A `'` or a `#`, which may not follow a lifetime.
     Tick,
-    /// A sign of an exponent.
+    /// The sign of an exponent: `+` or `-`.
     Sign,
-    /// The letter of an exponent.
+    /// The letter of an exponent: `e` or `E`.
     ExponentLetter,
-    /// A character of a line of documentation.
+    /// A character of a line of documentation: any but LF and CR.
     DocLine,
-    /// What a backslash before a line's end skips.
+    /// White space that a backslash at the end of a line skips.
     Skipped,
-    /// What follows `/**` where it is no documentation.
+    /// `*` or `/`: what follows `/**` if that begins no documentation.
     StarOrSlash,
-    /// A digit of a base.
+    /// A digit of this base.
     Digit(Base),
-    /// A digit of a base, or an underscore.
+    /// A digit of this base, or an underscore.
     Digits(Base),
-    /// What a run of digits goes on with.
+    /// What a number of this base goes on with: digits that may be wrong for the base included.
     Run(Base),
-    /// This character alone.
+    /// Only this character.
     Only(char),
 }
 impl CharSet {
@@ -52,7 +52,7 @@ impl CharSet {
             CharSet::Only(other) => c == other,
         }
     }
-    /// What follows the longest run of its characters at the front.
+    /// The text after the longest run of the set's characters at the beginning.
     #[inline(always)]
     pub fn after(self, s: &str) -> &str {
         match self {
@@ -70,7 +70,7 @@ impl CharSet {
         }
         rest
     }
-    /// Whether the text begins with one of its characters.
+    /// Whether the text begins with a character of the set.
     #[inline(always)]
     pub(crate) fn begins(self, s: &str) -> bool {
         match first(s) {
@@ -79,21 +79,21 @@ impl CharSet {
         }
     }
 }
-/// Whether the character may begin a word. Most characters are ASCII, and need no table.
+/// Whether the character may begin an identifier. ASCII is tested first, without the table.
 #[inline(always)]
 fn is_word_start(c: char) -> bool {
     if c.is_ascii() { c.is_ascii_alphabetic() || c == '_' } else {
         crate::generated::identifiers::is_xid_start(c)
     }
 }
-/// Whether a word may go on with the character.
+/// Whether an identifier may go on with the character.
 #[inline(always)]
 fn is_in_word(c: char) -> bool {
     if c.is_ascii() { c.is_ascii_alphabetic() || c.is_ascii_digit() || c == '_' } else {
         crate::generated::identifiers::is_xid_continue(c)
     }
 }
-/// What follows the longest run of a word's characters at the front.
+/// The text after the longest run of identifier characters at the beginning.
 fn after_word(s: &str) -> &str {
     let mut rest = s;
     while let Some((c, tail)) = first(rest) {
@@ -104,14 +104,14 @@ fn after_word(s: &str) -> &str {
     }
     rest
 }
-/// The first character, and what follows it.
+/// The first character, and the text after it.
 #[inline]
 pub fn first(s: &str) -> Option<(char, &str)> {
     let mut rest = s.chars();
     let c = rest.next()?;
     Some((c, rest.as_str()))
 }
-/// What follows this character, if the text begins with it.
+/// The text after this character, if it begins with it.
 pub fn behind(c: char, s: &str) -> Option<&str> {
     match first(s) {
         Some((d, rest)) => if c == d { Some(rest) } else { None },

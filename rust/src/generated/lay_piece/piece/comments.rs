@@ -1,9 +1,10 @@
 //! Made by scripts/rust.sh from crates/lay_piece/src/piece/comments.rt, which is proved: change that.
 //!
-//! Documentation, and the slash.
+//! Documentation comments, and a slash by itself.
 use crate::generated::lay_piece::kind::Kind;
 use crate::generated::lay_piece::piece::chars::{CharSet, behind, first};
-/// A slash behind which documentation may follow, but no plain comment.
+/// The token that a `/` begins: documentation, or the operator; `None` if it begins a plain
+/// comment. `tail` is the text after the slash.
 pub fn slash(tail: &str) -> Option<(Kind, &str)> {
     match first(tail) {
         Some(('/', rest)) => line_comment(rest),
@@ -11,7 +12,7 @@ pub fn slash(tail: &str) -> Option<(Kind, &str)> {
         _ => Some((Kind::Punct, tail)),
     }
 }
-/// A line of documentation, behind `//`.
+/// A line of documentation; `s` is the text after `//`.
 fn line_comment(s: &str) -> Option<(Kind, &str)> {
     let (c, tail) = first(s)?;
     match c {
@@ -28,7 +29,7 @@ fn line_doc(inner: bool, s: &str) -> Option<(Kind, &str)> {
         Some((Kind::Doc { inner, block: false }, rest))
     }
 }
-/// A block of documentation, behind `/*`.
+/// A block of documentation; `s` is the text after `/*`.
 fn block_comment(s: &str) -> Option<(Kind, &str)> {
     let (c, tail) = first(s)?;
     match c {
@@ -43,7 +44,8 @@ fn block_doc(inner: bool, s: &str) -> Option<(Kind, &str)> {
     let rest = after_doc(s)?;
     Some((Kind::Doc { inner, block: true }, rest))
 }
-/// What follows the end of a block that holds no CR, in which blocks nest.
+/// The text after the end of a block comment, in which blocks nest; `None` if it is never closed or
+/// holds a CR.
 fn after_doc(s: &str) -> Option<&str> {
     let mut inner = 0usize;
     let mut rest = s;

@@ -1,9 +1,9 @@
 //! Made by scripts/rust.sh from crates/lay_piece/src/piece/numbers.rt, which is proved: change that.
 //!
-//! Numbers.
+//! Number literals.
 use crate::generated::lay_piece::kind::Kind;
 use crate::generated::lay_piece::piece::chars::{CharSet, first};
-/// The base of a number.
+/// The base of a number literal.
 #[derive(Clone, Copy, Debug, PartialEq, Eq)]
 pub enum Base {
     Binary,
@@ -12,7 +12,7 @@ pub enum Base {
     Hexadecimal,
 }
 impl Base {
-    /// Whether the character is a digit of the base.
+    /// Whether the character is a digit of this base.
     pub fn has_digit(self, c: char) -> bool {
         match self {
             Base::Binary => '0' <= c && c <= '1',
@@ -27,7 +27,8 @@ impl Base {
             _ => false,
         }
     }
-    /// Whether a run of digits goes on with the character, which needn't be one of the base.
+    /// Whether a run of digits goes on with the character, which may be a digit that this base
+    /// doesn't have.
     pub fn goes_on(self, c: char) -> bool {
         match self {
             Base::Hexadecimal => c.is_ascii_hexdigit() || c == '_',
@@ -35,8 +36,8 @@ impl Base {
         }
     }
 }
-/// A number, of which `s` is the whole text and `c` the first character. Where `index` is true, it is the digits
-/// at the front if no more of a word follows them.
+/// A number literal, or a tuple index; `s` is the whole text. If `index` is true, it is the leading
+/// digits, where no letter follows them.
 pub fn number(index: bool, s: &str) -> Option<(Kind, &str)> {
     if index {
         let rest = CharSet::Digit(Base::Decimal).after(s);
@@ -50,7 +51,7 @@ fn plain_number(s: &str) -> Option<(Kind, &str)> {
     let (base, digits) = split_base(s);
     whole(base, after_run(base, digits)?)
 }
-/// The base of a number, and its digits with what follows them.
+/// The base of a number, and its digits with the text after them.
 fn split_base(s: &str) -> (Base, &str) {
     let tail = match first(s) {
         Some(('0', tail)) => tail,
@@ -65,7 +66,8 @@ fn split_base(s: &str) -> (Base, &str) {
         _ => (Base::Decimal, s),
     }
 }
-/// What follows a run of digits and underscores, if it holds a digit and none outside the base.
+/// The text after a run of digits and underscores; `None` if it has no digit, or one that the base
+/// doesn't have.
 fn after_run(base: Base, s: &str) -> Option<&str> {
     let digits = CharSet::Only('_').after(s);
     if !CharSet::Digit(base).begins(digits) {
@@ -77,7 +79,7 @@ fn after_run(base: Base, s: &str) -> Option<&str> {
     }
     Some(rest)
 }
-/// What stands behind the digits of a number: a point or an exponent makes a decimal one a Float.
+/// The number after its whole part: a point or an exponent makes a decimal number a Float.
 fn whole(base: Base, s: &str) -> Option<(Kind, &str)> {
     match first(s) {
         None => Some((Kind::Int, s)),
@@ -90,7 +92,8 @@ fn whole(base: Base, s: &str) -> Option<(Kind, &str)> {
         }
     }
 }
-/// Whether a character is a point that makes a number a Float: not one of a range, a field or a method.
+/// Whether `c`, before `tail`, is the point of a Float, and not that of a range, a field or a
+/// method call.
 fn is_point(c: char, tail: &str) -> bool {
     if c != '.' {
         return false;
@@ -100,13 +103,13 @@ fn is_point(c: char, tail: &str) -> bool {
         None => true,
     }
 }
-/// What stands behind the point of a Float.
+/// The number after the point of a Float.
 fn point(s: &str) -> Option<(Kind, &str)> {
     if CharSet::Digit(Base::Decimal).begins(s) {
         fraction(CharSet::Digits(Base::Decimal).after(s))
     } else { Some((Kind::Float, s)) }
 }
-/// What stands behind the digits of a fraction.
+/// The number after the digits of its fraction.
 fn fraction(s: &str) -> Option<(Kind, &str)> {
     match first(s) {
         None => suffixed(Kind::Float, s),
@@ -117,13 +120,13 @@ fn fraction(s: &str) -> Option<(Kind, &str)> {
         }
     }
 }
-/// An exponent, behind its letter.
+/// The number after the letter of its exponent.
 fn exponent(s: &str) -> Option<(Kind, &str)> {
     let (c, tail) = first(s)?;
     let digits = if CharSet::Sign.contains(c) { tail } else { s };
     suffixed(Kind::Float, after_run(Base::Decimal, digits)?)
 }
-/// A number that may have a suffix here.
+/// The number with its suffix, if one follows.
 fn suffixed(kind: Kind, s: &str) -> Option<(Kind, &str)> {
     if CharSet::WordStart.begins(s) {
         Some((kind, CharSet::Word.after(s)))

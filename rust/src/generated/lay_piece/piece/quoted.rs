@@ -1,14 +1,14 @@
 //! Made by scripts/rust.sh from crates/lay_piece/src/piece/quoted.rt, which is proved: change that.
 //!
-//! Characters, strings and raw strings, behind their opening.
+//! Character, string and raw string literals, after their opening quote.
 use crate::generated::lay_piece::kind::Kind;
 use crate::generated::lay_piece::piece::chars::{CharSet, behind, first};
-/// What a literal may hold.
+/// What a literal may hold, and which escapes it has.
 #[derive(Clone, Copy, Debug, PartialEq, Eq)]
 pub enum Contents {
     /// Characters.
     Chars,
-    /// Bytes, written in ASCII.
+    /// Bytes, written in ASCII or as escapes.
     Bytes,
     /// Characters and bytes other than NUL.
     CChars,
@@ -53,14 +53,14 @@ impl Contents {
         }
     }
 }
-/// A literal that leaves this rest, with its suffix if one follows.
+/// A literal before `rest`: its kind, and the text after its suffix, if one follows.
 pub fn literal(kind: Kind, rest: &str) -> (Kind, &str) {
     (kind, after_suffix(rest))
 }
 fn after_suffix(s: &str) -> &str {
     if begins_suffix(s) { CharSet::Word.after(s) } else { s }
 }
-/// Whether the text begins with an identifier, which a lone underscore isn't.
+/// Whether the text begins with an identifier that is more than a lone underscore.
 pub fn begins_suffix(s: &str) -> bool {
     match first(s) {
         None => false,
@@ -71,7 +71,7 @@ pub fn begins_suffix(s: &str) -> bool {
         }
     }
 }
-/// What follows a string.
+/// The text after a string literal; `s` follows its opening quote.
 pub fn after_string(of: Contents, s: &str) -> Option<&str> {
     let mut rest = s;
     while let Some((c, tail)) = first(rest) {
@@ -82,7 +82,7 @@ pub fn after_string(of: Contents, s: &str) -> Option<&str> {
     }
     None
 }
-/// What follows a character of a string, which an escape may write.
+/// The text after one character of a string, or after the escape that writes it.
 fn after_string_char(of: Contents, c: char, tail: &str) -> Option<&str> {
     if c != '\\' {
         return if of.is_plain(c) { Some(tail) } else { None };
@@ -92,7 +92,7 @@ fn after_string_char(of: Contents, c: char, tail: &str) -> Option<&str> {
         None => after_escape(of, tail),
     }
 }
-/// What follows a character.
+/// The text after a character literal; `s` follows its opening quote.
 pub fn after_char(of: Contents, s: &str) -> Option<&str> {
     let (c, tail) = first(s)?;
     if c == '\\' {
@@ -101,7 +101,7 @@ pub fn after_char(of: Contents, s: &str) -> Option<&str> {
         behind('\'', tail)
     }
 }
-/// What follows an escape, behind its backslash.
+/// The text after an escape; `s` follows its backslash.
 fn after_escape(of: Contents, s: &str) -> Option<&str> {
     let (c, tail) = first(s)?;
     if of.is_short_escape(c) { Some(tail) } else if c == 'x' {
@@ -110,7 +110,7 @@ fn after_escape(of: Contents, s: &str) -> Option<&str> {
         after_char_value(of, behind('{', tail)?)
     } else { None }
 }
-/// What follows the two digits behind `\x`.
+/// The text after the two digits of `\x`.
 fn after_byte_value(of: Contents, s: &str) -> Option<&str> {
     let (high, tail) = first(s)?;
     let high = hex_value(high)?;
@@ -118,7 +118,7 @@ fn after_byte_value(of: Contents, s: &str) -> Option<&str> {
     let low = hex_value(low)?;
     if of.is_byte_value(16 * high + low) { Some(rest) } else { None }
 }
-/// What follows the digits behind `\u{`, and their brace.
+/// The text after the digits of `\u{` and their closing brace.
 fn after_char_value(of: Contents, s: &str) -> Option<&str> {
     let mut count = 0u32;
     let mut value = 0u32;
@@ -157,7 +157,7 @@ fn hex_value(c: char) -> Option<u32> {
         _ => None,
     }
 }
-/// What follows a raw string, behind its `r`.
+/// The text after a raw string literal; `s` follows its `r`.
 pub fn after_raw(of: Contents, s: &str) -> Option<&str> {
     let (hashes, opened) = hashes(255, s);
     let mut rest = behind('"', opened)?;
@@ -175,7 +175,7 @@ pub fn after_raw(of: Contents, s: &str) -> Option<&str> {
     }
     None
 }
-/// How many `#` stand at the front, up to a number of them, and what follows these.
+/// How many `#` come next, up to `most`, and the text after these.
 fn hashes(most: usize, s: &str) -> (usize, &str) {
     let mut missing = most;
     let mut rest = s;

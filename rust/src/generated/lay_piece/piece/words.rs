@@ -1,6 +1,6 @@
 //! Made by scripts/rust.sh from crates/lay_piece/src/piece/words.rt, which is proved: change that.
 //!
-//! Words, lifetimes, and literals whose prefix is a word.
+//! Identifiers, keywords, lifetimes, and literals with a word as their prefix.
 use crate::generated::lay_piece::kind::Kind;
 use crate::generated::lay_piece::piece::chars::{CharSet, behind, first};
 use crate::generated::lay_piece::piece::quoted::{
@@ -12,7 +12,8 @@ use crate::generated::lay_piece::piece::quoted::{
     literal,
 };
 use crate::generated::lay_piece::word::is_path_word;
-/// A word behind its first character. Before a quote or a `#` it is the prefix of a literal, or no token.
+/// The word that begins with `c`; `tail` is the text after `c`. Before a quote or a `#` the word is
+/// the prefix of a literal, or there is no token.
 #[inline(always)]
 pub fn word(c: char, tail: &str) -> Option<(Kind, &str)> {
     let rest = CharSet::Word.after(tail);
@@ -30,7 +31,7 @@ fn prefixed(c: char, tail: &str) -> Option<(Kind, &str)> {
         _ => None,
     }
 }
-/// A raw string or a raw identifier, behind its `r`.
+/// A raw string or a raw identifier; `s` follows its `r`.
 fn raw_word(s: &str) -> Option<(Kind, &str)> {
     match after_raw(Contents::Chars, s) {
         Some(rest) => Some(literal(Kind::RawStr, rest)),
@@ -42,7 +43,7 @@ fn raw_word(s: &str) -> Option<(Kind, &str)> {
         }
     }
 }
-/// A raw identifier, behind its `r#`.
+/// A raw identifier; `s` follows its `r#`.
 fn raw_name(s: &str) -> Option<(Kind, &str)> {
     if !begins_suffix(s) {
         return None;
@@ -53,11 +54,11 @@ fn raw_name(s: &str) -> Option<(Kind, &str)> {
     }
     Some((Kind::RawIdent, rest))
 }
-/// The bytes of a text before what it ends in.
+/// The bytes of a text before its end `rest`.
 fn before<'a>(s: &'a str, rest: &str) -> &'a [u8] {
     &s.as_bytes()[..s.len() - rest.len()]
 }
-/// A literal of bytes, behind its `b`.
+/// A byte or a byte string literal; `s` follows its `b`.
 fn byte_word(s: &str) -> Option<(Kind, &str)> {
     let (c, tail) = first(s)?;
     match c {
@@ -67,7 +68,7 @@ fn byte_word(s: &str) -> Option<(Kind, &str)> {
         _ => None,
     }
 }
-/// A C string, behind its `c`.
+/// A C string literal; `s` follows its `c`.
 fn c_word(s: &str) -> Option<(Kind, &str)> {
     let (c, tail) = first(s)?;
     match c {
@@ -76,7 +77,7 @@ fn c_word(s: &str) -> Option<(Kind, &str)> {
         _ => None,
     }
 }
-/// A character or a lifetime, behind its quote.
+/// A character or a lifetime; `s` follows its quote.
 pub fn quote(s: &str) -> Option<(Kind, &str)> {
     match after_char(Contents::Chars, s) {
         Some(rest) => Some(literal(Kind::Char, rest)),

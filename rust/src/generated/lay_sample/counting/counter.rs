@@ -4,26 +4,26 @@
 use crate::generated::lay_sample::counting::seen::Seen;
 use crate::generated::lay_sample::counting::tally::Tally;
 use crate::generated::lay_io::{Failed, Sink};
-/// The counts of a text. A line ends at an LF, which is no part of it. Behind the last LF stands one more line, which is
-/// empty where the text ends there.
+/// The counts of a text. A line ends at an LF, which doesn't belong to it. After the last LF there
+/// is one more line, which is empty if the text ends there.
 #[derive(Clone, Copy, Debug, PartialEq, Eq,)]
 pub struct Counts {
     /// How many bytes there are.
     pub bytes: u64,
     /// How many of the bytes are LFs.
     pub lines: u64,
-    /// How many bytes the longest line has.
+    /// The length of the longest line in bytes.
     pub longest: u64,
 }
-/// A sink that counts what is written and keeps none of it. It takes no memory but its own. A write fails where the bytes
-/// would be 2^64 or more. It counts nothing then, and is counted as a fault.
+/// A sink that counts what is written and keeps nothing of it. It allocates nothing. If the count
+/// of bytes would reach 2^64, a write fails; then it counts nothing, and the fault is counted.
 pub struct Counter {
     tally: Tally,
     faults: u64,
     seen: Seen,
 }
 impl Counter {
-    /// Nothing is written yet.
+    /// A counter to which nothing was written.
     pub fn new() -> Counter {
         Counter { tally: Tally::new(), faults: 0, seen: Seen::new() }
     }

@@ -14,17 +14,17 @@ impl Tally {
     pub(crate) fn new() -> Tally {
         Tally { bytes: 0, lines: 0, longest: 0, last: 0 }
     }
-    /// Whether so many more bytes can be counted.
+    /// Whether this many more bytes can be counted.
     pub(crate) fn has_room(&self, bytes: usize) -> bool {
         bytes as u64 <= u64::MAX - self.bytes
     }
-    /// Counts a piece behind the text.
+    /// Counts a piece that follows the text.
     pub(crate) fn add(&mut self, piece: &[u8]) {
         for byte in piece {
             self.push(*byte);
         }
     }
-    /// Counts a byte behind the text.
+    /// Counts a byte that follows the text.
     fn push(&mut self, byte: u8) {
         self.bytes += 1;
         if byte == b'\n' {
