@@ -94,7 +94,7 @@ fields_good [] all = refl
 fields_good (x ∷ xs) all =
     and_from (about_field_expr (node.field_expr x)).good (all_good (map about_field_expr (map node.field_expr xs))) (field_good x all.0) (fields_good xs all.1)
 
--- The deepest field needs one more than the facts about it, and no field nothing.
+-- Fields need one level more than the deepest form in the facts about them, and 1 if there are none.
 fields_depth : (xs : List NamedExpr)
     → max (greatest (map form_of_field xs)) 1 ≡ greatest (forms (map about_field_expr (map node.field_expr xs))) + 1
 fields_depth [] = refl

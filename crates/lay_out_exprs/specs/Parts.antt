@@ -20,7 +20,7 @@ expr_told x = (about_expr x).form
 abbrev pub field_told : FieldExpr → Form
 field_told x = (about_field_expr x).form
 
--- the facts about an operand after its operator, and of a target before its own
+-- the facts about an operand after its operator, and about a target before its own
 abbrev pub behind_op : Op × Expr → Op × ExprFacts
 behind_op x = (x.0, about_expr x.1)
 

@@ -42,7 +42,7 @@ returns_round inputs output = ap (λ (a : ArgsFacts). a.returns) (args_round_is 
 
 -- ---- within a depth
 
--- the facts about a depth that is no zero
+-- a depth that is not 0 as one more than another
 pub above_zero : {X : Type 0} (f : ℕ → X) (n : ℕ) → 0 < n → f n ≡ f (suc (n - 1))
 above_zero f n some = let e : n ≡ suc (n - 1) = omega arith in ap f e
 

@@ -232,7 +232,7 @@ module _ (t : Tail) (no_struct : Bool) (depth : ℕ) where
   node_parts i ts rest (s, inr (inl w, z)) = absurd w.2
   node_parts i ts rest (s, inr (inr w, z)) = (spelled i depth ts rest w.0, inr (w.0, z))
 
--- What may follow what it ends in is told of the whole by the facts about its last part.
+-- If what may follow one end may follow another, what is spelled before the one is spelled before the other.
 pub ended_as : (t u : Tail) (f : Form) (no_struct : Bool) (depth : ℕ) (ts rest : Tokens)
     → (tail_follows t no_struct rest ≡ true → tail_follows u no_struct rest ≡ true) → SpelledBefore t f no_struct depth ts rest
     → SpelledBefore u f no_struct depth ts rest

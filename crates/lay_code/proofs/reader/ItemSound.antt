@@ -92,7 +92,7 @@ pub kind_told : (at : Site) (depth : ℕ) (k : ItemKind) (K : KindFacts) (ts res
 kind_told at depth k K ts rest e s g =
     subst (λ (F : KindFacts). Spells (alone F) depth ts rest × (F.good at ≡ true)) (sym e) (s, g)
 
--- The facts about what may be left out are there where that is.
+-- The facts about an optional part are there exactly if the part is.
 pub some_told : {A B : Type 0} (told : A → B) (x : Option A) → is_some x ≡ is_some (option_map told x)
 some_told told None = refl
 some_told told (Some x) = refl

@@ -29,7 +29,7 @@ use Rattle.lay_depth.proofs.nodes_lemmas.Forms.{behind_attrs_is, both_are, brace
 use Rattle.lay_depth.proofs.nodes_lemmas.Loops.{all_turns}
 use Rattle.lay_depth.proofs.nodes_lemmas.PathLemmas.{style_is}
 
--- the facts about a pattern and of a field, by its kind
+-- the depth of a pattern and of a field of one, from the facts about its kind
 by_kind : {x y : Pat} {facts : PatFacts} → x ≡ y → about_pat y ≡ facts → least_depth (about_pat x).told.form ≡ least_depth facts.told.form
 by_kind is told = ap (λ (z : Pat). least_depth (about_pat z).told.form) is ∙ ap (λ (f : PatFacts). least_depth f.told.form) told
 

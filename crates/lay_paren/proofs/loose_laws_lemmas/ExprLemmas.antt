@@ -140,7 +140,7 @@ arms_alike = nodes_good ArmIs loose_arm (enclose_arm true) about_arm (λ (F : Ar
 
 -- ---- each kind
 
--- the facts about an enclosed expression is the facts about the one with shielded parts
+-- The facts about an enclosed expression are those about the one with shielded parts.
 pub record Alike (told loose : ExprFacts) : Type 0 where
   pub within : (first : Bool) → told.within false first ≡ loose.within false false
   pub block_like : told.block_like ≡ loose.block_like

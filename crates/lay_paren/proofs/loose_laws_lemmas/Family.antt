@@ -22,7 +22,7 @@ use Rattle.lay_paren.proofs.loose_laws_lemmas.Kept.{ArmGood, ArmIs, BlockGood, B
 use Rattle.lay_paren.proofs.loose_laws_lemmas.PartLemmas.{free_placed}
 use Rattle.lay_paren.proofs.loose_laws_lemmas.StepLemmas.{field_step, step_step}
 
--- the facts about a node, encloses it and is left of it without parentheses, where this is so of its layer
+-- From a layer to its node: the facts about it, the enclosed node, and the node without parentheses are those of the layer.
 folded : {L N : Type 0} (Good : L → N → N → Type 0) (l m : L) (a b x y : N) → l ≡ m → a ≡ b → x ≡ y → Good m b y → Good l a x
 folded {L = L} {N = N} Good l m a b x y e f g good =
     subst (λ (k : L). Good k a x) (sym e) (subst (λ (c : N). Good m c x) (sym f) (subst (λ (z : N). Good m b z) (sym g) good))

@@ -1,4 +1,4 @@
--- Branches and the arms of a match pass, given the facts about them, given that what is within them passes.
+-- Branches and the arms of a match pass, given the facts about them and that what is within them passes.
 use Rattle.std.proofs.Common.{◌≡◌, List, [], ◌∷◌, Bool, true, false, not, ◌&&◌, ◌||◌, refl, codes, map, Option, Some, None}
 use Rattle.std.specs.List.{list_all}
 use Rattle.std.proofs.lemmas.Bool.{and_parts}

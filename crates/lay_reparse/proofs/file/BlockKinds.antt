@@ -1,4 +1,4 @@
--- Blocks and statements pass, given the facts about them, given that what is within them passes.
+-- Blocks and statements pass, given the facts about them and that what is within them passes.
 use Rattle.std.proofs.Common.{◌≡◌, List, [], ◌∷◌, ◌++◌, Bool, true, false, not, if◌then◌else◌, ◌&&◌, refl, codes, map, Option, Some, None}
 use Rattle.std.specs.List.{list_all}
 use Rattle.std.proofs.lemmas.Bool.{and_parts, and_from}

@@ -1,4 +1,4 @@
--- Conditions and their links pass, given the facts about them, given that what is within them passes.
+-- Conditions and their links pass, given the facts about them and that what is within them passes.
 use Rattle.std.proofs.Common.{◌≡◌, List, [], ◌∷◌, Bool, true, false, refl}
 use Rattle.std.proofs.lemmas.Bool.{and_parts}
 use Rattle.lay_form.specs.Form as form

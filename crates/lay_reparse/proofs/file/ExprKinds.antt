@@ -1,4 +1,4 @@
--- Expressions pass, kind by kind, given the facts about them, given that the expressions within them pass.
+-- Expressions pass, kind by kind, given the facts about them and that the expressions within them pass.
 use Rattle.std.proofs.Common.{◌≡◌, ℕ, List, [], ◌∷◌, ◌++◌, Bool, true, false, cond, not, ◌&&◌, refl, Option, Some, None, is_some}
 use Rattle.std.specs.List.{list_all}
 use Rattle.std.specs.Str.{chars, is_utf8}

@@ -1,4 +1,4 @@
--- Expressions of operators, steps and jumps pass, kind by kind, given the facts about them, given that their operands pass.
+-- Expressions of operators, steps and jumps pass, kind by kind, given the facts about them and that their operands pass.
 use Rattle.std.proofs.Common.{◌≡◌, ℕ, suc, nat_le, List, [], ◌∷◌, Bool, true, false, not, ◌&&◌, ◌||◌, refl, subst, map, arith, Option, Some, None}
 use Rattle.std.specs.Prelude.{◌==◌}
 use Rattle.std.proofs.lemmas.Bool.{and_parts, le-leb}

@@ -1,4 +1,4 @@
--- Patterns and their fields pass, kind by kind, given the facts about them, given that the patterns within them pass.
+-- Patterns and their fields pass, kind by kind, given the facts about them and that the patterns within them pass.
 use Rattle.std.proofs.Common.{◌≡◌, ℕ, List, [], ◌∷◌, ◌++◌, Bool, true, false, not, ◌&&◌, ◌||◌, refl, codes, map, Option, Some, None, is_some}
 use Rattle.std.specs.List.{list_all}
 use Rattle.std.proofs.lemmas.Bool.{and_parts, and_from}

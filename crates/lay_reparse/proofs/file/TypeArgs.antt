@@ -1,4 +1,4 @@
--- Generic arguments, bounds and paths pass, given the facts about them, given that what is within them passes.
+-- Generic arguments, bounds and paths pass, given the facts about them and that what is within them passes.
 use Rattle.std.proofs.Common.{◌≡◌, ℕ, List, [], ◌∷◌, Bool, true, false, not, ◌&&◌, refl, codes, Option, Some, None}
 use Rattle.std.specs.List.{list_all}
 use Rattle.std.proofs.lemmas.Bool.{and_parts}

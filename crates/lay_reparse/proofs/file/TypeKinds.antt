@@ -1,4 +1,4 @@
--- Types pass, kind by kind, given the facts about them, given that what is within them passes.
+-- Types pass, kind by kind, given the facts about them and that what is within them passes.
 use Rattle.std.proofs.Common.{◌≡◌, List, [], ◌∷◌, ◌++◌, Bool, true, false, not, ◌&&◌, refl, codes, Option, Some, None}
 use Rattle.std.proofs.lemmas.Bool.{and_parts}
 use Rattle.lay_piece.specs.Characters as char
