@@ -24,7 +24,7 @@ pub(crate) fn place_block(alloc: Global, block: &mut Block) -> Result<(), NoMemo
     place_stmts(alloc, &mut block.stmts)
 }
 
-/// Puts them in an optional block.
+/// Puts the missing parentheses in an optional block.
 #[cycle(code)]
 pub(crate) fn place_block_or_none(alloc: Global, block: &mut Option<Block>) -> Result<(), NoMemory>
     ensures { OnOk result (block.new ≡ block_or_none_least block.old) }
@@ -35,7 +35,7 @@ pub(crate) fn place_block_or_none(alloc: Global, block: &mut Option<Block>) -> R
     }
 }
 
-/// Puts them in statements.
+/// Puts the missing parentheses in statements.
 #[cycle(code)]
 #[tactic(auto, using(crate::proofs::Turning::refill))]
 fn place_stmts(alloc: Global, stmts: &mut List<Stmt>) -> Result<(), NoMemory>
@@ -44,7 +44,7 @@ fn place_stmts(alloc: Global, stmts: &mut List<Stmt>) -> Result<(), NoMemory>
     place_each_stmt(alloc, stmts.as_mut_slice())
 }
 
-/// Puts them in each of the statements.
+/// Puts the missing parentheses in each of the statements.
 #[cycle(code)]
 fn place_each_stmt(alloc: Global, stmts: &mut [Stmt]) -> Result<(), NoMemory>
     ensures { OnOk result (stmts.new ≡ map stmt_least stmts.old) }
@@ -55,7 +55,7 @@ fn place_each_stmt(alloc: Global, stmts: &mut [Stmt]) -> Result<(), NoMemory>
     Ok(())
 }
 
-/// Puts them in a statement.
+/// Puts the missing parentheses in a statement.
 #[cycle(code)]
 #[tactic(auto, using(crate::proofs::Becoming::stmt_becomes))]
 fn place_stmt(alloc: Global, stmt: &mut Stmt) -> Result<(), NoMemory>
@@ -75,7 +75,8 @@ fn place_stmt(alloc: Global, stmt: &mut Stmt) -> Result<(), NoMemory>
     }
 }
 
-/// Puts them in the value of a `let`, if it has one; `before_else` says that an `else` follows.
+/// Puts the missing parentheses in the value of a `let`, if it has one; `before_else` says that an
+/// `else` follows.
 #[cycle(code)]
 fn place_value(
     alloc: Global,
@@ -94,9 +95,9 @@ fn place_value(
     }
 }
 
-/// Puts them in a value that stands before an `else`. Its parts are placed as if the value stood in
-/// parentheses. Then the value gets a pair if it can't precede the `else`, which depends on the
-/// parentheses that its parts got.
+/// Puts the missing parentheses in a value that stands before an `else`. Its parts are placed as if
+/// the value stood in parentheses. Then the value gets a pair if it can't precede the `else`, which
+/// depends on the parentheses that its parts got.
 #[cycle(code)]
 #[tactic(auto, using(crate::proofs::Becoming::before_else, crate::proofs::Becoming::not_before_else))]
 fn place_before_else(alloc: Global, value: &mut Expr) -> Result<(), NoMemory>
@@ -109,7 +110,7 @@ fn place_before_else(alloc: Global, value: &mut Expr) -> Result<(), NoMemory>
     enclose(alloc, value)
 }
 
-/// Puts them in branches.
+/// Puts the missing parentheses in branches.
 #[cycle(code)]
 #[tactic(auto, using(crate::proofs::Turning::refill))]
 pub(crate) fn place_branches(alloc: Global, branches: &mut List<Branch>) -> Result<(), NoMemory>
@@ -118,7 +119,7 @@ pub(crate) fn place_branches(alloc: Global, branches: &mut List<Branch>) -> Resu
     place_each_branch(alloc, branches.as_mut_slice())
 }
 
-/// Puts them in each of the branches.
+/// Puts the missing parentheses in each of the branches.
 #[cycle(code)]
 fn place_each_branch(alloc: Global, branches: &mut [Branch]) -> Result<(), NoMemory>
     ensures { OnOk result (branches.new ≡ map branch_least branches.old) }
@@ -129,7 +130,7 @@ fn place_each_branch(alloc: Global, branches: &mut [Branch]) -> Result<(), NoMem
     Ok(())
 }
 
-/// Puts them in a branch.
+/// Puts the missing parentheses in a branch.
 #[cycle(code)]
 #[tactic(auto, using(crate::proofs::Becoming::branch_becomes))]
 fn place_branch(alloc: Global, branch: &mut Branch) -> Result<(), NoMemory>
@@ -139,7 +140,7 @@ fn place_branch(alloc: Global, branch: &mut Branch) -> Result<(), NoMemory>
     place_block(alloc, &mut branch.body)
 }
 
-/// Puts them in the arms of a match.
+/// Puts the missing parentheses in the arms of a match.
 #[cycle(code)]
 #[tactic(auto, using(crate::proofs::Turning::refill))]
 pub(crate) fn place_arms(alloc: Global, arms: &mut List<Arm>) -> Result<(), NoMemory>
@@ -148,7 +149,7 @@ pub(crate) fn place_arms(alloc: Global, arms: &mut List<Arm>) -> Result<(), NoMe
     place_each_arm(alloc, arms.as_mut_slice())
 }
 
-/// Puts them in each of the arms.
+/// Puts the missing parentheses in each of the arms.
 #[cycle(code)]
 fn place_each_arm(alloc: Global, arms: &mut [Arm]) -> Result<(), NoMemory>
     ensures { OnOk result (arms.new ≡ map arm_least arms.old) }
@@ -159,7 +160,7 @@ fn place_each_arm(alloc: Global, arms: &mut [Arm]) -> Result<(), NoMemory>
     Ok(())
 }
 
-/// Puts them in an arm.
+/// Puts the missing parentheses in an arm.
 #[cycle(code)]
 #[tactic(auto, using(crate::proofs::Becoming::arm_becomes))]
 fn place_arm(alloc: Global, arm: &mut Arm) -> Result<(), NoMemory>

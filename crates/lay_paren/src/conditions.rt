@@ -19,7 +19,7 @@ pub(crate) fn place_condition(alloc: Global, condition: &mut Condition) -> Resul
     place_links(alloc, &mut condition.links)
 }
 
-/// Puts them in links.
+/// Puts the missing parentheses in links.
 #[cycle(code)]
 #[tactic(auto, using(crate::proofs::Turning::refill))]
 fn place_links(alloc: Global, links: &mut List<Link>) -> Result<(), NoMemory>
@@ -28,7 +28,7 @@ fn place_links(alloc: Global, links: &mut List<Link>) -> Result<(), NoMemory>
     place_each_link(alloc, links.as_mut_slice())
 }
 
-/// Puts them in each of the links.
+/// Puts the missing parentheses in each of the links.
 #[cycle(code)]
 fn place_each_link(alloc: Global, links: &mut [Link]) -> Result<(), NoMemory>
     ensures { OnOk result (links.new ≡ links_least links.old) }
@@ -41,8 +41,8 @@ fn place_each_link(alloc: Global, links: &mut [Link]) -> Result<(), NoMemory>
     Ok(())
 }
 
-/// Puts them in a link; `alone` says that it is the whole condition, `more` that another link
-/// follows.
+/// Puts the missing parentheses in a link; `alone` says that it is the whole condition, `more` that
+/// another link follows.
 #[cycle(code)]
 #[tactic(auto, using(crate::proofs::Becoming::link_becomes))]
 fn place_link(alloc: Global, link: &mut Link, alone: bool, more: bool) -> Result<(), NoMemory>
@@ -58,7 +58,8 @@ fn place_link(alloc: Global, link: &mut Link, alone: bool, more: bool) -> Result
     }
 }
 
-/// The place of a link that is an expression; `alone` and `more` as above.
+/// The place of a link that is an expression; `alone` says that it is the whole condition, `more`
+/// that another link follows.
 fn whole_place(alone: bool, more: bool) -> Place
     ensures { result ≡ (if alone then places.plain 0 true else places.link_place more) }
 {

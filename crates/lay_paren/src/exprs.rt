@@ -173,7 +173,7 @@ fn place_exprs(alloc: Global, exprs: &mut List<Expr>) -> Result<(), NoMemory>
     place_each_expr(alloc, exprs.as_mut_slice())
 }
 
-/// Puts them in each of the expressions.
+/// Puts the missing parentheses in each of the expressions.
 #[cycle(code)]
 fn place_each_expr(alloc: Global, exprs: &mut [Expr]) -> Result<(), NoMemory>
     ensures { OnOk result (exprs.new ≡ exprs_least exprs.old) }
@@ -184,7 +184,7 @@ fn place_each_expr(alloc: Global, exprs: &mut [Expr]) -> Result<(), NoMemory>
     Ok(())
 }
 
-/// Puts them in an optional operand.
+/// Puts the missing parentheses in an optional operand.
 #[cycle(code)]
 pub(crate) fn place_operand(
     alloc: Global,
@@ -200,7 +200,8 @@ pub(crate) fn place_operand(
     }
 }
 
-/// Puts them in the operands of a chain after the first; `level` is that of its operators.
+/// Puts the missing parentheses in the operands of a chain after the first; `level` is that of its
+/// operators.
 #[cycle(code)]
 #[tactic(auto, using(crate::proofs::Turning::refill))]
 fn place_operands(
@@ -215,7 +216,7 @@ fn place_operands(
     place_each_operand(alloc, operands.as_mut_slice(), level, place)
 }
 
-/// Puts them in each of the operands.
+/// Puts the missing parentheses in each of the operands.
 #[cycle(code)]
 fn place_each_operand(
     alloc: Global,
@@ -240,7 +241,7 @@ fn place_each_operand(
     Ok(())
 }
 
-/// Puts them in the targets of an assignment.
+/// Puts the missing parentheses in the targets of an assignment.
 #[cycle(code)]
 #[tactic(auto, using(crate::proofs::Turning::refill))]
 fn place_targets(
@@ -253,7 +254,7 @@ fn place_targets(
     place_each_target(alloc, targets.as_mut_slice(), place)
 }
 
-/// Puts them in each of the targets.
+/// Puts the missing parentheses in each of the targets.
 #[cycle(code)]
 fn place_each_target(
     alloc: Global,
@@ -271,7 +272,7 @@ fn place_each_target(
     Ok(())
 }
 
-/// Puts them in the fields of a struct literal.
+/// Puts the missing parentheses in the fields of a struct literal.
 #[cycle(code)]
 #[tactic(auto, using(crate::proofs::Turning::refill))]
 fn place_fields(alloc: Global, fields: &mut List<FieldExpr>) -> Result<(), NoMemory>
@@ -280,7 +281,7 @@ fn place_fields(alloc: Global, fields: &mut List<FieldExpr>) -> Result<(), NoMem
     place_each_field(alloc, fields.as_mut_slice())
 }
 
-/// Puts them in each of the fields.
+/// Puts the missing parentheses in each of the fields.
 #[cycle(code)]
 fn place_each_field(alloc: Global, fields: &mut [FieldExpr]) -> Result<(), NoMemory>
     ensures { OnOk result (fields.new ≡ map field_least fields.old) }
@@ -291,7 +292,7 @@ fn place_each_field(alloc: Global, fields: &mut [FieldExpr]) -> Result<(), NoMem
     Ok(())
 }
 
-/// Puts them in a field of a struct literal.
+/// Puts the missing parentheses in a field of a struct literal.
 #[cycle(code)]
 #[tactic(auto, using(crate::proofs::Becoming::field_becomes, crate::proofs::Becoming::short_stays))]
 fn place_field(alloc: Global, field: &mut FieldExpr) -> Result<(), NoMemory>
@@ -304,7 +305,7 @@ fn place_field(alloc: Global, field: &mut FieldExpr) -> Result<(), NoMemory>
     }
 }
 
-/// Puts them in the base of a struct literal, if it has one.
+/// Puts the missing parentheses in the base of a struct literal, if it has one.
 #[cycle(code)]
 fn place_base(alloc: Global, base: &mut Option<Option<Boxed<Expr>>>) -> Result<(), NoMemory>
     ensures { OnOk result (base.new ≡ base_least base.old) }
@@ -315,7 +316,7 @@ fn place_base(alloc: Global, base: &mut Option<Option<Boxed<Expr>>>) -> Result<(
     }
 }
 
-/// Puts them in postfix steps.
+/// Puts the missing parentheses in postfix steps.
 #[cycle(code)]
 #[tactic(auto, using(crate::proofs::Turning::refill))]
 fn place_steps(alloc: Global, steps: &mut List<Step>) -> Result<(), NoMemory>
@@ -324,7 +325,7 @@ fn place_steps(alloc: Global, steps: &mut List<Step>) -> Result<(), NoMemory>
     place_each_step(alloc, steps.as_mut_slice())
 }
 
-/// Puts them in each of the steps.
+/// Puts the missing parentheses in each of the steps.
 #[cycle(code)]
 fn place_each_step(alloc: Global, steps: &mut [Step]) -> Result<(), NoMemory>
     ensures { OnOk result (steps.new ≡ map step_least steps.old) }
@@ -335,7 +336,7 @@ fn place_each_step(alloc: Global, steps: &mut [Step]) -> Result<(), NoMemory>
     Ok(())
 }
 
-/// Puts them in a postfix step.
+/// Puts the missing parentheses in a postfix step.
 #[cycle(code)]
 #[tactic(auto, using(crate::proofs::Becoming::step_becomes, crate::proofs::Becoming::name_stays, crate::proofs::Becoming::index_stays))]
 fn place_step(alloc: Global, step: &mut Step) -> Result<(), NoMemory>

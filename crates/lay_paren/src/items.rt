@@ -19,7 +19,7 @@ pub(crate) fn place_item(alloc: Global, item: &mut Item) -> Result<(), NoMemory>
     place_kind(alloc, item.kind.get_mut())
 }
 
-/// Puts them in items.
+/// Puts the missing parentheses in items.
 #[cycle(code)]
 #[tactic(auto, using(crate::proofs::Turning::refill))]
 fn place_items(alloc: Global, items: &mut List<Item>) -> Result<(), NoMemory>
@@ -28,7 +28,7 @@ fn place_items(alloc: Global, items: &mut List<Item>) -> Result<(), NoMemory>
     place_each_item(alloc, items.as_mut_slice())
 }
 
-/// Puts them in each of the items.
+/// Puts the missing parentheses in each of the items.
 #[cycle(code)]
 fn place_each_item(alloc: Global, items: &mut [Item]) -> Result<(), NoMemory>
     ensures { OnOk result (items.new ≡ map item_least items.old) }
@@ -39,7 +39,7 @@ fn place_each_item(alloc: Global, items: &mut [Item]) -> Result<(), NoMemory>
     Ok(())
 }
 
-/// Puts them in what an item is.
+/// Puts the missing parentheses in what an item is.
 #[cycle(code)]
 #[tactic(auto, using(crate::proofs::Becoming::kind_becomes))]
 fn place_kind(alloc: Global, kind: &mut ItemKind) -> Result<(), NoMemory>
