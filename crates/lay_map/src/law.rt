@@ -26,8 +26,8 @@ pub fn found_law()
         → units_of (fed_all (stream_of f) (begun ts false)) ≡ map place_of (units f depth ts [] s) }
 {}
 
-/// Two lists of tokens that spell the same file have equally many units, which say the same. If one
-/// list spells a file in two ways, its units are at the same places.
+/// Two lists of tokens that spell the same file have equally many units, and these have the same
+/// content in order. If one list spells a file in two ways, its units are at the same places.
 pub fn map_law()
     ensures said { (file : File) (ts us : List Token) → AreLexed ts → AreLexed us
         → (s : Spells (form_of_file file) top ts []) → (z : Spells (form_of_file file) top us [])

@@ -46,7 +46,7 @@ pub(crate) struct Marking<'a> {
     within: Within,
     /// Whether the `=>` of an arm was fed in the open group.
     arrow: bool,
-    /// The same flag for each group around it.
+    /// For each group around it, whether the `=>` of an arm was fed in that group.
     outer: Flags,
 }
 
@@ -187,7 +187,7 @@ impl<'a> Marking<'a> {
         }
     }
 
-    /// Takes a text that isn't documentation.
+    /// Takes a text that begins no documentation.
     fn read_code(&mut self, text: &[u8]) -> Result<(), NoMemory>
         ensures { OnOk result (self.new ≡ read_code text.now self.old) }
     {
@@ -204,7 +204,7 @@ impl<'a> Marking<'a> {
         Ok(())
     }
 
-    /// The beginning of documentation.
+    /// Takes a text that begins documentation.
     fn document(&mut self, opening: Opening) -> Result<(), NoMemory>
         ensures { OnOk result (self.new ≡ documented opening self.old) }
     {
@@ -277,7 +277,7 @@ fn is_free(token: Break, arrow: bool) -> bool
     token.blank == 65535 && (token.offset < 0 || arrow)
 }
 
-/// The documentation that a text begins, if it begins any.
+/// The kind of documentation comment that the text opens; `None` if it is no such opening mark.
 fn opening_of(text: &[u8]) -> Option<Opening>
     ensures { result ≡ opening_of text.now }
 {

@@ -27,7 +27,7 @@ use lay_out_types::calls::{add_either, add_if, add_text};
 use lay_paren_defs::{AsIs, Enclose};
 use lay_stream::Emit;
 
-/// Emits the layout of a block, whose braces have a leading blank or not.
+/// Emits the layout of a block. `lead` says that its braces have a leading blank.
 pub fn put_block<E: Emit>(out: &mut E, block: &Block, lead: bool) -> Result<(), E::Fault>
     ensures { Did E.meanings out.old (stream_of ((about_block block.now).form lead)) result
         out.new }
@@ -35,7 +35,8 @@ pub fn put_block<E: Emit>(out: &mut E, block: &Block, lead: bool) -> Result<(), 
     add_block::<E, AsIs>(out, Ok(()), lead, block)
 }
 
-/// Emits a block, with each statement on a line of its own. The braces have a leading blank or not.
+/// Emits a block, with each statement on a line of its own. `lead` says that its braces have a
+/// leading blank.
 #[cycle(code)]
 pub fn add_block<E: Emit, X: Enclose>(
     out: &mut E,
@@ -57,7 +58,7 @@ pub fn add_block<E: Emit, X: Enclose>(
     close_body(out, stmts)
 }
 
-/// Emits a block that may stand on one line if it is a single expression.
+/// Emits a block, which may stand on one line if it is a single expression.
 #[cycle(code)]
 pub fn add_soft<E: Emit, X: Enclose>(
     out: &mut E,

@@ -156,7 +156,7 @@ fn add_arm<E: Emit, X: Enclose>(
     close_arm(out, inner, braces)
 }
 
-/// Emits the guard of an arm, if it has one, after its `if`.
+/// Emits an `if` and the guard of an arm, if it has one.
 #[cycle(code)]
 fn add_guard<E: Emit, X: Enclose>(
     out: &mut E,

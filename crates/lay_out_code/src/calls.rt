@@ -13,7 +13,7 @@ use lay_out_heads::{put_alias, put_enum, put_extern_crate, put_struct, put_union
 use lay_out_tokens::{put_bare_attr, put_group};
 use lay_stream::Emit;
 
-/// Emits an attribute.
+/// Emits an attribute, and nothing after it.
 pub fn add_bare_attr<E: Emit>(
     out: &mut E,
     before: Result<(), E::Fault>,

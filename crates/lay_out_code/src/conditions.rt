@@ -16,7 +16,7 @@ use lay_out_types::lists::{add_begin, add_end};
 use lay_paren_defs::Enclose;
 use lay_stream::Emit;
 
-/// Emits a condition after its word, in a group of its own.
+/// Emits the word before a condition, and the condition, in a group of their own.
 #[cycle(code)]
 pub fn add_condition<E: Emit, X: Enclose>(
     out: &mut E,

@@ -29,7 +29,7 @@ pub trait Head {
         ensures { Adds E.meanings before out.old (stream_of (form self.now)) result out.new };
 }
 
-/// Emits a head, after its visibility.
+/// Emits a visibility and a head, in a group of their own.
 pub fn add_head<E: Emit, H: Head>(
     out: &mut E,
     before: Result<(), E::Fault>,
@@ -43,7 +43,7 @@ pub fn add_head<E: Emit, H: Head>(
     add_end(out, head)
 }
 
-/// Emits a head, and a `;`.
+/// Emits a visibility, a head, and a `;`.
 pub fn add_ended<E: Emit, H: Head>(
     out: &mut E,
     before: Result<(), E::Fault>,
@@ -57,7 +57,7 @@ pub fn add_ended<E: Emit, H: Head>(
     add_text(out, head, b";")
 }
 
-/// Emits a head, a where clause, and a `;`.
+/// Emits a visibility, a head, a where clause, and a `;`.
 pub fn add_ended_clause<E: Emit, H: Head>(
     out: &mut E,
     before: Result<(), E::Fault>,
@@ -73,7 +73,7 @@ pub fn add_ended_clause<E: Emit, H: Head>(
     add_semicolon(out, head, wheres)
 }
 
-/// Emits a head, and a where clause before a body.
+/// Emits a visibility, a head, and a where clause before a body.
 pub fn add_clause<E: Emit, H: Head>(
     out: &mut E,
     before: Result<(), E::Fault>,

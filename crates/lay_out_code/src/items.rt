@@ -168,8 +168,8 @@ fn add_valued<E: Emit, X: Enclose>(
     add_text(out, whole, b";")
 }
 
-/// Emits inner attributes and items in braces, each on a line of its own. The braces have a leading
-/// blank or not.
+/// Emits inner attributes and items in braces, each on a line of its own. `lead` says that the
+/// braces have a leading blank.
 #[cycle(code)]
 fn add_body<E: Emit, X: Enclose>(
     out: &mut E,

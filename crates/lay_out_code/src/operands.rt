@@ -23,7 +23,7 @@ use lay_out_types::lists::{add_close, add_lead};
 use lay_paren_defs::Enclose;
 use lay_stream::Emit;
 
-/// Emits the fields of a struct literal, after its `{`.
+/// Emits the `{` of a struct literal and its fields; nothing if it has no fields.
 #[cycle(code)]
 pub fn add_fields<E: Emit, X: Enclose>(
     out: &mut E,
@@ -41,7 +41,8 @@ pub fn add_fields<E: Emit, X: Enclose>(
     done
 }
 
-/// Emits the `..` after the fields of a struct literal, and its base, if it has one.
+/// Emits the `..` of a struct literal and its base, if it has one. Before them stands the `{` if
+/// `first`, which says that there are no fields, else a comma.
 #[cycle(code)]
 pub fn add_base<E: Emit, X: Enclose>(
     out: &mut E,
@@ -58,7 +59,7 @@ pub fn add_base<E: Emit, X: Enclose>(
     add_optional::<E, X>(out, dots, true, base)
 }
 
-/// Emits a field of a struct literal, after its attributes.
+/// Emits a field of a struct literal, with its attributes.
 #[cycle(code)]
 fn add_field<E: Emit, X: Enclose>(
     out: &mut E,
@@ -92,7 +93,7 @@ fn add_field<E: Emit, X: Enclose>(
     }
 }
 
-/// Emits the operands after the first one, each after its operator.
+/// Emits the operands of a chain after the first one, each with its operator before it.
 #[cycle(code)]
 pub fn add_operands<E: Emit, X: Enclose>(
     out: &mut E,
@@ -110,7 +111,7 @@ pub fn add_operands<E: Emit, X: Enclose>(
     done
 }
 
-/// Emits the targets of an assignment, each before its operator.
+/// Emits the targets of an assignment, each with its operator after it.
 #[cycle(code)]
 pub fn add_targets<E: Emit, X: Enclose>(
     out: &mut E,

@@ -47,7 +47,7 @@ fn add_params<E: Emit>(
     add_close(out, done, true, params.is_empty(), b"||", b"|")
 }
 
-/// Emits a parameter, after its attributes.
+/// Emits a parameter, with its attributes.
 fn add_param<E: Emit>(
     out: &mut E,
     before: Result<(), E::Fault>,

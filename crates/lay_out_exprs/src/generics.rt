@@ -10,7 +10,7 @@ use lay_out_types::calls::add_text;
 use lay_stream::Emit;
 use lay_text::List;
 
-/// Emits the generic arguments of a method after `::`, if it has some.
+/// Emits `::` and the generic arguments of a method, if it has some.
 pub fn add_generics<E: Emit>(
     out: &mut E,
     before: Result<(), E::Fault>,

@@ -81,7 +81,7 @@ fn prefix_text(prefix: Prefix) -> &'static [u8]
     }
 }
 
-/// Emits the types of a cast, each after its `as`.
+/// Emits the types of a cast, each with an `as` before it.
 pub fn add_casts<E: Emit>(
     out: &mut E,
     before: Result<(), E::Fault>,

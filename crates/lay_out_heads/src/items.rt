@@ -107,7 +107,7 @@ fn add_body<E: Emit, P: Part>(
     add_braces(out, clause, parts, leads(wheres))
 }
 
-/// Whether braces after a where clause have a leading blank.
+/// Whether the braces after this where clause have a leading blank: if it has no predicates.
 pub fn leads(wheres: &Wheres) -> bool
     ensures { result ≡ leads wheres.now }
 {

@@ -185,7 +185,7 @@ fn add_fields<E: Emit>(
     add_closing_brace(out, done, true, fields.is_empty())
 }
 
-/// Emits a field, after its attributes.
+/// Emits a field of a struct pattern, with its attributes.
 #[cycle(add_pat)]
 fn add_field<E: Emit>(
     out: &mut E,
@@ -244,7 +244,7 @@ fn add_attr_line<E: Emit>(
     out.brk(HARD_BREAK)
 }
 
-/// Emits a literal, or a number after its `-`.
+/// Emits a literal, or a negative number with its `-`.
 fn add_value<E: Emit>(
     out: &mut E,
     before: Result<(), E::Fault>,

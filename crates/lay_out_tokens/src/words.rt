@@ -11,7 +11,7 @@ ghost use Rattle.lay_node.specs.Words.{leaf_of};
 use lay_stream::Emit;
 use lay_token::{DocForm, Kind, Text, doc_form};
 
-/// Emits a word or a name, after the `r#` of a raw one.
+/// Emits a word or a name; a raw one with its `r#`.
 pub fn put_word<E: Emit>(out: &mut E, raw: bool, text: &Text) -> Result<(), E::Fault>
     ensures { Did E.meanings out.old (stream_of (leaf_of raw text.now Done)) result out.new }
 {

@@ -38,7 +38,7 @@ pub fn add_lead<E: Emit>(
     put_comma(out)
 }
 
-/// Emits the comma between two elements.
+/// Emits the comma between two elements, and the break after it.
 fn put_comma<E: Emit>(out: &mut E) -> Result<(), E::Fault>
     ensures { Did E.meanings out.old comma_between result out.new }
 {

@@ -15,7 +15,7 @@ pub trait BlockHeads {
     /// The depth limit of what the expressions contain.
     ghost depth: { Self → ℕ };
 
-    /// What has to hold for it to read.
+    /// What has to hold of the reader before it is called.
     ghost are_ready: { Self → Type 0 };
 
     /// Parses such an expression by its first token, unless it is nested too deep.

@@ -209,7 +209,7 @@ impl<
         })
     }
 
-    /// Parses a link.
+    /// Parses a link of a condition, if it may end before the tokens that follow.
     #[tactic(auto, unfolding(lay_code::specs::reader::Conditions::one_link))]
     #[inline(never)]
     fn one_link(&self, at: &mut Ahead<'_>) -> Result<Found<(Option<Pat>, Boxed<Expr>)>, ReadNone>

@@ -18,7 +18,7 @@ use lay_read_tokens::{Ahead, Found, ReadNone};
 use lay_token::{Delim, List};
 use std::alloc::Global;
 
-/// The rest of an array `[a; n]` after its `;`.
+/// Parses the rest of an array `[a; n]` after its `;`.
 fn repeat_by(
     alloc: Global,
     at: &mut Ahead<'_>,

@@ -90,7 +90,8 @@ impl Level {
         )
     }
 
-    /// A where clause, and whether its last part is spelled.
+    /// Parses a where clause, if one comes next. The flag says that its last predicate has a comma,
+    /// or that it is a `where` without predicates.
     #[tactic(auto, unfolding(lay_node::specs::reader::Where::wheres))]
     pub fn wheres(&self, at: &mut Ahead<'_>) -> Result<Found<(Wheres, bool)>, ReadNone>
         ensures read { IsFound (reader.wheres (within self.now.depth) at.old) result at.new }

@@ -249,7 +249,7 @@ pub fn read_captures(alloc: Global, at: &mut Ahead<'_>) -> Result<List<Capture>,
     read_captured(alloc, at)
 }
 
-/// The next token as a literal, if `passes`.
+/// Parses the next token as a literal, if `passes`.
 pub fn read_literal(alloc: Global, at: &mut Ahead<'_>, passes: bool) -> Result<Literal, ReadNone>
     ensures { IsGot (literal_if passes at.old) result at.new }
 {

@@ -92,7 +92,7 @@ fn attr_ahead(alloc: Global, at: &mut Ahead<'_>, inner: bool) -> Result<Attr, Re
     }
 }
 
-/// Whether documentation comes next.
+/// Whether a documentation comment comes next: an inner one if `inner`, else an outer one.
 fn is_at_doc(at: &Ahead<'_>, inner: bool) -> bool
     ensures { result ≡ first (reader.is_doc inner) at.now }
 {
@@ -134,7 +134,8 @@ fn read_meta(alloc: Global, at: &mut Ahead<'_>, inner: bool) -> Result<Attr, Rea
     read_meta_input(alloc, at, inner, path)
 }
 
-/// Passes `#[`, or `#![` of an inner attribute.
+/// Moves past `#[`, or the `#![` of an inner attribute, if it comes next, and says whether it did.
+/// If it didn't, the cursor may be anywhere.
 fn takes_opening(at: &mut Ahead<'_>, inner: bool) -> bool
     ensures { (if result then Some at.new else None) ≡ reader.behind_opening inner at.old }
 {
@@ -284,7 +285,7 @@ fn front_doc(alloc: Global, at: &Ahead<'_>, inner: bool) -> Result<Option<Text>,
     }
 }
 
-/// The text of the documentation whose value is the token.
+/// The value of this string literal as the text of documentation; `None` if it can't be one.
 fn doc_text(alloc: Global, token: &Token, inner: bool) -> Result<Option<Text>, ReadNone>
     requires { IsString token.now }
     ensures { IsMade (doc_text inner (value_of token.now.kind (chars token.now.text))) result }

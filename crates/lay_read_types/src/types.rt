@@ -243,7 +243,7 @@ impl<
         })
     }
 
-    /// What follows `impl` or `dyn`.
+    /// Parses the bounds of a type after its `impl` or `dyn`.
     #[tactic(auto, unfolding(lay_node::specs::reader::Types::bounds_type))]
     fn bounds_type(
         &self,
@@ -268,7 +268,7 @@ impl<
         })
     }
 
-    /// A macro call, or a path.
+    /// Parses a macro call or a path.
     #[inline(never)]
     fn path_or_call(&self, at: &mut Ahead<'_>) -> Result<Found<Ty>, ReadNone>
         requires deeper { AreDeeper self.now.depth (F.pre self.now.types) (F.post self.now.types)
@@ -287,7 +287,7 @@ impl<
         self.path_type(at)
     }
 
-    /// A path.
+    /// Parses a type that is a path, if no `!` follows it.
     #[tactic(auto, unfolding(lay_node::specs::reader::Types::path_type))]
     fn path_type(&self, at: &mut Ahead<'_>) -> Result<Found<Ty>, ReadNone>
         requires deeper { AreDeeper self.now.depth (F.pre self.now.types) (F.post self.now.types)
@@ -306,7 +306,7 @@ impl<
         })
     }
 
-    /// A parameter of a function type.
+    /// Parses a parameter of a function type.
     #[tactic(auto, unfolding(lay_node::specs::reader::Types::func_param))]
     fn func_param(&self, at: &mut Ahead<'_>, _place: ()) -> Result<Found<FuncParam>, ReadNone>
         requires { AreDeeper self.now.depth (F.pre self.now.types) (F.post self.now.types)
@@ -327,7 +327,8 @@ impl<
         })
     }
 
-    /// Parameters of a function type as long as one begins.
+    /// Parses parameters of a function type as long as one begins. The flag says that a comma
+    /// follows the last one, or that there is none.
     #[tactic(auto, using(crate::proofs::Left::param_leaves))]
     fn open_params(&self, at: &mut Ahead<'_>) -> Result<Found<(List<FuncParam>, bool)>, ReadNone>
         requires { AreDeeper self.now.depth (F.pre self.now.types) (F.post self.now.types)
@@ -348,7 +349,8 @@ impl<
         )
     }
 
-    /// The parameters of a function type, and whether `...` stands after them.
+    /// Parses the parameters of a function type in parentheses. The flag says that a `...` follows
+    /// them.
     #[tactic(auto, unfolding(lay_node::specs::reader::Types::func_params))]
     fn func_params(&self, at: &mut Ahead<'_>) -> Result<Found<(List<FuncParam>, bool)>, ReadNone>
         requires { AreDeeper self.now.depth (F.pre self.now.types) (F.post self.now.types)
@@ -372,7 +374,7 @@ impl<
         }
     }
 
-    /// A function type.
+    /// Parses a function type.
     #[tactic(auto, unfolding(lay_node::specs::reader::Types::func_type))]
     #[inline(never)]
     fn func_type(&self, at: &mut Ahead<'_>) -> Result<Found<Ty>, ReadNone>
