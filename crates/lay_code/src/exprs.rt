@@ -12,7 +12,7 @@ use crate::operators::{Op, Prefix};
 use lay_node::{Arg, Attr, Boxed, Lifetime, Literal, MacroCall, Name, Pat, Path, Tokens, Ty};
 use lay_token::{List, Text};
 
-/// Whether an expression begins a statement or the body of an arm, and how much of it it is.
+/// Whether an expression begins a statement or the body of an arm, and whether it is the whole.
 #[derive(Clone, Copy)]
 pub enum Start {
     /// It begins neither, as `b` in `a + b;`.

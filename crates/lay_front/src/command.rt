@@ -102,11 +102,11 @@ pub fn run<I: Inputs, K: Sink, E: Sink>(
         → CheckRun I.left I.faults which inputs.old inputs.new result }
     ensures unwritten { (which : Which) → line_of words.now ≡ line.Check which → out.new ≡ out.old }
 
-    // The same if an input is mapped.
+    // The cause of each status, and what it leaves, if an input is mapped.
     ensures map { (which : Which) → line_of words.now ≡ line.Map which
         → MapRun K.written K.faults I.left I.faults which inputs.old inputs.new out.old out.new result }
 
-    // The same if a sample is summed up. No input is touched.
+    // The cause of each status, and what it leaves, if a sample is summed up. No input is touched.
     ensures sample { (seed items : ℕ) → line_of words.now ≡ line.Sample seed items
         → (inputs.new ≡ inputs.old) × SampleRun K.written K.faults items (sample_text seed items) out.old out.new result }
 

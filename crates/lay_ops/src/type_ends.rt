@@ -113,7 +113,8 @@ pub fn path_lacks_args(path: &Path) -> bool
     }
 }
 
-/// The same question for the generic arguments of the last segment of such a path.
+/// Whether `<` after these generic arguments, those of the last segment of a path in an expression,
+/// would open generic arguments of a type that they end in.
 #[tactic(auto, using(crate::proofs::TypeEnds::code_args))]
 fn code_args_lack(args: &Args) -> bool
     ensures { result ≡ lacks_args (about_args args.now).code.refuses }

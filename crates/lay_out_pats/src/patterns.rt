@@ -419,7 +419,7 @@ pub fn add_closing_brace<E: Emit>(
     out.text(b"}")
 }
 
-/// The break after the last field.
+/// The break after the last field; `may` says that a comma may stand before it.
 fn closing_break(may: bool) -> Break
     ensures { result ≡ closing_break may }
 {

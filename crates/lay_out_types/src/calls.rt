@@ -115,8 +115,8 @@ pub fn add_braces<E: Emit>(
     put_enclosed(out, Delim::Brace, tokens)
 }
 
-/// Emits an attribute within other parts. After an outer one stands a blank, or a newline if it is a
-/// line comment.
+/// Emits an attribute within other parts. After an outer one stands a blank, or a newline if it is
+/// a line comment.
 pub(crate) fn add_attr<E: Emit>(
     out: &mut E,
     before: Result<(), E::Fault>,

@@ -109,7 +109,7 @@ impl<
         self.item_stmt(at)
     }
 
-    /// Parses an item, which is no macro call.
+    /// Parses an item that is no macro call.
     #[inline(never)]
     fn item_stmt(&self, at: &mut Ahead<'_>) -> Result<Found<Stmt>, ReadNone>
         requires { AreCode self.now.depth (P.pre self.now.exprs) (P.post self.now.exprs)

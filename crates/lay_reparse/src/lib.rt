@@ -1,40 +1,45 @@
 //! Every text that a layout can give parses back to the same tree. No code runs here: each function
 //! is a theorem, which its contract states.
 //!
-//! A layout gives one text for each choice of its breaks and groups. [`reparse_law`] says that whatever is chosen, the
-//! text of a file's layout reads to that file; with [`unique_law`], formatting again changes nothing. The argument,
-//! and the folder of `proofs/` that holds each part of it:
+//! A layout gives one text for each choice of its breaks and groups. [`reparse_law`] says that
+//! whatever is chosen, the text of a file's layout reads to that file; with [`unique_law`],
+//! formatting again changes nothing. The argument, and the folder of `proofs/` that holds each part
+//! of it:
 //!
-//! - **Characters and bytes** (`texts`: `Characters`, `Laid`, `CleanPieces`, `DocTexts`, `LaidTokens`). A text is
-//!   laid out in bytes and lexed by characters. What is laid out of a token is a piece of its kind again, and holds
-//!   no CR, so folding line ends leaves a layout's text as it is.
-//! - **Borders and moves** (`borders`: `Need`, `OperatorRuns`, `Border`, `Move`). Whether two pieces stay two tokens
-//!   is decided where they meet. A border, after a piece, says what it needs of all that may follow: that no letter
-//!   makes a word longer, no character an operator, that a line ends. A piece, a blank, a newline is a move from
-//!   border to border: it knows which characters it adds, and that they lex to the tokens of its part, whatever meets
-//!   the border.
-//! - **A condition that computes** (`forms`: `Opened`, `Passes`, `Walk`, `Texts`, `Breaks`, `Bodies`, `Sound`,
-//!   `Balance`). `Passes` says that a form leads from one border to another: each piece of it meets what the border
-//!   before it needs, and no delimiter stays open. It speaks of the form alone, of no width and no frame. Texts,
-//!   breaks and bodies are moves, so by one induction over all signs of the notation (`Sound`) a form that passes is
-//!   one, in every frame; and the tokens that spell it are balanced (`Balance`).
-//! - **A line for each part** (`forms/Rules`, `file/Nodes`). Lists, bodies, fields and braces pass where their parts
-//!   do. So each node is shown to pass in about a line for each of its parts, and a new node costs no more. Types pass
-//!   by one induction over their family (`file/TypeParts`, `TypeArgs`, `TypeKinds`, `Types`), and generic parameters and
-//!   where clauses by that (`file/Generics`). Patterns pass by an induction of their own (`file/PatternParts`,
-//!   `PatternKinds`, `Patterns`). Visibilities, fields, variants, and the heads of functions and of items pass by all
-//!   of these (`forms/Vis`, `Fields`, `Functions`, `Heads`). So do items, by one induction, at each site where they
-//!   are good (`file/ItemHeads`, `Items`).
-//! - **Files** (`file`: `FirstText`, `forms/HeadsFirst`, `file/FirstItems`, `Singles`, `Reparse`, `OneAnswer`). The
-//!   text begins with nothing that would be taken for a byte order mark or a shebang, and the rest follows: what it
-//!   lexes to is balanced, and spells the file.
-//! - **Each input** (`file`: `SomeTokens`, `SomeNesting`, `SomeAnswer`). A text is gaps and pieces to its end, or up to a
-//!   place where neither stands; its tokens are balanced, or a delimiter has no partner; and the longest run of inner
-//!   attributes and items that they begin with is all of them, or a token stands after it.
-//! - **Token lists** (`tokens`: `Table`, `Neighbours`, `Rows`, `Lexed`, `TokenLists`, `Within`). What stands between
-//!   two tokens of a list is told by a table. Where that leaves nothing, the right token meets what the left one
-//!   needs, because the list passes the test of token lists. So a list passes as a part of any node, and so does a
-//!   group.
+//! - **Characters and bytes** (`texts`: `Characters`, `Laid`, `CleanPieces`, `DocTexts`,
+//!   `LaidTokens`). A text is laid out in bytes and lexed by characters. What is laid out of a
+//!   token is a piece of its kind again, and holds no CR, so folding line ends leaves a layout's
+//!   text as it is.
+//! - **Borders and moves** (`borders`: `Need`, `OperatorRuns`, `Border`, `Move`). Whether two
+//!   pieces stay two tokens is decided where they meet. A border, after a piece, says what it needs
+//!   of all that may follow: that no letter makes a word longer, no character an operator, that a
+//!   line ends. A piece, a blank, a newline is a move from border to border: it knows which
+//!   characters it adds, and that they lex to the tokens of its part, whatever meets the border.
+//! - **A condition that computes** (`forms`: `Opened`, `Passes`, `Walk`, `Texts`, `Breaks`,
+//!   `Bodies`, `Sound`, `Balance`). `Passes` says that a form leads from one border to another:
+//!   each piece of it meets what the border before it needs, and no delimiter stays open. It speaks
+//!   of the form alone, of no width and no frame. Texts, breaks and bodies are moves, so by one
+//!   induction over all signs of the notation (`Sound`) a form that passes is one, in every frame;
+//!   and the tokens that spell it are balanced (`Balance`).
+//! - **A line for each part** (`forms/Rules`, `file/Nodes`). Lists, bodies, fields and braces pass
+//!   where their parts do. So each node is shown to pass in about a line for each of its parts, and
+//!   a new node costs no more. Types pass by one induction over their family (`file/TypeParts`,
+//!   `TypeArgs`, `TypeKinds`, `Types`), and generic parameters and where clauses by that
+//!   (`file/Generics`). Patterns pass by an induction of their own (`file/PatternParts`,
+//!   `PatternKinds`, `Patterns`). Visibilities, fields, variants, and the heads of functions and of
+//!   items pass by all of these (`forms/Vis`, `Fields`, `Functions`, `Heads`). So do items, by one
+//!   induction, at each site where they are good (`file/ItemHeads`, `Items`).
+//! - **Files** (`file`: `FirstText`, `forms/HeadsFirst`, `file/FirstItems`, `Singles`, `Reparse`,
+//!   `OneAnswer`). The text begins with nothing that would be taken for a byte order mark or a
+//!   shebang, and the rest follows: what it lexes to is balanced, and spells the file.
+//! - **Each input** (`file`: `SomeTokens`, `SomeNesting`, `SomeAnswer`). A text is gaps and pieces
+//!   to its end, or up to a place where neither stands; its tokens are balanced, or a delimiter has
+//!   no partner; and the longest run of inner attributes and items that they begin with is all of
+//!   them, or a token stands after it.
+//! - **Token lists** (`tokens`: `Table`, `Neighbours`, `Rows`, `Lexed`, `TokenLists`, `Within`).
+//!   What stands between two tokens of a list is told by a table. Where that leaves nothing, the
+//!   right token meets what the left one needs, because the list passes the test of token lists. So
+//!   a list passes as a part of any node, and so does a group.
 //! - **Texts joined** (`join`: `Joining`). The same question for any two texts, without a layout.
 #![tactic(auto)]
 

@@ -88,7 +88,7 @@ fn window(alloc: Global, source: &Source) -> Option<usize>
     }
 }
 
-/// The same of bytes.
+/// How many tokens the first window has of the text that the bytes are.
 fn window_of(alloc: Global, bytes: &[u8]) -> Option<usize> {
     match normalise(alloc, bytes) {
         Ok(source) => window(alloc, &source),

@@ -77,7 +77,8 @@ fn put_body<E: Emit>(
     Err(NotPut::NoReading)
 }
 
-/// Emits the module with this head, whose body begins at a byte offset, past its closing brace.
+/// Emits the module with this head. Its body begins at the byte offset `place`, which is moved past
+/// the closing brace.
 #[cycle(body)]
 fn put_module<E: Emit>(
     alloc: Global,

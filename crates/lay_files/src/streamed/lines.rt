@@ -10,7 +10,7 @@ use lay_out_code::put_item;
 use lay_out_tokens::{HARD_BREAK, put_bare_attr};
 use lay_stream::Emit;
 
-/// Emits an inner attribute, with a newline before it inside a module, else after it.
+/// Emits an inner attribute, with a newline before it if it is inside a module, else after it.
 pub fn put_attr_line<E: Emit>(out: &mut E, within: bool, attr: &Attr) -> Result<(), E::Fault>
     ensures { Did E.meanings out.old (rows within (attr_form attr.now ∷ [])) result out.new }
 {
@@ -19,7 +19,7 @@ pub fn put_attr_line<E: Emit>(out: &mut E, within: bool, attr: &Attr) -> Result<
     put_line_behind(out, within)
 }
 
-/// Emits an item, with a newline before it inside a module, else after it.
+/// Emits an item, with a newline before it if it is inside a module, else after it.
 pub fn put_item_line<E: Emit>(out: &mut E, within: bool, item: &Item) -> Result<(), E::Fault>
     ensures { Did E.meanings out.old (rows within (form_of_item item.now ∷ [])) result out.new }
 {
@@ -28,14 +28,14 @@ pub fn put_item_line<E: Emit>(out: &mut E, within: bool, item: &Item) -> Result<
     put_line_behind(out, within)
 }
 
-/// Emits the newline before a part, inside a module.
+/// Emits a newline before a part, if it is inside a module.
 pub fn put_line_before<E: Emit>(out: &mut E, within: bool) -> Result<(), E::Fault>
     ensures { Did E.meanings out.old (line_before within) result out.new }
 {
     if within { out.brk(HARD_BREAK) } else { Ok(()) }
 }
 
-/// Emits the newline after a part, outside modules.
+/// Emits a newline after a part, if it isn't inside a module.
 pub fn put_line_behind<E: Emit>(out: &mut E, within: bool) -> Result<(), E::Fault>
     ensures { Did E.meanings out.old (line_behind within) result out.new }
 {

@@ -12,7 +12,7 @@ use lay_out_types::calls::{add_text, add_word};
 use lay_out_types::lists::add_end;
 use lay_stream::Emit;
 
-/// Opens a module that isn't empty, with a newline before it inside another one.
+/// Opens a module that isn't empty, with a newline before it if it is inside another one.
 pub fn open<E: Emit>(out: &mut E, within: bool, head: &Head) -> Result<(), E::Fault>
     ensures { Did E.meanings out.old (opening within head.now) result out.new }
 {
@@ -20,7 +20,7 @@ pub fn open<E: Emit>(out: &mut E, within: bool, head: &Head) -> Result<(), E::Fa
     open_body(out, Ok(()), true)
 }
 
-/// Closes a module that isn't empty, with a newline after it outside modules.
+/// Closes a module that isn't empty, with a newline after it if it isn't inside another one.
 pub fn close<E: Emit>(out: &mut E, within: bool) -> Result<(), E::Fault>
     requires { 0 < E.meanings.groups out.old }
     ensures { Did E.meanings out.old (closing within) result out.new }
