@@ -1,4 +1,4 @@
-//! Source files.
+//! The node of a source file.
 use crate::item::Item;
 use lay_node::Attr;
 use lay_token::{List, Text};

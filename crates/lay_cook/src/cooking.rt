@@ -1,4 +1,4 @@
-//! The values of string literals.
+//! From a token to the value of the string literal that it is.
 ghost use Rattle.std.specs.Prelude.{◌≡◌, ◌<◌, ◌==◌, IfOk, IsUtf8, not};
 ghost use Rattle.std.specs.Str.{chars};
 ghost use Rattle.lay_piece.specs.Value.{value_of};

@@ -1,4 +1,4 @@
-//! What has the layout of a file.
+//! The trait of what has the layout of a file: a file, or an expression as the value of a constant.
 ghost use Rattle.std.specs.Prelude.{true};
 ghost use Rattle.lay_layout.specs.Document.{stream};
 ghost use Rattle.lay_stream.specs.Fed.{Did};

@@ -1,4 +1,4 @@
-//! The command.
+//! The command: its runs, and the status of each.
 ghost use Rattle.std.specs.Prelude.{◌≡◌, ◌≢◌, ◌<◌, ◌≤◌, ◌⊎◌, ℕ, List as Items, length, None, Some, Err};
 ghost use Rattle.lay_io.specs.Faults.{Rose, SameLoan};
 ghost use Rattle.lay_io.specs.Told.{GrewBy, IsEnd};

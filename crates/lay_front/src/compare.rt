@@ -72,8 +72,8 @@ impl Sink for Comparer {
     ghost use Rattle.std.specs.Prelude.{◌++◌, length, Some};
     ghost use Rattle.lay_front.specs.Comparing.{expected_by, written_to};
 
-    // The expected bytes stand before those that were written, and their number stands in place of a loan, which no
-    // write changes. So it is known which bytes were compared, whoever wrote them.
+    // The expected bytes stand before those that were written, and their number stands in place of
+    // a loan, which no write changes. So it is known which bytes were compared, whoever wrote them.
     ghost written = { λ comparer. Some (expected_by comparer ++ written_to comparer) };
 
     ghost faults = { λ comparer. comparer.faults };

@@ -26,8 +26,9 @@ pub fn ends_before(
     }
 }
 
-/// Why a window ends after its last token, if it does. It does if `open`, the number of groups that are
-/// open before that token, is 0, and the token is the opening brace of a module or a closing brace.
+/// Why a window ends after its last token, if it does. It does if `least` is given, no group was
+/// open before that token (`open` is 0), and the token is the opening brace of a module or a
+/// closing brace.
 #[inline]
 pub fn ends_behind(least: Option<usize>, open: usize, tokens: &[Token]) -> Option<Stop>
     ensures stops { IsSome result → IsTrue (ends_in_stop tokens.now) }

@@ -4,7 +4,8 @@ use crate::token::{Lifetime, Name};
 use crate::types::{Binder, Bound, ConstArg, LifetimeParam, Ty};
 use lay_token::List;
 
-/// Generic parameters (Rust Reference, "Generic parameters"): `<'a, A: B = C, const D: E = 1>`, or none.
+/// Generic parameters (Rust Reference, "Generic parameters"): `<'a, A: B = C, const D: E = 1>`, or
+/// none.
 #[derive(Drop)]
 pub struct Generics {
     pub params: List<GenericParam>,

@@ -43,7 +43,8 @@ pub struct Lifetime {
     pub text: Text,
 }
 
-/// A literal token, or `true` or `false`, which are identifiers (Rust Reference, "Literal expressions").
+/// A literal token, or `true` or `false`, which are identifiers (Rust Reference, "Literal
+/// expressions").
 #[derive(Drop)]
 pub struct Literal {
     pub kind: Kind,

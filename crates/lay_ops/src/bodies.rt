@@ -90,7 +90,8 @@ pub fn sheds(expr: &Expr, no_struct: bool) -> bool
     }
 }
 
-/// Whether an unlabelled block is one whose braces are dropped.
+/// Whether an unlabelled block is one whose braces are dropped; `no_struct` says that no struct
+/// literal may stand there.
 fn is_shed(block: &Block, no_struct: bool) -> bool
     ensures { result ≡ ((about_block block.now).lone
         && (not no_struct || (about_block block.now).structless)) }

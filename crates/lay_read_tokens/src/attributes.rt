@@ -225,7 +225,7 @@ fn read_value(
     }
 }
 
-/// Parses a value of an attribute that is no documentation, and the closing bracket.
+/// Parses the value of an attribute that isn't documentation, and the closing bracket.
 fn read_other_value(
     alloc: Global,
     at: &mut Ahead<'_>,
