@@ -23,7 +23,7 @@ ends_in_stop [] = false
 ends_in_stop (t ∷ []) = is_stop t.kind t.text
 ends_in_stop (t ∷ u ∷ us) = ends_in_stop (u ∷ us)
 
--- How many groups are open after a token of this kind, where so many are open before it. A closing delimiter that has no
+-- How many groups are open after a token of this kind, where this many are open before it. A closing delimiter that has no
 -- partner leaves none open, and the number stays within 64 bits.
 abbrev pub open_after : ℕ → Kind → ℕ
 open_after groups (kinds.Opener d) = min (groups + 1) (2 ^ 64 - 1)

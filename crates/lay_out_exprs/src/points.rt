@@ -24,7 +24,8 @@ pub fn part_ends_in_point<X: Enclose>(point: bool, node: &Expr) -> bool
     ends_in_point(point, node)
 }
 
-/// Whether an optional part ends in a `.`.
+/// Whether an optional part ends in a `.`; if there is none, whether the text before it does, as
+/// `point` says.
 pub fn optional_ends_in_point<X: Enclose>(point: bool, node: &Option<Boxed<Expr>>) -> bool
     ensures { let told = option_map about_expr (option_map (part X.on) node.now) in
         result ≡ ends_behind_point point (end_form told Done) }
@@ -75,7 +76,8 @@ fn ends_in_point(point: bool, node: &Expr) -> bool
     }
 }
 
-/// Whether an optional operand ends in a `.`.
+/// Whether an optional operand ends in a `.`; if there is none, whether the text before it does, as
+/// `point` says.
 #[cycle(ends_in_point)]
 fn operand_ends_in_point(point: bool, operand: &Option<Boxed<Expr>>) -> bool
     ensures { result ≡ ends_behind_point point (end_form (option_map about_expr operand.now) Done) }

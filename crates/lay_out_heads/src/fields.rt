@@ -78,7 +78,7 @@ impl Part for Variant {
     }
 }
 
-/// Emits the discriminant of a variant, if it has one.
+/// Emits a `=` and the discriminant of a variant, if it has one.
 fn add_discriminant<E: Emit>(
     out: &mut E,
     before: Result<(), E::Fault>,

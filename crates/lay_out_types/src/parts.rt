@@ -79,7 +79,7 @@ pub(crate) fn add_binder<E: Emit>(
     }
 }
 
-/// Emits lifetimes in `<` and `>`.
+/// Emits lifetime parameters in `<` and `>`.
 fn add_lifetime_params<E: Emit>(
     out: &mut E,
     before: Result<(), E::Fault>,

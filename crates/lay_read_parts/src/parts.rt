@@ -322,7 +322,7 @@ fn is_at_string(alloc: Global, at: &Ahead<'_>) -> Result<bool, ReadNone>
     }
 }
 
-/// Parses the string of an ABI, after `extern`.
+/// Parses the string of an ABI after its `extern`, if one comes next.
 #[tactic(auto, using(crate::proofs::Steps::literal_is))]
 fn read_abi_name(alloc: Global, at: &mut Ahead<'_>) -> Result<Option<Literal>, ReadNone>
     ensures { IsGot (reader.if_there (first reader.is_string_token at.old)
