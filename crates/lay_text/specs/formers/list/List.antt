@@ -1,5 +1,5 @@
--- How a `List` holds its items, for types that hold lists of themselves. The logic asks for these names: a list is seen
--- as the list of its items, and a vector is all that it is made of.
+-- How a `List` holds its items, for types that contain lists of themselves. The logic asks for
+-- these names. A list is seen as the list of its items, and it is stored as a vector.
 use mathlib.Core.Path.{◌≡◌, refl, sym}
 use mathlib.Core.List.{List, []}
 use mathlib.Core.Former.{Former, this, list, via, children}
@@ -20,7 +20,7 @@ use Rattle.lay_text.specs.declared.list.List.TheView.{view, invariant}
 use Rattle.lay_text.specs.contracts.list.List as whole
 use Rattle.lay_text.specs.contracts.list.List.TheInside as fields
 
--- what a list is made of, as clauses see it and as it is stored
+-- what a list is made of: as clauses see it, and as it is stored
 abbrev pub the_former : Former {0} → Former {0}
 the_former item = list item
 
@@ -34,14 +34,14 @@ the_items X items = items
 pub the_items_listed : (X : Type 0) (items : List X) → listed _ (children (the_former this) X items) ≡ the_items X items
 the_items_listed X items = list-listed X items
 
--- the largest measure among the items; a list may hold none
+-- the largest measure among the items; a list may have no items
 abbrev pub the_weighed : {item : Former {0}} → Weighed item → Weighed (the_former item)
 the_weighed weighed = w_list weighed
 
 pub the_empty : List ⊥
 the_empty = []
 
--- A list of items of one type and a list of items of another, alike item by item, are stored alike.
+-- Two lists with items of two types are stored alike, where their items are alike one by one.
 module _ (R S : RattleType) (h : R.Denot → S.Denot) where
   pub the_places : Alike R S h → Alike (whole.the_row R) (whole.the_row S) ((the_former this).map R.Denot S.Denot h)
   the_places alike =
