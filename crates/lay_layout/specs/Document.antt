@@ -1,6 +1,7 @@
--- Documents, and the text that each is laid out as (Oppen, "Prettyprinting", TOPLAS 2(4), 1980, over texts, breaks
--- and groups). A line has 89 columns, and a new one a space of 60 at the least. A width counts bytes, an indent is kept
--- between 0 and 240, and no more than 1,000,000 blanks wait to be written.
+-- Documents of texts, breaks and groups, and the text that each document is laid out as (Oppen,
+-- "Prettyprinting", TOPLAS 2(4), 1980). A line has 89 columns, and a new line has a space of at
+-- least 60. A width counts bytes. The indent of a frame is between 0 and 240, and at most 1,000,000
+-- blanks wait to be written.
 use Rattle.std.specs.Prelude.{◌≡◌, ℕ, ◌+◌, ◌-◌, min, max, Bool, true, false, nat_lt, List, [], ◌∷◌, ◌++◌, length, replicate, ℤ, pos, negsuc, ◌-ℤ◌}
 use Rattle.lay_layout.specs.declared.layout.Mark.{Mark}
 use Rattle.lay_layout.specs.declared.layout.Mark.TheVariants.{Absent, Comma, OpenBrace, CloseBrace}
@@ -35,7 +36,7 @@ bytes_of_mark Comma = 44 ∷ []
 bytes_of_mark OpenBrace = 123 ∷ []
 bytes_of_mark CloseBrace = 125 ∷ []
 
--- a break's flat width: its blanks and its mark instead
+-- the flat width of a break: its blanks and its mark `instead`
 abbrev pub width_of_break : Break → ℕ
 width_of_break b = b.blank + length (bytes_of_mark b.instead)
 
@@ -46,15 +47,16 @@ flat (AddText t rest) = length t + flat rest
 flat (AddBreak b rest) = width_of_break b + flat rest
 flat (AddGroup c o inner rest) = flat inner + flat rest
 
--- the flat width of the rest up to its first break at this level; if it has none, all its flat width and what follows it
+-- the flat width of the document up to its first break at this level; without such a break, all its
+-- flat width plus `follow`
 abbrev pub ahead : Document → ℕ → ℕ
 ahead Empty follow = follow
 ahead (AddText t rest) follow = length t + ahead rest follow
 ahead (AddBreak b rest) follow = 0
 ahead (AddGroup c o inner rest) follow = flat inner + ahead rest follow
 
--- The text so far, and the blanks that are still to be written before what comes next. The space is the room of the
--- line less what was used of it, which may be below zero.
+-- The state of the layout: the text so far, and the blanks still to be written before what comes
+-- next. The space is the room of the line minus what is used of it. It may be negative.
 pub record State : Type 0 where
   pub text : List ℕ
   pub pending : ℕ
@@ -64,16 +66,17 @@ pub record State : Type 0 where
 abbrev pub space_of : State → ℤ
 space_of s = pos s.room -ℤ pos s.used
 
--- a measure is greater than the space
+-- The measure is greater than the space.
 abbrev pub over : ℕ → State → Bool
 over measure s = nat_lt s.room (s.used + measure)
 
--- a number and an offset, or 0 where that is below 0
+-- the number plus the offset, or 0 where the sum is negative
 abbrev pub shift : ℕ → ℤ → ℕ
 shift n (pos k) = n + k
 shift n (negsuc k) = n - (k + 1)
 
--- The pending blanks are written and then the bytes, which take their own length from the space.
+-- The pending blanks are written, and then the bytes. The bytes take their own length from the
+-- space.
 abbrev pub write : List ℕ → State → State
 write bytes s = record { text = s.text ++ (replicate s.pending 32 ++ bytes); pending = 0; room = s.room; used = s.used + length bytes }
 
@@ -83,27 +86,30 @@ put_mark Comma s = write (bytes_of_mark Comma) s
 put_mark OpenBrace s = write (bytes_of_mark OpenBrace) s
 put_mark CloseBrace s = write (bytes_of_mark CloseBrace) s
 
--- An LF, and a line of k blanks begins: pending blanks are forgotten, and the space is what is left of the margin, but
--- no less than the least space.
+-- An LF is written, and a line begins with k blanks. Blanks that were pending are dropped. The
+-- space is what the margin leaves, but no less than the least space.
 abbrev pub line : ℕ → State → State
 line k s = record { text = s.text ++ 10 ∷ []; pending = k; room = max (margin - k) least_space; used = 0 }
 
--- A break that is a newline: its mark before, a new line, its mark after.
+-- A break that is a newline: its mark `before`, a new line, its mark `after`.
 abbrev pub newline : Break → ℕ → State → State
 newline b indent s = put_mark b.after (line (shift indent b.offset) (put_mark b.before s))
 
--- A break that is none: its blanks are pending, of which no more than the greatest count wait, and its mark instead.
+-- A break that is no newline: its blanks become pending, up to the greatest count, and then its
+-- mark `instead` is put.
 abbrev pub skip : Break → State → State
 skip b s = put_mark b.instead (record { text = s.text; pending = min (s.pending + b.blank) greatest_blanks; room = s.room; used = s.used + b.blank })
 
--- The frame of a group in a frame, by whether its measure is greater than the space: flat in a flat frame and where it
--- fits; else broken, with its offset added to the indent.
+-- The frame of a group, by the frame around it and by whether its measure is greater than the
+-- space. It is flat in a flat frame, and where it fits. Else it is broken, with its offset added to
+-- the indent.
 abbrev pub enter : Frame → Bool → ℤ → Bool → Frame
 enter Flat c o big = Flat
 enter (Broken outer i) c o true = Broken c (min (shift i o) greatest_indent)
 enter (Broken outer i) c o false = Flat
 
--- A break in a frame, by whether it is never a newline and whether its measure is greater than the space.
+-- The state after a break, by whether it is never a newline, by its frame, and by whether its
+-- measure is greater than the space.
 abbrev pub break_by : Bool → Frame → Break → Bool → State → State
 break_by true f b big s = skip b s
 break_by false Flat b big s = skip b s
@@ -114,8 +120,9 @@ break_by false (Broken false i) b false s = skip b s
 abbrev pub break_in : Frame → Break → Bool → State → State
 break_in f b big s = break_by b.never f b big s
 
--- A document in a frame and a state, where what follows it up to the next break has the width follow. The measure of a
--- group and of a break is its flat width with what is ahead of it.
+-- The state after a document, which is laid out in a frame and from a state. What follows the
+-- document up to the next break has the width `follow`. The measure of a group or a break is its
+-- flat width plus the width of what is ahead of it.
 abbrev pub render : Document → Frame → State → ℕ → State
 render Empty f s follow = s
 render (AddText t rest) f s follow = render rest f (write t s) follow
@@ -123,11 +130,11 @@ render (AddBreak b rest) f s follow = render rest f (break_in f b (over (width_o
 render (AddGroup c o inner rest) f s follow =
     render rest f (render inner (enter f c o (over (flat inner + ahead rest follow) s)) s (ahead rest follow)) follow
 
--- outside all groups
+-- the frame outside of all groups
 abbrev pub outside : Frame
 outside = Broken false 0
 
--- before all tokens
+-- the state before all tokens
 abbrev pub start : State
 start = record { text = []; pending = 0; room = margin; used = 0 }
 

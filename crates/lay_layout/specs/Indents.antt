@@ -1,4 +1,4 @@
--- Frames as they come: no indent is greater than the greatest one.
+-- An invariant of frames: no indent is greater than the greatest indent.
 use Rattle.std.specs.Prelude.{◌≤◌, List, [], ◌∷◌}
 use Rattle.lay_layout.specs.declared.layout.Frame.{Frame}
 use Rattle.lay_layout.specs.declared.layout.Frame.TheVariants.{Flat, Broken}

@@ -1,4 +1,5 @@
--- The margins of layouts. Each is a constant of the code too, in capitals.
+-- The constants of the layout: widths, indents and blanks. The code has each of them too, in
+-- capitals.
 use Rattle.std.specs.Prelude.{ℕ}
 
 -- how many columns a line has
@@ -13,10 +14,11 @@ least_space = 60
 abbrev pub greatest_indent : ℕ
 greatest_indent = 240
 
--- the greatest count of blanks that wait to be written
+-- how many blanks may wait to be written
 abbrev pub greatest_blanks : ℕ
 greatest_blanks = 1000000
 
--- The greatest width that a printer keeps, 2^62: no line has that many columns, so that no comparison sees more.
+-- The greatest width that a printer keeps, 2^62. No line has that many columns, so no comparison
+-- can tell it from a greater one.
 abbrev pub greatest_width : ℕ
 greatest_width = 0x4000_0000_0000_0000
