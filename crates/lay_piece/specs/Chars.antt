@@ -1,4 +1,4 @@
--- Characters, runs of characters, words. A text is the list of its characters.
+-- Classes of characters, runs of them, and words. A text is the list of its characters.
 use Rattle.std.specs.Prelude.{ℕ, ◌-◌, Bool, true, false, cond, not, ◌&&◌, ◌||◌, ◌==◌, nat_le, List, [], ◌∷◌}
 use Rattle.std.specs.List.{list_all}
 use Rattle.std.specs.Char.{is_ascii_digit, is_ascii_hexdigit}
@@ -12,7 +12,7 @@ is_between low high c = nat_le low c && nat_le c high
 unfoldable pub starts_word : ℕ → Bool
 starts_word c = is_xid_start c || c == char.underscore
 
--- what may go on with a word: XID_Continue, to which the underscore belongs
+-- what may continue a word: XID_Continue, which includes the underscore
 unfoldable pub in_word : ℕ → Bool
 in_word c = is_xid_continue c
 
@@ -32,27 +32,27 @@ in_hex c = is_ascii_hexdigit c || c == char.underscore
 abbrev pub hex_value : ℕ → ℕ
 hex_value c = cond (nat_le c 57) (c - 48) (cond (nat_le 97 c) (c - 87) (c - 55))
 
--- There is a first character, and it passes.
+-- The text has a first character, and it passes.
 abbrev pub begins : (ℕ → Bool) → List ℕ → Bool
 begins p [] = false
 begins p (c ∷ cs) = p c
 
--- the longest run of characters that pass, from the first on
+-- the longest prefix of characters that pass
 abbrev pub front : (ℕ → Bool) → List ℕ → List ℕ
 front p [] = []
 front p (c ∷ cs) = cond (p c) (c ∷ front p cs) []
 
--- what follows that run
+-- what follows that prefix
 abbrev pub after : (ℕ → Bool) → List ℕ → List ℕ
 after p [] = []
 after p (c ∷ cs) = cond (p c) (after p cs) (c ∷ cs)
 
--- the character before a text that ends in no such character, unless it is one
+-- the character before the text, but nothing where the character is `d` and the text is empty
 abbrev pub kept : ℕ → ℕ → List ℕ → List ℕ
 kept d c [] = cond (c == d) [] (c ∷ [])
 kept d c (e ∷ es) = c ∷ e ∷ es
 
--- the text without this character at its end, as often as it stands there
+-- the text without the run of this character at its end
 abbrev pub without_end : ℕ → List ℕ → List ℕ
 without_end d [] = []
 without_end d (c ∷ cs) = kept d c (without_end d cs)
@@ -61,7 +61,7 @@ abbrev pub is_nil : List ℕ → Bool
 is_nil [] = true
 is_nil (c ∷ cs) = false
 
--- What follows these first characters, as `given` answers it; `other` where the text begins otherwise.
+-- `given` of what follows this prefix, or `other` where the text doesn't begin with it
 abbrev pub behind : {A : Type 0} → A → List ℕ → (List ℕ → A) → List ℕ → A
 behind other [] given cs = given cs
 behind other (p ∷ ps) given [] = other
@@ -80,7 +80,7 @@ is_lone_underscore (c ∷ cs) = c == char.underscore && is_nil cs
 abbrev pub is_suffix : List ℕ → Bool
 is_suffix cs = is_word cs && not (is_lone_underscore cs)
 
--- The text goes on with a suffix.
+-- The text begins with a suffix.
 abbrev pub begins_suffix : List ℕ → Bool
 begins_suffix [] = false
 begins_suffix (c ∷ cs) = starts_word c && not (c == char.underscore && not (begins in_word cs))

@@ -1,4 +1,5 @@
--- What a piece of each kind looks like, and what may follow it (Rust Reference, "Tokens").
+-- The lexical grammar: what a piece (a lexeme) of each kind looks like, and what may follow it
+-- (Rust Reference, "Tokens").
 use Rattle.std.specs.Prelude.{ℕ, Bool, true, false, cond, ◌&&◌, ◌||◌, ◌==◌, not, List, [], ◌∷◌, codes, encode_utf8_all, IsTrue, Option, Some, None}
 use Rattle.std.specs.List.{list_any}
 use Rattle.std.specs.Char.{is_ascii_digit}
@@ -15,7 +16,8 @@ use Rattle.lay_piece.specs.declared.kind.Delim.TheVariants.{Paren, Bracket, Brac
 use Rattle.lay_piece.specs.declared.kind.Kind.{Kind}
 use Rattle.lay_piece.specs.declared.kind.Kind.TheVariants.{Ident, RawIdent, Underscore, Lifetime, Char, Str, RawStr, Byte, ByteStr, RawByteStr, CStr, RawCStr, Int, Float, Punct, Opener, Closer, Doc}
 
--- what follows the form, where the text begins with it
+-- the rest after a string, a character or a raw string, if the text begins with it; its opening is
+-- left out
 abbrev pub after_string : Contents → List ℕ → Option (List ℕ)
 after_string y = run (string_step y) Plain
 
@@ -25,7 +27,7 @@ after_char y = run (char_step y) First
 abbrev pub after_raw : Contents → List ℕ → Option (List ℕ)
 after_raw y = run (raw_step y) (Hashes 0)
 
--- what follows the closing quote, or the hashes that follow it, of a literal of this kind
+-- what follows the closing quote of a literal of this kind, or the hashes after that quote
 unfoldable pub after_literal : Kind → List ℕ → Option (List ℕ)
 after_literal Char cs = behind None (codes "'") (after_char of.Chars) cs
 after_literal Str cs = behind None (codes "\"") (after_string of.Chars) cs
@@ -37,12 +39,12 @@ after_literal CStr cs = behind None (codes "c\"") (after_string of.CChars) cs
 after_literal RawCStr cs = behind None (codes "cr") (after_raw of.CChars) cs
 after_literal _ cs = None
 
--- The literal ends there, or a suffix follows and ends.
+-- Nothing follows the literal, or a suffix and nothing more does.
 abbrev pub is_literal_end : Option (List ℕ) → Bool
 is_literal_end None = false
 is_literal_end (Some cs) = is_nil cs || is_suffix cs
 
--- The form is all there is.
+-- The form is the whole text.
 abbrev pub is_whole : Option (List ℕ) → Bool
 is_whole None = false
 is_whole (Some cs) = is_nil cs
@@ -71,11 +73,13 @@ doc_opening false true = codes "/**"
 doc_opening true false = codes "//!"
 doc_opening false false = codes "///"
 
--- After its opening an outer line doesn't begin with a slash, and no line holds an LF or a CR.
+-- The text may follow the opening of a documentation line. After an outer opening it doesn't begin
+-- with a slash. No line holds an LF or a CR.
 abbrev pub is_line_doc : Bool → List ℕ → Bool
 is_line_doc inner cs = (inner || not (begins (λ c. c == char.slash) cs)) && not (list_any (λ c. c == char.line_feed || c == char.carriage_return) cs)
 
--- An outer block begins neither with a star nor with a slash, and a block ends with the end that matches.
+-- The text may follow the opening of a documentation block. After an outer opening it begins
+-- neither with a star nor with a slash. It ends with the */ that matches the opening.
 abbrev pub is_block_doc : Bool → List ℕ → Bool
 is_block_doc inner cs = (inner || not (begins (λ c. c == char.star || c == char.slash) cs)) && is_whole (run doc_step (Deep 0) cs)
 
@@ -123,8 +127,9 @@ is_number_kind Int = true
 is_number_kind Float = true
 is_number_kind _ = false
 
--- A piece of the kind stands before the rest. Where `index` is true, as after the `.` of a field, a number
--- whose digits aren't followed by XID_Continue has the form of an index alone (Rust Reference, "Tuple index").
+-- The text is a piece of the kind and then the rest. `index` is true where a tuple index may stand,
+-- as after the `.` of a field. There, a number whose digits aren't followed by XID_Continue has the
+-- form of an index and no other (Rust Reference, "Tuple index").
 unfoldable pub had : Kind → List ℕ → List ℕ → Bool → Bool
 had k piece rest index =
     cond (is_number_kind k && index && fronts_index piece rest)

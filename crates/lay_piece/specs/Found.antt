@@ -1,5 +1,6 @@
--- What stands at the beginning of a text: the kind of the piece, and what follows it. These are the words of the
--- contracts within the crate; its laws say that what is found is what `Had` has there.
+-- Lexing of one piece, which is a lexeme: the kind of the piece that a text begins with, and the
+-- rest after it. The contracts inside the crate use these definitions. The laws of the crate say
+-- that they find exactly what `Had` accepts.
 use Rattle.std.specs.Prelude.{ℕ, zero, suc, ◌≡◌, Bool, true, false, cond, ◌&&◌, ◌||◌, ◌==◌, not, List, [], ◌∷◌, codes, drop, encode_utf8_all, Option, Some, None, MatchOption, option_and_then}
 use Rattle.std.specs.Borrow.{Bor}
 use Rattle.std.specs.Str.{chars}
@@ -20,19 +21,19 @@ use Rattle.lay_piece.specs.declared.kind.Delim.TheVariants.{Paren, Bracket, Brac
 use Rattle.lay_piece.specs.declared.kind.Kind.{Kind}
 use Rattle.lay_piece.specs.declared.kind.Kind.TheVariants.{Ident, RawIdent, Underscore, Lifetime, Char, Str, RawStr, Byte, ByteStr, RawByteStr, CStr, RawCStr, Int, Float, Punct, Opener, Closer, Doc}
 
--- what makes a word before it the prefix of a literal, or no token
+-- a character before which a word is the prefix of a literal, or no token
 abbrev pub is_mark : ℕ → Bool
 is_mark c = c == char.quote || c == char.apostrophe || c == char.hash
 
--- what no lifetime ends before
+-- a character that may not follow a lifetime
 abbrev pub is_tick : ℕ → Bool
 is_tick c = c == char.apostrophe || c == char.hash
 
--- what a line of documentation may hold
+-- a character that a documentation line may hold
 abbrev pub in_doc_line : ℕ → Bool
 in_doc_line c = not (c == char.line_feed || c == char.carriage_return)
 
--- what makes /** no documentation
+-- a character after which /** opens no documentation
 abbrev pub is_star_or_slash : ℕ → Bool
 is_star_or_slash c = c == char.star || c == char.slash
 
@@ -52,27 +53,27 @@ in_set (set.Digits base) c = in_base base c || c == char.underscore
 in_set (set.Run base) c = in_run base c
 in_set (set.Only d) c = c == d
 
--- a kind and a rest, if there are
+-- the kind of a piece and the rest after it, if the text begins with a piece
 abbrev pub FrontPiece : Type 0
 FrontPiece = Option (Kind × List ℕ)
 
 abbrev pub found : Kind → List ℕ → FrontPiece
 found k rest = Some (k, rest)
 
--- A call answers this rest.
+-- The call returns this rest, or none.
 abbrev pub Leaves : Option (List ℕ) → Option (Bor (List ℕ)) → Type 0
 Leaves rest result = MatchOption result (rest ≡ None) (λ r. rest ≡ Some (chars r.now))
 
--- A call answers this kind and rest.
+-- The call returns this kind and rest, or none.
 abbrev pub Finds : FrontPiece → Option (Kind × Bor (List ℕ)) → Type 0
 Finds front result = MatchOption result (front ≡ None) (λ p. front ≡ found p.0 (chars p.1.now))
 
--- the first answer, and where there is none the second
+-- the first result if there is one, else the second
 abbrev pub or_else : FrontPiece → FrontPiece → FrontPiece
 or_else None other = other
 or_else (Some f) other = Some f
 
--- how many hashes come next, up to a number of them, and what follows these
+-- how many hashes the text begins with, up to a limit, and what follows them
 abbrev pub hashes : ℕ → List ℕ → ℕ
 hashes zero cs = 0
 hashes (suc n) [] = 0
@@ -169,7 +170,8 @@ single c cs =
 abbrev pub is_underscore : ℕ → Bool
 is_underscore c = c == char.underscore
 
--- what follows a run of digits and underscores, if it holds a digit and none outside the base
+-- the rest after a run of digits and underscores, if the run holds a digit, and none outside of the
+-- base
 abbrev pub after_run : Base → List ℕ → Option (List ℕ)
 after_run base cs =
     let rest = after (λ c. in_base base c || c == char.underscore) cs in
@@ -209,7 +211,7 @@ number index cs =
     cond (index && not (begins in_word (after is_ascii_digit cs))) (found Int (after is_ascii_digit cs))
     (plain_number cs)
 
--- anything
+-- any first character
 
 abbrev pub other : ℕ → List ℕ → FrontPiece
 other c cs =

@@ -1,5 +1,5 @@
--- Gaps: white space and plain comments (Rust Reference, "Whitespace", "Comments"). Characters move a state, so
--- that a gap is told from its own characters alone.
+-- Gaps: the white space and the plain comments between pieces (Rust Reference, "Whitespace",
+-- "Comments"). An automaton reads the characters of a gap. It needs no lookahead.
 use Rattle.std.specs.Prelude.{ℕ, Bool, true, false, cond, ◌==◌, List, [], ◌∷◌}
 use Rattle.lay_piece.specs.Characters as char
 use Rattle.lay_piece.specs.Chars.{is_white}
@@ -52,7 +52,7 @@ abbrev pub is_closed : InGap → Bool
 is_closed Outside = true
 is_closed _ = false
 
--- At the end of the whole text a line comment may be open.
+-- A gap at the end of the whole text may end within a line comment.
 abbrev pub is_closed_or_line : InGap → Bool
 is_closed_or_line Outside = true
 is_closed_or_line Two = true

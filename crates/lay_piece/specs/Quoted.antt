@@ -1,4 +1,5 @@
--- The forms that tell their own end: strings, characters, raw strings and block comments.
+-- Automata for the forms that mark their own end: strings, characters, raw strings and block
+-- comments.
 use Rattle.std.specs.Prelude.{ℕ, zero, suc, ◌+◌, ◌*◌, Bool, true, false, cond, ◌&&◌, ◌||◌, ◌==◌, not, nat_lt}
 use Rattle.std.specs.Char.{is_ascii_hexdigit}
 use Rattle.lay_piece.specs.Characters as char
@@ -7,8 +8,9 @@ use Rattle.lay_piece.specs.Scan.{Next, Go, End, Bad}
 use Rattle.lay_piece.specs.declared.piece.quoted.Contents.{Contents}
 use Rattle.lay_piece.specs.declared.piece.quoted.Contents.TheVariants as of
 
--- A character stands for itself: no literal holds a CR, a byte is ASCII, and a C string holds no NUL
--- (Rust Reference, "Tokens": "String literals", "Byte string literals", "C string literals").
+-- The character may stand for itself. No literal holds a CR, a byte literal holds ASCII alone, and
+-- a C string holds no NUL (Rust Reference, "Tokens": "String literals", "Byte string literals", "C
+-- string literals").
 abbrev pub is_plain : Contents → ℕ → Bool
 is_plain of.Chars c = not (c == char.carriage_return)
 is_plain of.Bytes c = not (c == char.carriage_return) && nat_lt c 128
@@ -19,18 +21,18 @@ abbrev pub is_short_escape : Contents → ℕ → Bool
 is_short_escape of.CChars c = c == char.letter_n || c == char.letter_r || c == char.letter_t || c == char.backslash || c == char.apostrophe || c == char.quote
 is_short_escape _ c = c == char.letter_n || c == char.letter_r || c == char.letter_t || c == char.backslash || c == char.apostrophe || c == char.quote || c == char.zero
 
--- what \x may name
+-- a value that \x may name
 abbrev pub is_byte_value : Contents → ℕ → Bool
 is_byte_value of.Chars v = nat_lt v 128
 is_byte_value of.Bytes v = true
 is_byte_value of.CChars v = not (v == 0)
 
--- whether \u is an escape
+-- whether \u begins an escape
 abbrev pub takes_unicode : Contents → Bool
 takes_unicode of.Bytes = false
 takes_unicode _ = true
 
--- what \u may name: a character, which is no surrogate (Rust Reference, "Unicode escapes")
+-- a value that \u may name: a character, so no surrogate (Rust Reference, "Unicode escapes")
 abbrev pub is_char_value : Contents → ℕ → Bool
 is_char_value of.CChars v = not (v == 0) && nat_lt v 1114112 && not (is_between 55296 57343 v)
 is_char_value _ v = nat_lt v 1114112 && not (is_between 55296 57343 v)
@@ -47,7 +49,8 @@ pub data InEscape : Type 0 where
   -- after \u{ and this many digits, which have this value
   Digits : ℕ → ℕ → InEscape
 
--- Up to six digits; an underscore may follow a digit, and at least one digit stands before the closing brace.
+-- At most six digits. An underscore may follow a digit, and at least one digit stands before the
+-- closing brace.
 abbrev pub digits_step : Contents → ℕ → ℕ → ℕ → Next InEscape
 digits_step y n v c =
     cond (is_ascii_hexdigit c) (cond (nat_lt n 6) (Go (Digits (n + 1) (16 * v + hex_value c))) Bad)
@@ -61,7 +64,7 @@ escape_step y (HexTwo h) c = cond (is_ascii_hexdigit c && is_byte_value y (16 * 
 escape_step y Open c = cond (c == char.open_brace) (Go (Digits 0 0)) Bad
 escape_step y (Digits n v) c = digits_step y n v c
 
--- a string, after its opening quote
+-- the states in a string, after its opening quote
 pub data InString : Type 0 where
   Plain : InString
   -- after a backslash
@@ -88,7 +91,7 @@ string_step y Turned c = cond (c == char.line_feed) (Go Skip) (in_string (escape
 string_step y (Escape e) c = in_string (escape_step y e c)
 string_step y Skip c = cond (is_skipped c) (Go Skip) (plain_step y c)
 
--- a character, after its opening quote
+-- the states in a character, after its opening quote
 pub data InChar : Type 0 where
   First : InChar
   CharEscape : InEscape → InChar
@@ -108,7 +111,7 @@ char_step y First c = cond (c == char.backslash) (Go (CharEscape Backslash)) (co
 char_step y (CharEscape e) c = in_char (escape_step y e c)
 char_step y Last c = cond (c == char.apostrophe) End Bad
 
--- a raw string, after its r (Rust Reference, "Raw string literals")
+-- the states in a raw string, after its r (Rust Reference, "Raw string literals")
 pub data InRaw : Type 0 where
   -- this many hashes so far
   Hashes : ℕ → InRaw
@@ -125,9 +128,9 @@ raw_step y (Hashes n) c = cond (c == char.hash && nat_lt n 255) (Go (Hashes (n +
 raw_step y (Inside n) c = inside_step y n c
 raw_step y (Closing n k) c = cond (c == char.hash) (cond (k + 1 == n) End (Go (Closing n (k + 1)))) (inside_step y n c)
 
--- a block comment, after its opening (Rust Reference, "Comments")
+-- the states in a block comment, after its opening (Rust Reference, "Comments")
 pub data InBlock : Type 0 where
-  -- within this many more comments
+  -- this many comments are open around this one
   Deep : ℕ → InBlock
   -- after a star
   Star : ℕ → InBlock

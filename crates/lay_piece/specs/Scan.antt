@@ -1,4 +1,5 @@
--- A form that tells its own end: characters move a state, until one ends the form or spoils it.
+-- Scanning by an automaton: each character moves the state, until one ends the form or can't belong
+-- to it.
 use Rattle.std.specs.Prelude.{ℕ, List, [], ◌∷◌, Option, Some, None}
 
 pub data Next (S : Type 0) : Type 0 where
@@ -9,7 +10,7 @@ pub data Next (S : Type 0) : Type 0 where
   -- The form can't go on with the character.
   Bad : Next S
 
--- what follows the form, if the text begins with it
+-- the rest after the form, if the text begins with it
 unfoldable pub run : {S : Type 0} → (S → ℕ → Next S) → S → List ℕ → Option (List ℕ)
 run step s [] = None
 run step s (c ∷ cs) = elim (step s c) [ Go t ↦ run step t cs | End ↦ Some cs | Bad ↦ None ]

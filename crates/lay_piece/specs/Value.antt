@@ -10,7 +10,7 @@ use Rattle.lay_piece.specs.declared.piece.quoted.Contents.TheVariants as of
 use Rattle.lay_piece.specs.declared.kind.Kind.{Kind}
 use Rattle.lay_piece.specs.declared.kind.Kind.TheVariants.{Str, RawStr}
 
--- what a character names after a backslash, if it is an escape by itself
+-- what an escape of one character stands for, by the character after the backslash; else nothing
 abbrev pub short_escape : ℕ → List ℕ
 short_escape c =
     cond (c == char.letter_n) (10 ∷ []) (cond (c == char.letter_r) (13 ∷ []) (cond (c == char.letter_t) (9 ∷ []) (cond (c == char.zero) (0 ∷ [])
@@ -19,7 +19,7 @@ short_escape c =
 abbrev pub plain_adds : ℕ → List ℕ
 plain_adds c = cond (c == char.backslash) [] (c ∷ [])
 
--- what a character adds to the value
+-- what a character adds to the value, by the state before it
 unfoldable pub adds : InString → ℕ → List ℕ
 adds Plain c = plain_adds c
 adds Turned c = short_escape c
@@ -30,7 +30,7 @@ adds (Escape Open) c = []
 adds (Escape (Digits n v)) c = cond (c == char.close_brace) (v ∷ []) []
 adds Skip c = cond (is_skipped c) [] (plain_adds c)
 
--- the value of a string, after its opening quote
+-- the value of a string, by what follows its opening quote
 unfoldable pub string_value : InString → List ℕ → List ℕ
 string_value s [] = []
 string_value s (c ∷ cs) =
@@ -39,11 +39,12 @@ string_value s (c ∷ cs) =
 abbrev pub is_hash : ℕ → Bool
 is_hash c = c == char.hash
 
--- The value of a raw string, after its r, stands between the quotes, and as many hashes stand before them as after them.
+-- The value of a raw string, by what follows its r: the text between the quotes. As many hashes
+-- stand before the quotes as after them.
 abbrev pub raw_value : List ℕ → List ℕ
 raw_value cs = let around = length (front is_hash cs) + 1 in take (length cs - 2 * around) (drop around cs)
 
--- the value of a literal, if it is a Str or a RawStr without suffix
+-- the value of a literal, if it is a Str or a RawStr without a suffix
 abbrev pub value_of : Kind → List ℕ → Option (List ℕ)
 value_of Str piece = cond (is_whole (after_literal Str piece)) (Some (string_value Plain (drop 1 piece))) None
 value_of RawStr piece = cond (is_whole (after_literal RawStr piece)) (Some (raw_value (drop 1 piece))) None

@@ -1,4 +1,4 @@
--- The words of Rust's edition 2021 (Rust Reference, "Keywords").
+-- The keywords of Rust's edition 2021, and the class of each word (Rust Reference, "Keywords").
 use Rattle.std.specs.Prelude.{ℕ, Bool, List, [], ◌∷◌, codes, if◌then◌else◌}
 use Rattle.std.specs.List.{list_any}
 use Rattle.std.specs.Str.{bytes_eq}
