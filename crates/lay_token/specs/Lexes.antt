@@ -1,4 +1,5 @@
--- A text is gap, piece, gap, and so on, and ends in a gap (Rust Reference, "Lexical structure").
+-- Lexing: a text is gaps and pieces in turn, and ends in a gap (Rust Reference, "Lexical
+-- structure"). A piece is a lexeme, and each makes a token.
 use Rattle.std.specs.Prelude.{◌≡◌, ℕ, ◌+◌, ◌-◌, Bool, true, false, cond, ◌&&◌, ◌||◌, ◌==◌, not, List, [], ◌∷◌, ◌++◌, IsTrue, codes, length, take, drop, encode_utf8_all}
 use Rattle.std.specs.List.{list_any}
 use Rattle.std.specs.Str.{chars, bytes_eq}
@@ -17,18 +18,18 @@ pub record Part : Type 0 where
   pub kind : Kind
   pub piece : List ℕ
 
--- the parts and the last gap, as one text
+-- the text of the parts and the last gap
 abbrev pub spell : List Part → List ℕ → List ℕ
 spell [] last = last
 spell (p ∷ ps) last = p.gap ++ (p.piece ++ spell ps last)
 
--- what stands before a place: a point, a point after a joint point, or anything else
+-- what stands before a place: a point, a point right after another point, or anything else
 pub data Before : Type 0 where
   Other : Before
   Point : Before
   Points : Before
 
--- A number after a point may be an index, but not after `..`.
+-- A number after a point may be a tuple index, but not after `..`.
 abbrev pub is_index_place : Before → Bool
 is_index_place Point = true
 is_index_place _ = false
@@ -49,7 +50,7 @@ abbrev pub steps : Before → List Part → Before
 steps b [] = b
 steps b (p ∷ ps) = steps (step b p) ps
 
--- Each part is a gap and a piece that is had, where rest follows the parts.
+-- Each part is a gap and a piece of its kind, by what follows it; `rest` follows the last part.
 abbrev pub Fit : Before → List Part → List ℕ → Type 0
 Fit b [] rest = Unit {0}
 Fit b (p ∷ ps) rest =
@@ -59,13 +60,14 @@ Fit b (p ∷ ps) rest =
 abbrev pub size : List ℕ → ℕ
 size cs = length (encode_utf8_all cs)
 
--- what documentation says: without its opening and a block's end, and where it is one line without the blanks there
+-- The text of a documentation comment: without its opening, and without the end of a block. If it
+-- is one line, the blanks at its end are dropped.
 abbrev pub doc_text : Bool → List ℕ → List ℕ
 doc_text block cs =
     let text = cond block (take (length cs - 5) (drop 3 cs)) (drop 3 cs) in
     cond (list_any (λ c. c == char.line_feed) text) text (without_end char.blank text)
 
--- the text of a token of this piece
+-- the text of the token that the piece makes
 abbrev pub text_of_piece : Kind → List ℕ → List ℕ
 text_of_piece RawIdent cs = drop 2 cs
 text_of_piece (Doc inner block) cs = doc_text block cs
@@ -74,13 +76,13 @@ text_of_piece _ cs = cs
 abbrev pub is_separator : List ℕ → Bool
 is_separator cs = bytes_eq cs (codes ",") || bytes_eq cs (codes ";")
 
--- The token of the part is joint before these parts.
+-- The part's token is joint with the first token of the parts that follow.
 abbrev pub is_joint : Part → List Part → Bool
 is_joint p [] = false
 is_joint p (q ∷ qs) =
     is_punct p.kind && is_punct q.kind && is_nil q.gap && not (is_separator p.piece) && not (is_separator q.piece)
 
--- the tokens of the parts, of which the first begins at a place
+-- the tokens of the parts, where the first gap begins at this place
 abbrev pub tokens_from : ℕ → List Part → List Token
 tokens_from at [] = []
 tokens_from at (p ∷ ps) = let place = at + size p.gap in
@@ -98,8 +100,8 @@ pub record AreParts (text : List ℕ) (parts : List Part) (last : List ℕ) : Ty
   pub fit : Fit Other parts last
   pub end : IsTrue (is_last_gap last)
 
--- From the place on, the text lexes to the tokens. That each gap is as long as it can be follows, since no piece
--- begins a gap.
+-- From the place on, the text lexes to the tokens. Each gap is as long as it can be, since no piece
+-- begins with a gap.
 abbrev pub Lexes : List ℕ → ℕ → List Token → Type 0
 Lexes bytes start tokens = (parts : List Part) × (last : List ℕ)
     × AreParts (chars (drop start bytes)) parts last × (tokens ≡ tokens_from start parts)

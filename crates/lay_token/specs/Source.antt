@@ -1,5 +1,6 @@
--- What is lexed of an input (Rust Reference, "Input format": byte order mark removal, CRLF normalization and
--- shebang removal; what a shebang line is, is told here from the first line alone).
+-- The source text of an input, and where lexing begins in it (Rust Reference, "Input format": byte
+-- order mark removal, CRLF normalization and shebang removal). Whether the first line is a shebang
+-- line is decided here by that line alone.
 use Rattle.std.specs.Prelude.{ℕ, ◌+◌, Bool, true, false, cond, ◌&&◌, ◌||◌, ◌==◌, not, List, [], ◌∷◌, Option, Some, None, Result, Ok, Err, codes, encode_utf8_all}
 use Rattle.std.specs.Str.{chars, is_utf8}
 use Rattle.std.specs.Str.Lossy.{utf8_valid_len}
@@ -9,12 +10,12 @@ use Rattle.lay_token.specs.Lexes.{size}
 use Rattle.lay_text.specs.declared.refusal.Refusal.{Refusal}
 use Rattle.lay_text.specs.declared.refusal.Refusal.TheVariants.{NotUtf8}
 
--- each CR LF as one LF
+-- the text with each CR LF as one LF
 abbrev pub folded : List ℕ → List ℕ
 folded [] = []
 folded (c ∷ cs) = cond (c == char.carriage_return && begins (λ d. d == char.line_feed) cs) (folded cs) (c ∷ folded cs)
 
--- without a byte order mark at the start
+-- the text without a byte order mark at its start
 abbrev pub without_mark : List ℕ → List ℕ
 without_mark [] = []
 without_mark (c ∷ cs) = cond (c == char.byte_order_mark) cs (c ∷ cs)
@@ -22,24 +23,24 @@ without_mark (c ∷ cs) = cond (c == char.byte_order_mark) cs (c ∷ cs)
 abbrev pub is_in_line : ℕ → Bool
 is_in_line c = not (c == char.line_feed)
 
--- Past white space the line goes on with nothing, or with what begins an attribute or a comment.
+-- The rest of the line after white space is empty, or it begins as an attribute or a comment does.
 abbrev pub is_no_command : List ℕ → Bool
 is_no_command cs =
     is_nil cs || behind false (codes "[") (λ ds. true) cs || behind false (codes "//") (λ ds. true) cs
     || behind false (codes "/*") (λ ds. true) cs
 
--- a first line that begins with #! is a shebang line, unless its rest reads as the start of an attribute
+-- A first line that begins with #! is a shebang line, unless its rest may belong to an attribute.
 abbrev pub is_shebang : List ℕ → Bool
 is_shebang line = behind false (codes "#!") (λ cs. not (is_no_command (after is_white cs))) line
 
--- What stands in the text, its shebang, and the place where lexing begins, in bytes. The shebang is the line
--- without the CRs at its end.
+-- The text, its shebang, and the byte at which lexing begins. The shebang is the first line without
+-- the CRs at its end.
 pub record Source : Type 0 where
   pub text : List ℕ
   pub shebang : Option (List ℕ)
   pub start : ℕ
 
--- the bytes of a line with the LF that ends it, if one does
+-- the size of the first line in bytes, with the LF that ends it, if any
 abbrev pub line_size : List ℕ → ℕ
 line_size text = size (front is_in_line text) + cond (is_nil (after is_in_line text)) 0 1
 
@@ -50,7 +51,7 @@ source_of text = let line = front is_in_line text in record {
   start = cond (is_shebang line) (line_size text) 0;
 }
 
--- An input that is no UTF-8 is refused at the end of its longest prefix that is.
+-- An input that isn't UTF-8 is refused, at the end of its longest prefix that is UTF-8.
 abbrev pub source : List ℕ → Result Source Refusal
 source bytes =
     cond (is_utf8 bytes) (Ok (source_of (folded (without_mark (chars bytes))))) (Err (NotUtf8 (utf8_valid_len bytes)))
