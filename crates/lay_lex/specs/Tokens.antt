@@ -1,4 +1,4 @@
--- The tokens so far, and what the next does to them.
+-- The tokens lexed so far, and how the next one is added to them.
 use Rattle.std.specs.Prelude.{◌≡◌, Bool, List, []}
 use Rattle.lay_token.specs.Lexes as lexes
 use Rattle.lay_token.specs.declared.token.Token.{Token}
@@ -12,7 +12,7 @@ pub record IsBegun (tokens : Tokens) : Type 0 where
   pub none : so_far tokens ≡ []
   pub before : before tokens.before ≡ lexes.Other
 
--- The next token is read.
+-- The next token is added to the tokens; `touches` says that no gap is before it.
 pub record Adds (touches : Bool) (next : Token) (old new : Tokens) : Type 0 where
   pub tokens : so_far new ≡ added touches next (so_far old)
   pub before : before new.before ≡ behind (before old.before) touches next

@@ -1,4 +1,4 @@
--- What an answer of the lexer says of a window.
+-- The result of lexing a window: tokens up to a stop, or an error.
 use Rattle.std.specs.Prelude.{ℕ, ◌≡◌, ◌+◌, ◌-◌, ◌^◌, min, Bool, true, false, ◌&&◌, ◌||◌, List, [], ◌∷◌, codes, drop, IsTrue, Result, Ok, Err}
 use Rattle.std.specs.Str.{chars, bytes_eq, IsCharBoundary}
 use Rattle.lay_piece.specs.declared.kind.Kind.{Kind}
@@ -13,24 +13,24 @@ use Rattle.lay_lex.specs.declared.window.Stop.{Stop}
 use Rattle.lay_lex.specs.declared.window.Stop.TheVariants.{End, More, Opened, Closed}
 use Rattle.lay_lex.specs.declared.window.Window.{Window}
 
--- a delimiter or a `;`, of which nothing that follows makes another token
+-- a stop: a delimiter or a `;`, which no text after it can change
 abbrev pub is_stop : Kind → List ℕ → Bool
 is_stop kind text = is_opener kind || (is_closer kind || is_punct kind && bytes_eq text (codes ";"))
 
--- The last token is one.
+-- The last token is a stop.
 abbrev pub ends_in_stop : List Token → Bool
 ends_in_stop [] = false
 ends_in_stop (t ∷ []) = is_stop t.kind t.text
 ends_in_stop (t ∷ u ∷ us) = ends_in_stop (u ∷ us)
 
--- How many groups are open after a token of this kind, where this many are open before it. A closing delimiter that has no
--- partner leaves none open, and the number stays within 64 bits.
+-- How many groups are open after a token of this kind, by how many are open before it. A closer
+-- without a partner leaves none open. The number stays within 64 bits.
 abbrev pub open_after : ℕ → Kind → ℕ
 open_after groups (kinds.Opener d) = min (groups + 1) (2 ^ 64 - 1)
 open_after groups (kinds.Closer d) = groups - 1
 open_after groups _ = groups
 
--- From one place of the text up to another stand parts, whose tokens are these, and the last of them is a stop.
+-- Parts stand between two places of the text. These tokens are theirs, and the last one is a stop.
 pub record UpTo (text : List ℕ) (from to : ℕ) (tokens : List Token) : Type 0 where
   pub parts : List Part
   pub whole : chars (drop from text) ≡ spell parts (chars (drop to text))
@@ -45,14 +45,15 @@ is_end More = false
 is_end Opened = false
 is_end Closed = false
 
--- From the place on, the text lexes to the tokens of a window that ends with it; the others go up to where they end.
+-- A window that ends with the text holds the tokens that the text lexes to from the place on. Each
+-- other window goes up to its end.
 abbrev pub GoesTo : List ℕ → ℕ → Window → Stop → Type 0
 GoesTo text start window End = Lexes text start window.tokens
 GoesTo text start window More = UpTo text start window.end window.tokens
 GoesTo text start window Opened = UpTo text start window.end window.tokens
 GoesTo text start window Closed = UpTo text start window.end window.tokens
 
--- The window, or the place where there is no token. Memory may always be wanting.
+-- The window, or the place where there is no token. Memory may run out in any case.
 abbrev pub WindowAs : List ℕ → ℕ → Result Window FormatError → Type 0
 WindowAs text start (Ok window) = GoesTo text start window window.stop
 WindowAs text start (Err (Refused (NoToken at))) = NoTokenAt text start at
