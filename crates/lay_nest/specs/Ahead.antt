@@ -1,10 +1,11 @@
--- The tokens ahead of a cursor, which may have stepped over an opener.
+-- The tokens ahead of a cursor. The cursor may stand within groups, after their openers.
 use Rattle.std.specs.Prelude.{ℕ, ◌≡◌, List, ◌∷◌, ◌++◌, IsTrue}
 use Rattle.lay_token.specs.Delimiters.{Trees, Paired, tokens_of, is_closer}
 use Rattle.lay_token.specs.declared.token.Token.{Token}
 use Rattle.lay_nest.specs.Spans.{spans_of}
 
--- token trees, or those up to a closer whose opener was stepped over, and what is ahead after it
+-- token trees to the end, or token trees up to the closer of a group that was entered, and what is
+-- ahead after that closer
 pub data Ahead : Type 0 where
   Last : Trees → Ahead
   UpTo : Trees → Token → Ahead → Ahead
@@ -21,7 +22,7 @@ abbrev pub PairedAhead : Ahead → Type 0
 PairedAhead (Last trees) = Paired trees
 PairedAhead (UpTo trees closer more) = Paired trees × IsTrue (is_closer closer.kind) × PairedAhead more
 
--- These are the spans of the tokens ahead.
+-- The spans are those of the tokens ahead.
 pub record SpannedAhead (tokens : List Token) (spans : List ℕ) : Type 0 where
   pub ahead : Ahead
   pub paired : PairedAhead ahead

@@ -1,4 +1,4 @@
--- What `nest` answers.
+-- The result of `nest`: tokens with their spans, or an error.
 use Rattle.std.specs.Prelude.{ℕ, ◌≡◌, List, Result, Ok, Err}
 use Rattle.lay_token.specs.Delimiters.{Balanced, UnbalancedAt}
 use Rattle.lay_token.specs.declared.token.Token.{Token}
@@ -8,7 +8,7 @@ use Rattle.lay_text.specs.declared.refusal.Refusal.TheVariants.{NotUtf8, NoToken
 use Rattle.lay_nest.specs.Spans.{Spanned}
 use Rattle.lay_nest.specs.declared.nesting.Nested.{Nested}
 
--- The tokens are unbalanced at this place, or memory was wanting.
+-- The tokens are unbalanced at this place, or memory ran out.
 abbrev pub RefusedAs : List Token → FormatError → Type 0
 RefusedAs tokens (Refused (Unbalanced at)) = UnbalancedAt tokens at
 RefusedAs tokens (Refused (NotUtf8 at)) = ⊥
@@ -20,7 +20,7 @@ abbrev pub SpannedAs : List Token → Result (List ℕ) FormatError → Type 0
 SpannedAs tokens (Ok spans) = Spanned tokens spans
 SpannedAs tokens (Err error) = RefusedAs tokens error
 
--- The tokens, which are balanced, or the place where they are unbalanced. Memory may always be wanting.
+-- The tokens, which are balanced, or the place where they aren't. Memory may run out in any case.
 abbrev pub NestedAs : List Token → Result Nested FormatError → Type 0
 NestedAs tokens (Ok nested) = (nested ≡ tokens) × Balanced tokens
 NestedAs tokens (Err error) = RefusedAs tokens error

@@ -1,4 +1,4 @@
--- The partners among the tokens read so far.
+-- The groups among the tokens read so far, some of them still open.
 use Rattle.std.specs.Prelude.{ℕ, ◌≡◌, ◌+◌, List, [], ◌∷◌, ◌++◌, length, IsTrue, Result, Ok, Err}
 use Rattle.lay_token.specs.Delimiters.{Trees, Paired, tokens_of, is_opener}
 use Rattle.lay_token.specs.declared.token.Token.{Token}
@@ -7,7 +7,7 @@ use Rattle.lay_nest.specs.Nested.{RefusedAs}
 use Rattle.lay_nest.specs.Spans.{spans_of}
 use Rattle.lay_nest.specs.declared.partners.Reading.{Reading}
 
--- token trees, after each of the openers that are still open
+-- token trees, with openers among them that are still open
 pub data Partial : Type 0 where
   Closed : Trees → Partial
   Within : Partial → Token → Trees → Partial
@@ -16,12 +16,12 @@ abbrev pub tokens_so_far : Partial → List Token
 tokens_so_far (Closed trees) = tokens_of trees
 tokens_so_far (Within before opener inside) = tokens_so_far before ++ opener ∷ tokens_of inside
 
--- the spans of the tokens; of an opener that is still open, 0
+-- the spans of the tokens; that of an opener still open is 0
 abbrev pub spans_so_far : Partial → List ℕ
 spans_so_far (Closed trees) = spans_of trees
 spans_so_far (Within before opener inside) = spans_so_far before ++ 0 ∷ spans_of inside
 
--- where the openers stand that are still open, the last one last
+-- the indices of the openers still open, the last one last
 abbrev pub places_open : Partial → List ℕ
 places_open (Closed trees) = []
 places_open (Within before opener inside) = places_open before ++ length (tokens_so_far before) ∷ []
@@ -30,7 +30,8 @@ abbrev pub PairedSoFar : Partial → Type 0
 PairedSoFar (Closed trees) = Paired trees
 PairedSoFar (Within before opener inside) = PairedSoFar before × IsTrue (is_opener opener.kind) × Paired inside
 
--- The tokens begin with as many as there are spans, and these are their spans and the places still open.
+-- A prefix of the tokens is read, one for each span. The spans are theirs, and the places are those
+-- of the openers still open.
 pub record SoFar (tokens : List Token) (spans places : List ℕ) : Type 0 where
   pub partial : Partial
   pub behind : List Token
@@ -39,7 +40,7 @@ pub record SoFar (tokens : List Token) (spans places : List ℕ) : Type 0 where
   pub spans_are : spans ≡ spans_so_far partial
   pub places_are : places ≡ places_open partial
 
--- One token more than this many is read.
+-- One more token than this many is read.
 pub record Added (tokens : List Token) (len : ℕ) (reading : Reading) : Type 0 where
   pub read : SoFar tokens reading.spans.items reading.places.items
   pub one_more : length reading.spans.items ≡ len + 1
