@@ -1,15 +1,16 @@
--- What is spelled may end within braces that aren't in the tree: what follows it follows a block then.
+-- Spellings that end in a brace that isn't in the tree. What follows then follows a block.
 use Rattle.std.specs.Prelude.{ℕ, zero, suc, ◌-◌, ◌≤◌, ◌≡◌, List, ◌⊎◌}
 use Rattle.lay_token.specs.declared.token.Token.{Token}
 use Rattle.lay_form.specs.Form.{Form, Done, Piece, Leaf, Listed, ListedDoc, Brk, LastComma, Group, Part, Deeper, Optional, Docs, Body, comma}
 use Rattle.lay_form.specs.Spelled.{AreBits, Braced, IsBehind, IsComment, IsDoc, IsListed, IsOne, MayBe, MayBrace, Spells, Then, cost}
 
--- The second ends so after the first, or the first ends so and the second is spelled by nothing.
+-- The second part ends so, after the first. Or the first ends so, and the second has no tokens.
 abbrev pub EndsIn : (List Token → List Token → Type 0) → (List Token → List Token → Type 0) → (List Token → List Token → Type 0)
     → (List Token → List Token → Type 0) → List Token → List Token → Type 0
 EndsIn First FirstEnds Second SecondEnds ts rest = Then First SecondEnds ts rest ⊎ (FirstEnds ts rest × Second rest rest)
 
--- These tokens, up to the rest, spell the form at the depth, and the last of them is a brace that isn't in the tree.
+-- The tokens up to the rest spell the form at the depth, and the last of them is a brace that isn't
+-- in the tree.
 abbrev pub EndsBraced : Form → ℕ → List Token → List Token → Type 0
 EndsBraced Done depth ts rest = ⊥
 EndsBraced (Piece bits f) depth ts rest = Then (AreBits bits) (EndsBraced f depth) ts rest

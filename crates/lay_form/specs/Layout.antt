@@ -1,4 +1,4 @@
--- The layout of a form: its document.
+-- The layout of a form as a document of texts, breaks and groups.
 use Rattle.std.specs.Prelude.{ℕ, zero, suc, Bool, true, false, cond, ◌&&◌, ◌==◌, List, [], ◌∷◌, ◌++◌, ℤ, pos, negsuc, codes}
 use Rattle.std.specs.Str.{bytes_eq}
 use Rattle.lay_piece.specs.Characters as char
@@ -22,7 +22,7 @@ text_of_bit (Fixed kind text) = text
 text_of_bit (Operator op) = op
 text_of_bit Semicolons = []
 
--- a piece is one text
+-- A piece is one text.
 abbrev pub text_of_bits : List Bit → List ℕ
 text_of_bits [] = []
 text_of_bits (b ∷ bs) = text_of_bit b ++ text_of_bits bs
@@ -31,7 +31,7 @@ abbrev pub is_block : DocForm → Bool
 is_block doc.Block = true
 is_block _ = false
 
--- an empty text is left out
+-- An empty text is left out.
 abbrev pub add : List ℕ → Document → Document
 add [] d = d
 add (c ∷ cs) d = AddText (c ∷ cs) d
@@ -40,16 +40,18 @@ add (c ∷ cs) d = AddText (c ∷ cs) d
 abbrev pub add_doc : Bool → Bool → List ℕ → Document → Document
 add_doc inner block text d = AddText (doc_opening inner block) (add text (cond block (AddText (codes "*/") d) d))
 
--- a token of the tree, where a raw identifier is two texts
+-- a token of the tree; a raw identifier is two texts
 abbrev pub add_token : Kind → List ℕ → Document → Document
 add_token RawIdent text d = AddText (codes "r#") (AddText text d)
 add_token (Doc inner block) text d = add_doc inner (is_block (doc_form inner text)) text d
 add_token kind text d = AddText text d
 
--- A text that begins with a point gets a blank where it would stand directly after the point of a Float or after
--- `..`. There are three such places: a step after a literal as `1.`, a range after one, and a base that begins with
--- a range after the `..` of a struct literal. The blank belongs to the text that gets it, which may stand deep within a
--- part. These say whether the text so far ends so. A number is ASCII, so its bytes tell it.
+-- A text that begins with a point gets a blank before it where it would stand directly after the
+-- point of a Float or after `..`. There are three such places: a step after a literal like `1.`, a
+-- range after one, and a base that begins with a range after the `..` of a struct literal. The
+-- blank belongs to the text that gets it, which may stand deep within a part. The functions below
+-- say whether the text so far ends in such a point. A number is ASCII, so its bytes are its
+-- characters.
 abbrev pub token_ends_in_point : Kind → List ℕ → Bool
 token_ends_in_point Float text = ends_in_point text
 token_ends_in_point _ text = false
@@ -93,7 +95,7 @@ ends_behind_point point (Optional false bits f) = ends_behind_point point f
 ends_behind_point point (Docs inner text f) = ends_behind_point false f
 ends_behind_point point (Body braces behind i f) = ends_behind_point (point_behind braces behind (ends_behind_point point i)) f
 
--- a piece with its leading blank, if it gets one
+-- a piece, with a leading blank if it gets one
 abbrev pub led : Bool → List Bit → List Bit
 led point bits = cond (begins (λ c. c == char.point) (text_of_bits bits) && point) (Blank ∷ bits) bits
 
@@ -101,7 +103,7 @@ abbrev pub offset_of : Bool → ℤ
 offset_of true = negsuc 3
 offset_of false = pos 0
 
--- A hard break has so many blanks that no space holds them.
+-- A hard break has 65535 blanks, which no space holds.
 abbrev pub break_of : Space → Break
 break_of (Soft back blanks) = record { offset = offset_of back; blank = blanks; before = Absent; after = Absent; instead = Absent; never = false }
 break_of (Hard back) = record { offset = offset_of back; blank = 65535; before = Absent; after = Absent; instead = Absent; never = false }
@@ -111,7 +113,8 @@ break_of Never = record { offset = pos 0; blank = 0; before = Absent; after = Ab
 abbrev pub comma_break : ℕ → Break
 comma_break blanks = record { offset = negsuc 3; blank = blanks; before = Comma; after = Absent; instead = Absent; never = false }
 
--- the breaks round a body: braces where they are newlines, and else, after the body of an arm, a comma
+-- The breaks around a body. Where they are newlines, braces are laid out. Else a comma is, if the
+-- body is that of an arm.
 abbrev pub opening_break : Break
 opening_break = record { offset = pos 0; blank = 0; before = OpenBrace; after = Absent; instead = Absent; never = false }
 
@@ -123,12 +126,13 @@ abbrev pub closing_break : Behind → Break
 closing_break behind =
     record { offset = negsuc 3; blank = 0; before = Absent; after = CloseBrace; instead = mark_behind behind; never = false }
 
--- the comma of an arm whose body is laid out as it stands
+-- the comma of an arm; its body has no braces in the layout
 abbrev pub add_behind : Behind → Document → Document
 add_behind Nothing d = d
 add_behind (ArmComma last block_like) d = AddText (codes ",") d
 
--- the layout of a form, before a document
+-- the layout of a form, followed by the document `d`; `point` says that the text so far ends in a
+-- point
 abbrev pub laid_out : Bool → Form → Document → Document
 laid_out point Done d = d
 laid_out point (Piece bits f) d = add (text_of_bits (led point bits)) (laid_out (bits_end_in_point point bits) f d)

@@ -1,4 +1,5 @@
--- Which tokens spell a form at a depth. Each relation R x ts rest says that the prefix of ts before rest spells x.
+-- Which tokens spell a form at a depth: the grammar as relations. Each relation R x ts rest says
+-- that ts is the tokens that spell x, and then rest.
 use Rattle.std.specs.Prelude.{ℕ, zero, suc, ◌-◌, ◌≤◌, ◌≡◌, Bool, true, false, ◌||◌, List, [], ◌∷◌, ◌++◌, IsTrue, ◌⊎◌, codes, length, drop, Some, encode_utf8_all}
 use Rattle.std.specs.Str.{chars}
 use Rattle.lay_piece.specs.Characters as char
@@ -10,7 +11,7 @@ use Rattle.lay_piece.specs.declared.kind.Kind.TheVariants.{Punct, Doc}
 use Rattle.lay_token.specs.declared.token.Token.{Token}
 use Rattle.lay_form.specs.Form.{Bit, Blank, Fixed, Operator, Semicolons, Braces, Bare, Unseen, Marked, Behind, Nothing, ArmComma, Form, Done, Piece, Leaf, Listed, ListedDoc, Brk, LastComma, Group, Part, Deeper, Optional, Docs, Body, punct, keyword, opener, closer, comma}
 
--- one relation and then another
+-- one relation after the other
 abbrev pub Then : (List Token → List Token → Type 0) → (List Token → List Token → Type 0) → List Token → List Token → Type 0
 Then R S ts rest = (mid : List Token) × R ts mid × S mid rest
 
@@ -19,7 +20,7 @@ abbrev pub IsOne : Kind → List ℕ → List Token → List Token → Type 0
 IsOne kind text [] rest = ⊥
 IsOne kind text (t ∷ ts) rest = (t.kind ≡ kind) × (t.text ≡ text) × (ts ≡ rest)
 
--- An operator of the table is spelled by its characters, and no longer one stands at its place.
+-- An operator of the table is spelled by its characters, and no longer operator stands there.
 abbrev pub IsOperator : List ℕ → List Token → List Token → Type 0
 IsOperator op ts rest = IsTrue (is_op op ts) × (drop (length op) ts ≡ rest)
 
@@ -48,12 +49,12 @@ abbrev pub IsListed : Kind → List ℕ → Bool → List Token → List Token �
 IsListed kind text joint [] rest = ⊥
 IsListed kind text joint (t ∷ ts) rest = (t.kind ≡ kind) × (t.text ≡ text) × (t.joint ≡ joint) × (ts ≡ rest)
 
--- documentation, spelled as a comment on a line or in a block
+-- documentation, spelled as a line comment or a block comment
 abbrev pub IsComment : Bool → List ℕ → List Token → List Token → Type 0
 IsComment inner text [] rest = ⊥
 IsComment inner text (t ∷ ts) rest = (block : Bool) × (t.kind ≡ Doc inner block) × (t.text ≡ text) × (ts ≡ rest)
 
--- The token is a string without suffix, and this is its value.
+-- The token is a string without a suffix, and its value is this text.
 abbrev pub IsStringOf : List ℕ → Token → Type 0
 IsStringOf text t = (value : List ℕ) × (value_of t.kind (chars t.text) ≡ Some value) × (text ≡ encode_utf8_all value)
 
@@ -77,7 +78,8 @@ IsDoc inner text ts rest = IsComment inner text ts rest ⊎ IsDocAttr inner text
 
 -- ---- bodies
 
--- opening braces that aren't in the tree, each with any number of `;` after it, and the closing ones
+-- opening braces that aren't in the tree, each with any number of `;` after it, and then the
+-- closing ones
 abbrev pub Opens : ℕ → List Token → List Token → Type 0
 Opens zero ts rest = ts ≡ rest
 Opens (suc n) ts rest = Then (AreBits (opener Brace ∷ Semicolons ∷ [])) (Opens n) ts rest
@@ -86,7 +88,7 @@ abbrev pub Closes : ℕ → List Token → List Token → Type 0
 Closes zero ts rest = ts ≡ rest
 Closes (suc n) ts rest = Then (AreBits (closer Brace ∷ [])) (Closes n) ts rest
 
--- within this many pairs of braces that aren't in the tree
+-- R within this many pairs of braces that aren't in the tree
 abbrev pub Braced : ℕ → (List Token → List Token → Type 0) → List Token → List Token → Type 0
 Braced n R = Then (Opens n) (Then R (Closes n))
 
@@ -94,18 +96,18 @@ abbrev pub is_braced : ℕ → Bool
 is_braced zero = false
 is_braced (suc n) = true
 
--- this many pairs may stand there
+-- This many pairs of braces may stand there.
 abbrev pub MayBrace : Braces → ℕ → Type 0
 MayBrace Bare n = n ≡ 0
 MayBrace Unseen n = Unit {0}
 MayBrace Marked n = Unit {0}
 
--- what a body within this many pairs costs of the depth
+-- how many levels of the depth a body within this many pairs takes
 abbrev pub cost : ℕ → ℕ
 cost zero = 1
 cost (suc n) = suc n
 
--- The comma may be left out: after the last arm, after braces, and after what is block-like.
+-- The comma may be left out after the last arm, after braces, and after a body that is block-like.
 abbrev pub may_lack : Bool → Bool → ℕ → Bool
 may_lack last block_like n = last || (block_like || is_braced n)
 
@@ -133,8 +135,8 @@ Spells (Docs inner text f) depth ts rest = Then (IsDoc inner text) (Spells f dep
 Spells (Body braces behind i f) depth ts rest = (n : ℕ) × MayBrace braces n × (cost n ≤ depth)
     × Then (Braced n (Spells i (depth - cost n))) (Then (IsBehind behind n) (Spells f depth)) ts rest
 
--- A node with this form, which is well formed or not, stands at the beginning of the tokens: the first n spell it, and what
--- stands after them may follow it.
+-- A node with this form stands at the start of the tokens. The first n tokens spell it at the
+-- depth. `good` says that the node is well formed, and `follows` that the rest may follow it.
 abbrev pub Front : Form → Bool → (List Token → Bool) → List Token → ℕ → ℕ → Type 0
 Front form good follows ts n depth =
     (n ≤ length ts) × Spells form depth ts (drop n ts) × IsTrue good × IsTrue (follows (drop n ts))

@@ -1,5 +1,5 @@
--- The stream of a form: what a printer is fed. It is the flattening of the form's document, said again in the order in
--- which the layout crates feed it; these are the words of their contracts.
+-- The stream of a form: the tokens of layout that a printer is fed. It is the flattening of the
+-- form's document, defined in the order in which the layout crates feed it. Their contracts use it.
 use Rattle.std.specs.Prelude.{ℕ, Bool, true, false, cond, List, [], ◌∷◌, codes, pos}
 use Rattle.lay_piece.specs.Docs.{doc_form}
 use Rattle.lay_piece.specs.Forms.{doc_opening}
@@ -10,7 +10,7 @@ use Rattle.lay_piece.specs.declared.kind.Kind.TheVariants.{RawIdent, Doc}
 use Rattle.lay_form.specs.Form.{Bare, Unseen, Marked, Behind, Nothing, ArmComma, Form, Done, Piece, Leaf, Listed, ListedDoc, Brk, LastComma, Group, Part, Deeper, Optional, Docs, Body}
 use Rattle.lay_form.specs.Layout.{text_of_bits, is_block, token_ends_in_point, bits_end_in_point, keeps_point, space_ends_in_point, point_behind, ends_behind_point, led, break_of, comma_break, opening_break, closing_break}
 
--- an empty text is left out
+-- An empty text is left out.
 abbrev pub feed_text : List ℕ → List Tok → List Tok
 feed_text [] more = more
 feed_text (c ∷ cs) more = Text (c ∷ cs) ∷ more
@@ -27,7 +27,7 @@ abbrev pub feed_behind : Behind → List Tok → List Tok
 feed_behind Nothing more = more
 feed_behind (ArmComma last block_like) more = Text (codes ",") ∷ more
 
--- the stream of a form after a text that ends in a point or doesn't, before more
+-- the stream of a form, followed by `more`; `point` says that the text before it ends in a point
 abbrev pub fed : Bool → Form → List Tok → List Tok
 fed point Done more = more
 fed point (Piece bits f) more = feed_text (text_of_bits (led point bits)) (fed (bits_end_in_point point bits) f more)
