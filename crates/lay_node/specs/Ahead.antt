@@ -1,4 +1,4 @@
--- Tests of the tokens ahead.
+-- Lookahead: tests of the tokens ahead.
 use Rattle.std.specs.Prelude.{ℕ, ◌&&◌, ◌||◌, not, Bool, true, false, List, [], ◌∷◌, drop, codes}
 use Rattle.std.specs.Str.{bytes_eq}
 use Rattle.lay_token.specs.Lexes.{is_punct}
@@ -69,7 +69,7 @@ opens_args ts = is_op (codes "<") ts || (is_op (codes "<<") ts || is_op (codes "
 abbrev pub opens_args_late : Tokens → Bool
 opens_args_late ts = is_op (codes "::") ts && opens_args (drop 2 ts)
 
--- Items end where no token is left, and before a `}`.
+-- Items end at the end of the tokens, and before a `}`.
 abbrev pub ends_items : Tokens → Bool
 ends_items [] = true
 ends_items (t ∷ ts) = closes Brace t

@@ -1,4 +1,4 @@
--- What the tokens ahead begin, decided by the first of them.
+-- Lookahead: which node the tokens ahead may begin, decided by the first of them.
 use Rattle.std.specs.Prelude.{ℕ, ◌||◌, Bool, true, false, if◌then◌else◌, List, [], ◌∷◌, codes, Option, Some, None, is_some}
 use Rattle.std.specs.Str.{bytes_eq}
 use Rattle.lay_token.specs.Operators.{is_op}
@@ -10,7 +10,7 @@ use Rattle.lay_token.specs.declared.token.Token.{Token}
 use Rattle.lay_node.specs.Ahead.{Tokens, first, is_keyword, is_lifetime, is_mark, opens}
 use Rattle.lay_node.specs.Words.{is_path_class, is_literal}
 
--- what begins a type
+-- the ways in which a type begins
 pub data Lead : Type 0 where
   OfPath : Lead
   OfParen : Lead
@@ -49,7 +49,7 @@ lead_by (kind.Opener Paren) text ts = Some OfParen
 lead_by (kind.Opener Bracket) text ts = Some OfBracket
 lead_by _ text ts = None
 
--- what the tokens ahead begin, if it is a type
+-- the way in which a type begins there, if one may
 unfoldable pub lead_at : Tokens → Option Lead
 lead_at [] = None
 lead_at (t ∷ ts) = lead_by t.kind t.text (t ∷ ts)

@@ -1,5 +1,6 @@
--- What may not follow a node. A node refuses what would make it longer: what its own rule names, and what is refused by
--- the node that ends where it ends. The rules stand here in the order of docs/GRAMMAR.md.
+-- What may not follow a node. A node refuses the tokens that would make it longer: those that its
+-- own rule names, and those that the node at its end refuses. The rules are in the order of
+-- docs/GRAMMAR.md.
 use Rattle.std.specs.Prelude.{◌&&◌, ◌||◌, not, Bool, true, List, [], ◌∷◌, codes}
 use Rattle.lay_token.specs.Operators.{is_op}
 use Rattle.lay_piece.specs.declared.kind.Delim.TheVariants.{Paren, Brace}
@@ -18,7 +19,7 @@ pub data Begin : Type 0 where
   -- `!`, after a path that is a type
   OfBang : Begin
 
--- It comes next.
+-- The tokens begin with it.
 abbrev pub begins_there : Begin → Tokens → Bool
 begins_there OfRename ts = first (is_keyword (codes "as")) ts
 begins_there OfArgs ts = opens_args ts || (opens_args_late ts || first (opens Paren) ts)
@@ -36,6 +37,7 @@ may_follow (b ∷ bs) ts = not (begins_there b ts) && may_follow bs ts
 abbrev pub begins_dots : Tokens → Bool
 begins_dots ts = is_op (codes "..") ts || is_op (codes "..=") ts
 
--- What no pattern is followed by: fields in parentheses or in braces, and the `..` or `..=` of a span.
+-- What would continue a pattern: fields in parentheses or in braces, and the `..` or `..=` of a
+-- span.
 abbrev pub goes_on_pattern : Tokens → Bool
 goes_on_pattern ts = first (opens Paren) ts || (first (opens Brace) ts || begins_dots ts)

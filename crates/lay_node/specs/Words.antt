@@ -1,4 +1,4 @@
--- Names and words (Rust Reference, "Identifiers", "Keywords").
+-- Names, words of paths, and literals (Rust Reference, "Identifiers", "Keywords").
 use Rattle.std.specs.Prelude.{ℕ, Bool, true, false, cond, ◌||◌, ◌==◌, List, [], ◌∷◌, codes, is_some}
 use Rattle.std.specs.List.{list_all}
 use Rattle.std.specs.Str.{chars, bytes_eq}
@@ -24,11 +24,11 @@ is_path_class Plain = true
 is_path_class PathWord = true
 is_path_class _ = false
 
--- A name is an identifier that is no keyword, or a raw identifier.
+-- A name is an identifier that isn't a keyword, or a raw identifier.
 abbrev pub is_name : Bool → List ℕ → Bool
 is_name raw text = raw || is_plain (class_of text)
 
--- A word of a path may be crate, self, super or Self too.
+-- A word of a path is a name, or crate, self, super or Self.
 abbrev pub is_path_word : Bool → List ℕ → Bool
 is_path_word raw text = raw || is_path_class (class_of text)
 

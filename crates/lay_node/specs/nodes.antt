@@ -1,4 +1,5 @@
--- The nodes, a family a file. Each says what is well formed, which form it has, and what may not follow.
+-- The nodes of the syntax tree, one family per file. Each file says when a node is well formed,
+-- which form it has, and what may not follow it.
 pub mod Facts
 pub mod SimplePath
 pub mod Call

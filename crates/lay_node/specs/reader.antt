@@ -1,6 +1,7 @@
--- Reading as functions of the tokens ahead, a family a file: what is read and what is left, or none. These are the words
--- of readers' contracts, and stand in no promise of their own: that what is read is what stands at the beginning of the
--- tokens, and all of it, is proved of them.
+-- The parser, as functions of the tokens ahead, one family per file. Each returns what is parsed
+-- and the tokens after it, or none. The contracts of the readers use these functions. No promise
+-- rests on them alone: it is proved that what is parsed is what stands at the start of the tokens,
+-- and all of it.
 pub mod Loops
 pub mod Exact
 pub mod Words

@@ -1,4 +1,5 @@
--- Attributes and documentation (Rust Reference, "Attributes", "Comments").
+-- Attributes and documentation: when they are well formed, and their forms (Rust Reference,
+-- "Attributes", "Comments").
 use Rattle.std.specs.Prelude.{ℕ, Bool, true, false, cond, ◌&&◌, ◌||◌, not, List, [], ◌∷◌, codes, Option, Some, None, encode_utf8_all}
 use Rattle.std.specs.List.{list_all}
 use Rattle.std.specs.Str.{chars, bytes_eq}
@@ -69,8 +70,8 @@ abbrev pub same_flag : Bool → Bool → Bool
 same_flag true other = other
 same_flag false other = not other
 
--- It is inner where it says something of what it stands in, and else outer. Documentation that can be written as a
--- comment is Doc, and every other attribute is Meta.
+-- The attribute is well formed. It is inner where it says something of what it stands in, and else
+-- outer. Documentation that can be written as a comment is Doc. Each other attribute is Meta.
 abbrev pub is_attr : Bool → Attr → Bool
 is_attr inner (attr.Doc flag text) = same_flag inner flag && is_doc_text inner text
 is_attr inner (attr.Meta flag path given) =
@@ -95,8 +96,9 @@ attr_form (attr.Doc inner text) = Docs inner text Done
 attr_form (attr.Meta inner path input) =
     Piece (attr_opening inner) (Part (meta_path_form path) (input_form input (piece (closer Bracket ∷ []))))
 
--- An attribute within other parts, and what follows it: an inner one alone; an outer one on a line of its own where that
--- is wanted or it is documentation on a line, and else with a blank after it.
+-- An attribute within other parts, and what follows it. After an inner one nothing is put. After an
+-- outer one a newline is put where `own_line` is true, or where it is documentation on a line; else
+-- a blank.
 abbrev pub is_line : Attr → Bool
 is_line (attr.Doc inner text) = is_line_doc (listed.Doc inner text)
 is_line (attr.Meta inner path input) = false
@@ -111,6 +113,7 @@ behind_attr own_line a f = cond (is_inner a) f (cond (own_line || is_line a) (H 
 abbrev pub attr_part : Bool → Attr → Form → Form
 attr_part own_line a f = Part (attr_form a) (behind_attr own_line a f)
 
--- An inner attribute, or an outer one: it ends in its `]` or with its comment, so anything may follow.
+-- The facts about an inner or an outer attribute. It ends in its `]` or with its comment, so
+-- anything may follow.
 abbrev pub about_attr : Bool → Attr → Facts
 about_attr inner a = record { form = attr_form a; good = is_attr inner a; refuses = [] }

@@ -1,4 +1,5 @@
--- Groups and macro calls (Rust Reference, "Macro invocation"). Each ends in a group, so anything may follow.
+-- Groups and macro calls: when they are well formed, and their forms (Rust Reference, "Macro
+-- invocation"). Each ends in a group, so anything may follow.
 use Rattle.std.specs.Prelude.{Bool, ◌&&◌, List, [], ◌∷◌, codes}
 use Rattle.lay_piece.specs.declared.kind.Delim.{Delim}
 use Rattle.lay_piece.specs.declared.kind.Delim.TheVariants.{Brace}
@@ -27,7 +28,7 @@ abbrev pub before_rules : Delim → Form → Form
 before_rules Brace f = Piece (Blank ∷ []) f
 before_rules _ f = f
 
--- what ends an item that is a macro call or declares a macro: after braces nothing, and else a `;`
+-- the end of an item that is a macro call or declares a macro: nothing after braces, else a `;`
 abbrev pub end_form : Delim → Form
 end_form Brace = Done
 end_form _ = piece semicolon

@@ -1,4 +1,5 @@
--- The facts about a node.
+-- The facts about a node: its form, whether it is well formed, and which tokens it refuses after
+-- it.
 use Rattle.std.specs.Prelude.{ℕ, Bool, List, map}
 use Rattle.std.specs.List.{list_all}
 use Rattle.lay_form.specs.Form.{Form, Done, Deeper}
@@ -8,7 +9,7 @@ use Rattle.lay_node.specs.Follow.{Begin, may_follow}
 
 pub record Facts : Type 0 where
   pub form : Form
-  -- It is normal and meets the conditions of its form, with all that is within it.
+  -- The node is normal and meets the conditions of its form, and so does all that is within it.
   pub good : Bool
   pub refuses : List Begin
 
@@ -18,18 +19,18 @@ forms nodes = map (λ (x : Facts). x.form) nodes
 abbrev pub all_good : List Facts → Bool
 all_good nodes = list_all (λ (x : Facts). x.good) nodes
 
--- A node with these facts stands at the beginning of the tokens: the first n spell it at the depth, it is well formed,
--- and what follows them may follow it.
+-- A node with these facts stands at the start of the tokens. The first n tokens spell it at the
+-- depth, it is well formed, and the rest may follow it.
 abbrev pub Front : Facts → Tokens → ℕ → ℕ → Type 0
 Front x ts n depth = spelled.Front x.form x.good (may_follow x.refuses) ts n depth
 
--- The same of a node that says by itself which tokens may follow it.
+-- The same facts, where a test of its own says which tokens may follow the node.
 pub record Told : Type 0 where
   pub form : Form
   pub good : Bool
   pub follows : Tokens → Bool
 
--- A node that isn't counted, by itself: what is within it stands one level deeper.
+-- A node that isn't counted, parsed by itself: what is within it is one level deeper.
 abbrev pub by_itself : Told → Told
 by_itself x = record { form = Deeper x.form Done; good = x.good; follows = x.follows }
 

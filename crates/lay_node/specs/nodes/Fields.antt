@@ -1,4 +1,5 @@
--- Fields, and the variants of enumerations (Rust Reference, "Structs", "Enumerations").
+-- Fields, and the variants of enumerations: when they are well formed, and their forms (Rust
+-- Reference, "Structs", "Enumerations").
 use Rattle.std.specs.Prelude.{ℕ, zero, suc, ◌&&◌, ◌||◌, not, Bool, true, false, List, [], ◌∷◌, map, codes, Option, Some, None}
 use Rattle.std.specs.List.{list_all}
 use Rattle.std.specs.Str.{bytes_eq}
@@ -110,7 +111,7 @@ abbrev pub is_outside : ℕ → Bool
 is_outside zero = true
 is_outside (suc level) = false
 
--- A `,` stands outside all groups, where this many are open before the tokens.
+-- A `,` stands outside of all groups; this many groups are open before the tokens.
 abbrev pub has_comma : ℕ → List Listed → Bool
 has_comma level [] = false
 has_comma level (listed.Token kind text joint ∷ ts) = (is_outside level && is_comma kind text) || has_comma (level_behind kind level) ts

@@ -1,4 +1,5 @@
--- The heads of functions (Rust Reference, "Functions", "External blocks").
+-- The heads of functions: when they are well formed, their forms, and what may follow (Rust
+-- Reference, "Functions", "External blocks").
 use Rattle.std.specs.Prelude.{◌&&◌, not, Bool, true, false, List, [], ◌∷◌, map, codes, Option, Some, None}
 use Rattle.std.specs.List.{list_all}
 use Rattle.lay_piece.specs.declared.kind.Delim.TheVariants.{Paren}
@@ -74,24 +75,24 @@ is_variadic param.Variadic = true
 is_variadic (param.NamedVariadic p) = true
 is_variadic _ = false
 
--- A receiver stands first alone.
+-- Only the first parameter may be a receiver.
 abbrev pub receives_first : List Param → Bool
 receives_first [] = true
 receives_first (p ∷ ps) = list_all (λ (q : Param). not (is_receiver q.kind)) ps
 
--- The last one takes further arguments.
+-- The last parameter is variadic.
 abbrev pub ends_variadic : List Param → Bool
 ends_variadic [] = false
 ends_variadic (p ∷ []) = is_variadic p.kind
 ends_variadic (p ∷ q ∷ ps) = ends_variadic (q ∷ ps)
 
--- None but the last one does.
+-- No parameter but the last one is variadic.
 abbrev pub varies_last : List Param → Bool
 varies_last [] = true
 varies_last (p ∷ []) = true
 varies_last (p ∷ q ∷ ps) = not (is_variadic p.kind) && varies_last (q ∷ ps)
 
--- After one that takes further arguments no comma stands.
+-- After a variadic parameter no last comma may stand.
 abbrev pub fn_params_form : List Param → Form
 fn_params_form ps = comma_list (not (ends_variadic ps)) (opener Paren) (closer Paren) (map fn_param_form ps)
 
@@ -108,7 +109,7 @@ abbrev pub safety_form : Option Safety → Form → Form
 safety_form None f = f
 safety_form (Some s) f = Piece (safety_word s ∷ Blank ∷ []) f
 
--- A function is said to be safe in a foreign block alone.
+-- Only a function in a foreign block may be marked `safe`.
 abbrev pub may_say : Site → Option Safety → Bool
 may_say site.Foreign s = true
 may_say _ (Some safety.Safe) = false
@@ -131,7 +132,7 @@ abbrev pub is_fn_head : Site → FnHead → Bool
 is_fn_head site h =
     may_say site h.safety && is_abi h.abi && is_name h.name.raw h.name.text && is_generics h.generics && are_fn_params h.params && may_be_type h.output
 
--- No return type follows where there is none.
+-- Where there is no return type, no `->` may follow.
 abbrev pub output_follows : Option Ty → Tokens → Bool
 output_follows None ts = not (is_op (codes "->") ts)
 output_follows (Some x) ts = type_follows Bounds (about_type x) ts

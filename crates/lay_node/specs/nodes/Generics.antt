@@ -1,4 +1,5 @@
--- Generic parameters (Rust Reference, "Generic parameters").
+-- Generic parameters: when they are well formed, their forms, and what may follow (Rust Reference,
+-- "Generic parameters").
 use Rattle.std.specs.Prelude.{ℕ, ◌&&◌, ◌||◌, not, Bool, true, false, List, [], ◌∷◌, map, codes, Option, Some, None}
 use Rattle.std.specs.List.{list_all}
 use Rattle.lay_form.specs.Form.{Blank, Form, Done, Piece, Part, Optional, keyword}
@@ -22,7 +23,7 @@ abbrev pub bounded_form : List Bound → Form
 bounded_form [] = idle_colon
 bounded_form (b ∷ bs) = Piece colon (Part (bounds_form (map about_bound (b ∷ bs))) Done)
 
--- none, or well formed ones
+-- no bounds, or well-formed ones
 abbrev pub are_bounds : List Bound → Bool
 are_bounds [] = true
 are_bounds (b ∷ bs) = bounds_good (map about_bound (b ∷ bs))
@@ -65,7 +66,7 @@ is_generics generics = list_all is_param generics.params
 abbrev pub params_list : Generics → Form
 params_list generics = comma_list true less greater (map param_form generics.params)
 
--- Parameters in `<` and `>`. Without parameters it is nothing, for which `<>` may be spelled.
+-- The parameters in `<` and `>`. Without parameters nothing is laid out, and `<>` may be spelled.
 abbrev pub generics_form : Generics → Form
 generics_form generics = by generics.params
   where
@@ -73,12 +74,12 @@ generics_form generics = by generics.params
     by [] = Optional false (less ∷ greater ∷ []) Done
     by (p ∷ ps) = params_list generics
 
--- the same, spelled with `<` and `>` or as nothing
+-- the same, by whether `<` and `>` are spelled
 abbrev pub generics_spelled : Bool → Generics → Form
 generics_spelled true generics = params_list generics
 generics_spelled false generics = Done
 
--- Nothing isn't followed by `<`.
+-- Where `<` and `>` aren't spelled, no `<` may follow.
 abbrev pub generics_follow : Bool → Tokens → Bool
 generics_follow is_spelled ts = is_spelled || not (first (is_mark (codes "<")) ts)
 
@@ -87,6 +88,7 @@ GenericsAt is_spelled generics ts n depth =
     spelled.Front (deeper (generics_spelled is_spelled generics)) ((is_spelled || not (is_there generics.params)) && is_generics generics)
     (generics_follow is_spelled) ts n depth
 
--- Generic parameters by themselves stand at the beginning of the tokens, spelled in one of the two ways.
+-- Generic parameters by themselves stand at the start of the tokens, spelled in one of the two
+-- ways.
 abbrev pub GenericsFront : Generics → Tokens → ℕ → ℕ → Type 0
 GenericsFront generics ts n depth = (is_spelled : Bool) × GenericsAt is_spelled generics ts n depth

@@ -1,4 +1,5 @@
--- The heads of items, and the items that are heads alone (Rust Reference, "Items").
+-- The heads of items, and the items that are heads alone: when they are well formed, and their
+-- forms (Rust Reference, "Items").
 use Rattle.std.specs.Prelude.{ℕ, ◌&&◌, ◌||◌, not, Bool, true, false, List, [], ◌∷◌, map, codes, Option, Some, None, is_some}
 use Rattle.std.specs.List.{list_all}
 use Rattle.lay_piece.specs.declared.kind.Delim.TheVariants.{Brace}
@@ -50,13 +51,13 @@ use Rattle.lay_node.specs.declared.types.Ty.{Ty}
 use Rattle.lay_node.specs.declared.types.TypePlace.TheVariants.{Bounds}
 use Rattle.lay_node.specs.declared.vis.Vis.{Vis}
 
--- The facts about what an item is: its head, which the layout keeps in a group of its own, and the rest.
+-- The facts about an item: its head, which is a group of its own in the layout, and the rest.
 pub record HeadFacts : Type 0 where
   pub head : Form
   pub tail : Form
   pub good : Bool
 
--- By itself it ends in a `;` or in a `}`, so anything may follow it.
+-- The item by itself. It ends in a `;` or a `}`, so anything may follow it.
 abbrev pub headed : HeadFacts → Told
 headed x = record { form = notation.I0 x.head x.tail; good = x.good; follows = λ ts. true }
 
@@ -64,11 +65,11 @@ headed x = record { form = notation.I0 x.head x.tail; good = x.good; follows = �
 abbrev pub seen : Vis → HeadFacts → Form
 seen v x = notation.I0 (Part (vis_form v) x.head) x.tail
 
--- Braces after a where clause that is there have no leading blank.
+-- Braces have a leading blank only where no predicates of a where clause stand before them.
 abbrev pub leads : Wheres → Bool
 leads wheres = not (is_there wheres.predicates)
 
--- what a word and a name begin, with generic parameters after the name
+-- a keyword, a name and its generic parameters, and then the form `f`
 abbrev pub called : List ℕ → Bool → List ℕ → Generics → Form → Form
 called word raw text generics f = Piece (keyword word ∷ Blank ∷ []) (leaf_of raw text (Part (generics_form generics) f))
 
@@ -87,7 +88,7 @@ about_extern_crate x = record {
 
 -- ---- types with a name
 
--- A type is given to an alias but in a trait, where it may be, and in a foreign block, where it isn't.
+-- An alias has a type. In a trait it may have none, and in a foreign block it has none.
 abbrev pub may_be_given : Site → Option Ty → Bool
 may_be_given site.Module x = is_some x
 may_be_given site.Member x = is_some x
@@ -103,7 +104,7 @@ about_alias site x = record {
 
 -- ---- structs, unions and enumerations
 
--- Fields without names belong to the head.
+-- Tuple fields belong to the head.
 abbrev pub head_fields : Fields → Form
 head_fields (fields.Tuple fs) = tuple_form fs
 head_fields _ = Done
@@ -166,8 +167,8 @@ trait_head_form x = unsafe_form x.is_unsafe (called (codes "trait") x.name.raw x
 abbrev pub is_trait_head : TraitHead → Bool
 is_trait_head x = is_name x.name.raw x.name.text && is_generics x.generics && are_bounds x.bounds
 
--- By itself the spelling tells what it ends in: generic parameters that are none are spelled or not, and so is a `:`
--- before no bounds.
+-- By itself the spelling of a head says what it ends in. Generic parameters without elements may be
+-- spelled or not, and so may a `:` without bounds.
 abbrev pub bounds_spelled : Bool → List Bound → Form
 bounds_spelled with_colon [] = when with_colon (Operator (codes ":") ∷ []) Done
 bounds_spelled with_colon (b ∷ bs) = bounded_form (b ∷ bs)
@@ -177,7 +178,7 @@ trait_head_spelled with_generics with_colon x = unsafe_form x.is_unsafe
     (Piece (keyword (codes "trait") ∷ Blank ∷ []) (leaf_of x.name.raw x.name.text
     (Part (generics_spelled with_generics x.generics) (Part (bounds_spelled with_colon x.bounds) Done))))
 
--- What is there is spelled.
+-- What is there is spelled; what isn't may be.
 abbrev pub tells : {A : Type 0} → Bool → List A → Bool
 tells is_spelled xs = is_spelled || not (is_there xs)
 
@@ -186,7 +187,7 @@ bounds_end with_generics with_colon (b ∷ bs) ts = bounds_follow (b ∷ bs) ts
 bounds_end with_generics true [] ts = not (begins_bound ts)
 bounds_end with_generics false [] ts = not (is_op (codes ":") ts) && generics_follow with_generics ts
 
--- a head that is spelled so
+-- a head, with whether `<` and `>` are spelled, and whether a `:` is
 abbrev pub about_trait_head : TraitHead × (Bool × Bool) → Told
 about_trait_head x = record {
   form = trait_head_spelled x.1.0 x.1.1 x.0;

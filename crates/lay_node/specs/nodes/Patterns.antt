@@ -1,4 +1,5 @@
--- Patterns (Rust Reference, "Patterns").
+-- Patterns: when they are well formed, their forms, and what may follow (Rust Reference,
+-- "Patterns").
 use Rattle.std.specs.Prelude.{ℕ, ◌&&◌, ◌||◌, not, Bool, true, false, List, [], ◌∷◌, ◌++◌, map, codes, Option, Some, None, is_some}
 use Rattle.std.specs.List.{list_all}
 use Rattle.std.specs.Str.{bytes_eq}
@@ -70,15 +71,15 @@ abbrev pub last_end_refuses : Option SpanEnd → List Begin
 last_end_refuses None = []
 last_end_refuses (Some e) = end_refuses e
 
--- One end at least, and after `..=` the last one.
+-- A span has at least one end, and after `..=` its last one.
 abbrev pub has_ends : Option SpanEnd → Bool → Option SpanEnd → Bool
 has_ends start inclusive end = (is_some start || is_some end) && (not inclusive || is_some end)
 
--- `self` by itself is no pattern.
+-- the word `self`, which by itself is no pattern
 abbrev pub is_self : Word → Bool
 is_self w = not w.raw && bytes_eq w.text (codes "self")
 
--- A name by itself is bound, and is no path.
+-- A name by itself is bound, so it is no path. `self` by itself is none either.
 abbrev pub may_be_path : Option Word → Bool
 may_be_path None = true
 may_be_path (Some w) = not (is_name w.raw w.text) && not (is_self w)
@@ -123,13 +124,13 @@ abbrev pub pat_good : PatPlace → PatFacts → Bool
 pat_good Alternatives x = x.told.good
 pat_good Single x = x.told.good && not x.several
 
--- A pattern isn't followed by what goes on with one, nor by the last part of its own that is left out: an end after its
--- `..`, or an `@` after a name.
+-- What may follow a pattern: nothing that would continue it, and no last part of its own that was
+-- left out. Such a part is an end after its `..`, or an `@` after a name.
 abbrev pub single_follows : PatFacts → Tokens → Bool
 single_follows x ts =
     not (goes_on_pattern ts) && not (x.lacks_end && begins_span_end ts) && not (x.lacks_bound && is_op (codes "@") ts) && may_follow x.told.refuses ts
 
--- Where alternatives may stand, no bar follows them.
+-- Where alternatives may stand, no bar may follow them.
 abbrev pub pat_follows : PatPlace → PatFacts → Tokens → Bool
 pat_follows Alternatives x ts = not (is_op (codes "|") ts) && single_follows x ts
 pat_follows Single x ts = single_follows x ts
@@ -143,7 +144,7 @@ all_pats_good place xs = list_all (pat_good place) xs
 abbrev pub all_told : List PatFacts → List Facts
 all_told xs = map (λ (x : PatFacts). x.told) xs
 
--- what is told so of the last of them
+-- whether it holds of the last pattern
 abbrev pub of_last : (PatFacts → Bool) → List PatFacts → Bool
 of_last p [] = false
 of_last p (x ∷ []) = p x
@@ -199,7 +200,7 @@ abbrev pub bound_lacks_bound : Option PatFacts → Bool
 bound_lacks_bound None = true
 bound_lacks_bound (Some x) = x.lacks_bound
 
--- One element has its comma, but `..` alone has none.
+-- A tuple of one element has a comma after it, but one of `..` alone has none.
 abbrev pub one_form : Bool → PatFacts → Form
 one_form true x = Piece (opener Paren ∷ []) (Part (pat_form Alternatives x) (piece (closer Paren ∷ [])))
 one_form false x = Piece (opener Paren ∷ []) (Part (pat_form Alternatives x) (piece (punct char.comma ∷ closer Paren ∷ [])))
@@ -268,6 +269,6 @@ about_field_pat = fold-FieldPat Facts PatFacts field_facts pat_facts
 
 -- ---- beginnings
 
--- A pattern with these facts stands at the beginning of the tokens, at the place.
+-- A pattern with these facts stands at the start of the tokens, at the place.
 abbrev pub PatFront : PatPlace → PatFacts → Tokens → ℕ → ℕ → Type 0
 PatFront place x ts n depth = spelled.Front (pat_form place x) (pat_good place x) (pat_follows place x) ts n depth

@@ -1,4 +1,5 @@
--- Paths of words alone (Rust Reference, "Simple paths").
+-- Simple paths, which are words alone: when they are well formed, and their forms (Rust Reference,
+-- "Simple paths").
 use Rattle.std.specs.Prelude.{Bool, false, List, [], ◌∷◌}
 use Rattle.lay_form.specs.Form.{Form, Done, Piece}
 use Rattle.lay_form.specs.Notation.{when}
@@ -8,7 +9,7 @@ use Rattle.lay_node.specs.nodes.Facts.{Facts}
 use Rattle.lay_node.specs.declared.simple_path.SimplePath.{SimplePath}
 use Rattle.lay_node.specs.declared.token.Word.{Word}
 
--- at least one
+-- at least one word, each a word of a path
 abbrev pub are_simple_words : List Word → Bool
 are_simple_words [] = false
 are_simple_words (w ∷ more) = are_path_words (w ∷ more)

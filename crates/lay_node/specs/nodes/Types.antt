@@ -1,4 +1,5 @@
--- Types, paths with generic arguments, and bounds (Rust Reference, "Types", "Paths", "Trait and lifetime bounds").
+-- Types, paths with generic arguments, and bounds: when they are well formed, their forms, and what
+-- may follow (Rust Reference, "Types", "Paths", "Trait and lifetime bounds").
 use Rattle.std.specs.Prelude.{ℕ, ◌&&◌, ◌||◌, not, Bool, true, false, if◌then◌else◌, List, [], ◌∷◌, ◌++◌, map, codes, Option, Some, None, is_some}
 use Rattle.std.specs.List.{list_all}
 use Rattle.std.specs.Str.{bytes_eq}
@@ -48,7 +49,7 @@ use Rattle.lay_node.specs.declared.types.TypePlace.TheVariants.{Bounds, NoBounds
 
 -- ---- parts with no types within them
 
--- parts, and what leads to each further one
+-- parts, each but the first with what leads to it
 abbrev pub joined : (Form → Form) → List Form → Form
 joined lead [] = Done
 joined lead (e ∷ es) = Part e (each lead es)
@@ -63,7 +64,7 @@ greater = Fixed kind.Punct (codes ">")
 abbrev pub colon : List Bit
 colon = Operator (codes ":") ∷ Blank ∷ []
 
--- a `:` that may be spelled before nothing
+-- a `:` that may be spelled before nothing, and isn't laid out
 abbrev pub idle_colon : Form
 idle_colon = Optional false (Operator (codes ":") ∷ []) Done
 
@@ -137,7 +138,7 @@ abbrev pub is_given : GivenName → Bool
 is_given (given.Name name) = is_name name.raw name.text
 is_given given.Underscore = true
 
--- A name may be captured, and `Self`, but no other word of a path.
+-- A word may be captured if it is a name or `Self`.
 abbrev pub is_captured : Word → Bool
 is_captured w = is_name w.raw w.text || bytes_eq w.text (codes "Self")
 
@@ -156,7 +157,7 @@ captures_form captured = Piece (keyword (codes "use") ∷ []) (Part (comma_list 
 
 pub record TypeFacts : Type 0 where
   pub told : Facts
-  -- It is bounds: where several may stand, a `+` would make it longer.
+  -- It is bounds: a `+` would make it longer where several may stand.
   pub bounded : Bool
   -- It is several bounds, which stand where several may.
   pub several : Bool
@@ -303,7 +304,8 @@ segments_form style (s ∷ t ∷ more) = segment_form style s (Piece colons (seg
 abbrev pub segment_good : PathStyle → Word × ArgsFacts → Bool
 segment_good style s = is_path_word s.0.raw s.0.text && (in_style style s.1).good
 
--- At least one. A return type stands on the last one alone, since what follows it would belong to the type.
+-- At least one segment. Only the last one may have a return type, since what follows that type
+-- would belong to it.
 abbrev pub segments_good : PathStyle → List (Word × ArgsFacts) → Bool
 segments_good style [] = false
 segments_good style (s ∷ []) = segment_good style s
@@ -365,7 +367,7 @@ abbrev pub bounds_word : Bool → Bit
 bounds_word true = keyword (codes "dyn")
 bounds_word false = keyword (codes "impl")
 
--- what a parameter of a function type is called
+-- the name of a parameter of a function type, if it has one
 abbrev pub param_name : Option GivenName → Form → Form
 param_name None f = f
 param_name (Some name) f = given_form name (Piece colon f)
@@ -381,7 +383,7 @@ func_param_facts p = record {
   refuses = p.ty.told.refuses;
 }
 
--- the `...` of a function type that takes further arguments, after which no comma stands
+-- the `...` of a variadic function type; no comma stands after it
 abbrev pub dots : Bool → List Form
 dots true = piece (Operator (codes "...") ∷ []) ∷ []
 dots false = []
@@ -468,20 +470,20 @@ about_func_param = fold-FuncParam Facts ArgsFacts Facts Facts Facts TypeFacts Fa
 
 -- ---- beginnings
 
--- Where several bounds may stand, no `+` follows bounds.
+-- Where several bounds may stand, no `+` may follow bounds.
 abbrev pub type_follows : TypePlace → TypeFacts → Tokens → Bool
 type_follows Bounds x ts = not (x.bounded && is_op (codes "+") ts) && may_follow x.told.refuses ts
 type_follows NoBounds x ts = may_follow x.told.refuses ts
 
--- A type with these facts stands at the beginning of the tokens, at the place.
+-- A type with these facts stands at the start of the tokens, at the place.
 abbrev pub TypeFront : TypePlace → TypeFacts → Tokens → ℕ → ℕ → Type 0
 TypeFront place x ts n depth = spelled.Front x.told.form (good_at place x) (type_follows place x) ts n depth
 
--- A node that isn't counted, read by itself, has what is within it one level deeper.
+-- A node that isn't counted, parsed by itself: what is within it is one level deeper.
 abbrev pub alone : Facts → Facts
 alone x = record { form = deeper x.form; good = x.good; refuses = x.refuses }
 
--- Bounds by themselves: as many as there are.
+-- What may follow bounds by themselves: no `+`, since it would add a bound.
 abbrev pub bounds_follow : List Bound → Tokens → Bool
 bounds_follow bounds ts = not (is_op (codes "+") ts) && may_follow (last_refuses (map about_bound bounds)) ts
 

@@ -1,4 +1,5 @@
--- Use trees (Rust Reference, "Use declarations").
+-- Use trees: when they are well formed, their forms, and what may follow (Rust Reference, "Use
+-- declarations").
 use Rattle.std.specs.Prelude.{Bool, true, ◌&&◌, List, [], ◌∷◌, codes, Option, Some, None}
 use Rattle.lay_piece.specs.declared.kind.Delim.TheVariants.{Brace}
 use Rattle.lay_piece.specs.declared.kind.Kind.TheVariants.{Underscore}

@@ -1,4 +1,5 @@
--- Visibilities (Rust Reference, "Visibility and privacy").
+-- Visibilities: when they are well formed, their forms, and what may follow (Rust Reference,
+-- "Visibility and privacy").
 use Rattle.std.specs.Prelude.{ℕ, ◌&&◌, ◌||◌, not, Bool, true, false, List, [], ◌∷◌, codes, Option, Some, None}
 use Rattle.lay_piece.specs.declared.kind.Delim.TheVariants.{Paren}
 use Rattle.lay_form.specs.Form.{Bit, Blank, Form, Done, Piece, Part, keyword, opener, closer}
@@ -51,7 +52,7 @@ abbrev pub restricts : Tokens → Bool
 restricts ts =
     restricts_to (codes "crate") ts || (restricts_to (codes "self") ts || (restricts_to (codes "super") ts || restricts_in ts))
 
--- Where nothing stands no `pub` follows, and after `pub` no restriction.
+-- After no visibility no `pub` may follow, and after `pub` no restriction.
 abbrev pub vis_follows : Vis → Tokens → Bool
 vis_follows vis.Inherited ts = not (first (is_keyword (codes "pub")) ts)
 vis_follows vis.Public ts = not (restricts ts)

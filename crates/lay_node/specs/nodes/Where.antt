@@ -1,4 +1,5 @@
--- Where clauses (Rust Reference, "Where clauses").
+-- Where clauses: when they are well formed, their forms, and what may follow (Rust Reference,
+-- "Where clauses").
 use Rattle.std.specs.Prelude.{ℕ, ◌&&◌, ◌||◌, not, Bool, true, List, [], ◌∷◌, map, codes, is_some}
 use Rattle.std.specs.List.{list_all}
 use Rattle.lay_token.specs.Operators.{is_op}
@@ -38,7 +39,8 @@ is_predicate (predicate.Region l ls) = true
 is_predicate (predicate.Bounded binder x bs) =
     is_binder binder && good_at Bounds (about_type x) && (is_some binder || not (about_type x).binds) && are_bounds bs
 
--- what follows a predicate: no lifetime, or bound, where there is none, and else nothing that goes on with the last one
+-- what may follow a predicate: without lifetimes or bounds none of these; else nothing that
+-- continues the last one
 abbrev pub outlives_follow : List Lifetime → Tokens → Bool
 outlives_follow [] ts = not (first is_lifetime ts)
 outlives_follow (l ∷ ls) ts = not (is_op (codes "+") ts)
@@ -56,7 +58,8 @@ last_predicate_follow [] ts = true
 last_predicate_follow (p ∷ []) ts = predicate_follow p ts
 last_predicate_follow (p ∷ q ∷ ps) ts = last_predicate_follow (q ∷ ps) ts
 
--- what would go on with a where clause whose last part, a comma or a `where` before no predicates, is left out
+-- what would continue a where clause whose last part is left out: a comma, or a `where` before no
+-- predicates
 abbrev pub begins_last_part : List Predicate → Tokens → Bool
 begins_last_part [] ts = first (is_keyword (codes "where")) ts
 begins_last_part (p ∷ ps) ts = first (is_mark (codes ",")) ts || not (last_predicate_follow (p ∷ ps) ts)
@@ -71,7 +74,8 @@ wheres_before_body wheres = where_body (map predicate_form wheres.predicates)
 abbrev pub wheres_before_semicolon : Wheres → Form
 wheres_before_semicolon wheres = where_semicolon (map predicate_form wheres.predicates)
 
--- A where clause by itself stands at the beginning of the tokens, spelled with its last part or without it.
+-- A where clause by itself stands at the start of the tokens. `last` says that its last part is
+-- spelled.
 abbrev pub WheresAt : Bool → Wheres → Tokens → ℕ → ℕ → Type 0
 WheresAt last wheres ts n depth =
     spelled.Front (deeper (wheres_spelled last (map predicate_form wheres.predicates))) (are_predicates wheres)

@@ -1,4 +1,4 @@
--- Reading attributes.
+-- The parser of attributes.
 use Rattle.std.specs.Prelude.{ℕ, ◌&&◌, ◌||◌, Bool, true, false, if◌then◌else◌, List, [], ◌∷◌, drop, codes, encode_utf8_all, Option, Some, None}
 use Rattle.lay_token.specs.Delimiters.{is_opener}
 use Rattle.lay_token.specs.Operators.{is_op}
@@ -39,7 +39,7 @@ meta_input ts =
     if is_op (codes "=") ts then value ts
     else (if first begins_group ts then grouped ts else Some (input.Bare, ts))
 
--- documentation where the value can be written as such, and else another attribute
+-- documentation, if the value can be written as such; else the other attribute
 abbrev pub doc_or : Bool → Option (List ℕ) → Attr → Attr
 doc_or inner None other = other
 doc_or inner (Some value) other =
@@ -52,7 +52,7 @@ made inner path (input.Value us) =
     else attr.Meta inner path (input.Value us)
 made inner path given = attr.Meta inner path given
 
--- what follows `#[`, or after `#![` of an inner attribute
+-- what follows `#[`, or `#![` of an inner attribute
 abbrev pub behind_opening : Bool → Tokens → Option Tokens
 behind_opening false ts = do mark ← passed (is_mark (codes "#")) ts; passed (opens Bracket) mark
 behind_opening true ts = do mark ← passed (is_mark (codes "#")) ts; bang ← passed (is_mark (codes "!")) mark; passed (opens Bracket) bang
@@ -79,7 +79,8 @@ doc_attr inner (t ∷ ts) = if is_doc_text inner t.text then Some (attr.Doc inne
 unfoldable pub attribute : Bool → Tokens → Got Attr
 attribute inner ts = if first (is_doc inner) ts then doc_attr inner ts else meta_attr inner ts
 
--- An attribute begins. An outer one is told from its first token, and an inner one from its first two.
+-- An attribute begins. The first token decides it for an outer one, and the first two for an inner
+-- one.
 abbrev pub begins_attr : Bool → Tokens → Bool
 begins_attr false ts = first (is_doc false) ts || first (is_mark (codes "#")) ts
 begins_attr true ts = first (is_doc true) ts || first (is_mark (codes "#")) ts && first (is_mark (codes "!")) (tail ts)

@@ -1,4 +1,4 @@
--- Reading macro calls.
+-- The parser of macro calls.
 use Rattle.std.specs.Prelude.{if◌then◌else◌, drop, codes, Option, Some, None}
 use Rattle.lay_token.specs.Operators.{is_op}
 use Rattle.lay_piece.specs.declared.kind.Delim.{Delim}

@@ -1,4 +1,4 @@
--- Reading fields, and the variants of enumerations.
+-- The parser of fields, and of the variants of enumerations.
 use Rattle.std.specs.Prelude.{false, if◌then◌else◌, List, drop, codes, Some, None}
 use Rattle.lay_token.specs.Operators.{is_op}
 use Rattle.lay_piece.specs.declared.kind.Delim.TheVariants.{Paren, Brace}

@@ -1,4 +1,4 @@
--- Reading the heads of functions.
+-- The parser of the heads of functions.
 use Rattle.std.specs.Prelude.{ℕ, zero, suc, max, ◌&&◌, ◌||◌, not, Bool, true, false, if◌then◌else◌, List, drop, codes, Option, Some, None}
 use Rattle.lay_token.specs.Operators.{is_op}
 use Rattle.lay_piece.specs.declared.kind.Delim.TheVariants.{Paren}
@@ -24,11 +24,11 @@ use Rattle.lay_node.specs.declared.patterns.PatPlace.TheVariants.{Single}
 use Rattle.lay_node.specs.declared.types.Ty.{Ty}
 use Rattle.lay_node.specs.declared.types.TypePlace.TheVariants.{Bounds}
 
--- what is within the heads of items at a budget
+-- the parsers of what is within the heads of items, by the budget
 abbrev pub insides : ℕ → PatWithin
 insides budget = record { pats = λ place ts. pat_at place budget ts; kinds = within budget }
 
--- a node with types and patterns within it, by itself: they are one level deeper
+-- a node with types and patterns within it, parsed by itself: they are one level deeper
 abbrev pub head_at : {A : Type 0} → (PatWithin → Tokens → Read A) → ℕ → Tokens → Read A
 head_at one zero ts = None
 head_at one (suc budget) ts = do x ← one (insides budget) ts; Some ((x.0.0, suc x.0.1), x.1)
@@ -58,7 +58,7 @@ begins_ref_self ts = first (is_mark (codes "&")) ts && is_self_by_ref (mut_flag 
 abbrev pub begins_own_self : Tokens → Bool
 begins_own_self ts = is_self_by_itself (mut_flag ts).1
 
--- after the `&`
+-- what follows the `&` of a receiver
 unfoldable pub ref_self : Tokens → Got ParamKind
 ref_self ts = do
   l ← if_there (first is_lifetime ts) lifetime ts
@@ -98,7 +98,7 @@ fn_param within ts = do
 abbrev pub begins_fn_param : Tokens → Bool
 begins_fn_param ts = not (first (closes Paren) ts)
 
--- They stand in order, and no comma stands after one that takes further arguments.
+-- Receivers and variadic parameters stand where they may, and no comma stands after a variadic one.
 abbrev pub are_in_order : List Param → Bool → Bool
 are_in_order ps comma = receives_first ps && varies_last ps && not (ends_variadic ps && comma)
 

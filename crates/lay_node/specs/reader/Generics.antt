@@ -1,4 +1,4 @@
--- Reading generic parameters.
+-- The parser of generic parameters.
 use Rattle.std.specs.Prelude.{ℕ, max, Bool, true, false, if◌then◌else◌, List, [], drop, codes, Some}
 use Rattle.lay_token.specs.Operators.{is_op}
 use Rattle.lay_node.specs.Ahead.{Tokens, first, tail, is_keyword, is_lifetime, is_mark}
@@ -16,15 +16,15 @@ use Rattle.lay_node.specs.declared.generics.Generics.{Generics}
 use Rattle.lay_node.specs.declared.types.Bound.{Bound}
 use Rattle.lay_node.specs.declared.types.TypePlace.TheVariants.{Bounds}
 
--- bounds after a `:`, none where none begins
+-- the bounds after a `:`; no bounds where none begins
 abbrev pub met : Within → Tokens → Read (List Bound)
 met within ts = if begins_bound ts then all_bounds within ts else Some (([], 0), ts)
 
--- what a parameter meets, if anything is said of it
+-- the bounds of a parameter, if a `:` stands there
 abbrev pub met_if : Within → Tokens → Read (List Bound)
 met_if within ts = if is_op (codes ":") ts then met within (drop 1 ts) else Some (([], 0), ts)
 
--- what follows the attributes
+-- a type parameter, after its attributes
 unfoldable pub type_param : Within → List Attr → Tokens → Read GenericParam
 type_param within attrs ts = do
   n ← name ts

@@ -1,4 +1,4 @@
--- Reading the heads of items, and the items that are heads alone.
+-- The parser of the heads of items, and of the items that are heads alone.
 use Rattle.std.specs.Prelude.{ℕ, max, ◌&&◌, ◌||◌, not, Bool, if◌then◌else◌, List, drop, codes, Option, Some, None}
 use Rattle.lay_token.specs.Operators.{is_op}
 use Rattle.lay_piece.specs.declared.kind.Delim.TheVariants.{Paren, Brace}
@@ -78,7 +78,7 @@ alias site within ts = do
 
 -- ---- structs, unions and enumerations
 
--- fields without names, a where clause and a `;`
+-- the rest of a struct with tuple fields: these, a where clause and a `;`
 abbrev pub tuple_struct : Within → (Name × Generics) × ℕ → Tokens → Read Struct
 tuple_struct within c ts = do
   fs ← tuple_fields within ts
@@ -86,7 +86,7 @@ tuple_struct within c ts = do
   rest ← semicolon w.1
   Some ((record { name = c.0.0; generics = c.0.1; fields = fields.Tuple fs.0.0; wheres = w.0.0.0 }, max c.1 (max fs.0.1 w.0.1)), rest)
 
--- after a where clause fields with names, or a `;`
+-- the rest of another struct: a where clause, and then named fields or a `;`
 abbrev pub other_struct : Within → (Name × Generics) × ℕ → Tokens → Read Struct
 other_struct within c ts = do
   w ← wheres within ts
@@ -159,7 +159,7 @@ trait_head within ts = do
 
 -- ---- implementations
 
--- where a path and `for` are found, the trait that is implemented
+-- the trait that is implemented, if a path and `for` are found
 abbrev pub trait_found : Bool → Tokens → Got (Path × ℕ) → Read (Option TraitRef)
 trait_found negative ts None = Some ((None, 0), ts)
 trait_found negative ts (Some p) =
@@ -171,7 +171,7 @@ unfoldable pub trait_ref : Within → Tokens → Read (Option TraitRef)
 trait_ref within ts =
     trait_found (flag (is_mark (codes "!")) ts).0 ts (path within InKind (flag (is_mark (codes "!")) ts).1)
 
--- Generic parameters that are none aren't followed by a `<`.
+-- Where no generic parameters are spelled, no `<` may follow.
 unfoldable pub impl_head : Within → Tokens → Read ImplHead
 impl_head within ts = do
   behind ← passed (is_keyword (codes "impl")) (unsafe_flag ts).1

@@ -1,15 +1,16 @@
--- What a reading gives, and the loops of all readers: parts as long as a test holds, and elements with commas, in delimiters
--- or not.
+-- The result of a parser, and the loops that all parsers use: parts as long as a test holds, and
+-- elements with commas, in delimiters or not.
 use Rattle.std.specs.Prelude.{ℕ, zero, suc, max, Bool, true, false, if◌then◌else◌, List, [], ◌∷◌, ◌++◌, length, map, codes, Option, Some, None, option_and_then}
 use Rattle.lay_token.specs.declared.token.Token.{Token}
 use Rattle.lay_node.specs.Ahead.{Tokens, first, tail, is_mark}
 
--- what was read, and what is left
+-- what was parsed, and the tokens after it
 abbrev pub Got : Type 0 → Type 0
 Got A = Option (A × Tokens)
 
--- A node with nodes within it is read within a budget, one less for each level, which bounds the recursion. It is handed
--- back with the least depth that its spelling needs, since the depth at which it stands may not be known yet.
+-- A node with nodes within it is parsed within a budget, which bounds the recursion: each level
+-- takes one. The result holds the least depth that the spelling needs, since the depth at which the
+-- node stands may not be known yet.
 abbrev pub Read : Type 0 → Type 0
 Read A = Got (A × ℕ)
 
@@ -21,7 +22,7 @@ o >>= f = option_and_then f o
 abbrev pub passed : (Token → Bool) → Tokens → Option Tokens
 passed p ts = if first p ts then Some (tail ts) else None
 
--- the nodes that were read, and the greatest need of theirs
+-- the nodes that were parsed, and the greatest of their needs
 abbrev pub nodes : {A : Type 0} → List (A × ℕ) → List A
 nodes {A} read = map (λ (x : A × ℕ). x.0) read
 
@@ -29,8 +30,9 @@ abbrev pub deepest : {A : Type 0} → List (A × ℕ) → ℕ
 deepest [] = 0
 deepest (x ∷ xs) = max x.1 (deepest xs)
 
--- Parts as long as the test holds, after those that are found, in at most this many turns. In each loop every turn
--- but the last leaves fewer tokens, so more turns than there are tokens suffice.
+-- Parts are parsed as long as the test holds, after those already found, in at most this many
+-- turns. In each loop every turn but the last leaves fewer tokens, so more turns than there are
+-- tokens suffice.
 unfoldable pub repeat_from : {A : Type 0} → (Tokens → Bool) → (Tokens → Got A) → ℕ → List A → Tokens → Got (List A)
 repeat_from more one zero found ts = None
 repeat_from more one (suc n) found ts =
@@ -39,12 +41,12 @@ repeat_from more one (suc n) found ts =
 unfoldable pub repeat : {A : Type 0} → (Tokens → Bool) → (Tokens → Got A) → Tokens → Got (List A)
 repeat more one ts = repeat_from more one (suc (length ts)) [] ts
 
--- after an element of a list: a `,` is passed, and else what closes the list stands there
+-- what follows an element of a list: a `,` is passed; else what closes the list has to come next
 abbrev pub element_end : (Token → Bool) → Tokens → Option Tokens
 element_end closes ts =
     if first (is_mark (codes ",")) ts then Some (tail ts) else (if first closes ts then Some ts else None)
 
--- the elements of a list after those that are found, and what closes it
+-- the elements of a list after those already found, and then what closes the list
 unfoldable pub elements_from : {A : Type 0} → (Token → Bool) → (Tokens → Got A) → ℕ → List A → Tokens → Got (List A)
 elements_from closes one zero found ts = None
 elements_from closes one (suc n) found ts =
@@ -54,8 +56,8 @@ elements_from closes one (suc n) found ts =
 unfoldable pub elements : {A : Type 0} → (Token → Bool) → (Tokens → Got A) → Tokens → Got (List A)
 elements closes one ts = elements_from closes one (suc (length ts)) [] ts
 
--- Elements with commas that nothing closes, as long as one begins, after those that are found; and whether a `,` stands
--- after the last of them, or there is none.
+-- Elements with commas that nothing closes, as long as one begins, after those already found. The
+-- flag says that a `,` stands after the last of them, or that there is none.
 abbrev pub behind_open : {A : Type 0} → (Tokens → Got (List A × Bool)) → List A → Tokens → Got (List A × Bool)
 behind_open go_on found ts = if first (is_mark (codes ",")) ts then go_on (tail ts) else Some ((found, false), ts)
 

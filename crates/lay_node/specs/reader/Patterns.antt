@@ -1,4 +1,4 @@
--- Reading patterns.
+-- The parser of patterns.
 use Rattle.std.specs.Prelude.{ℕ, zero, suc, max, nat_le, ◌&&◌, ◌||◌, not, Bool, true, false, if◌then◌else◌, List, [], ◌∷◌, drop, codes, Option, Some, None}
 use Rattle.lay_token.specs.Operators.{is_op}
 use Rattle.lay_piece.specs.declared.kind.Delim.TheVariants.{Paren, Bracket, Brace}
@@ -31,7 +31,8 @@ use Rattle.lay_node.specs.declared.token.Word.{Word}
 use Rattle.lay_node.specs.declared.types.Path.{Path}
 use Rattle.lay_node.specs.declared.types.PathStyle.TheVariants.{Code}
 
--- How what is one level deeper is read: patterns, at a place, and the types and the arguments of paths.
+-- The parsers of what is one level deeper: patterns at a place, and the types and the arguments of
+-- paths.
 pub record PatWithin : Type 0 where
   pub pats : PatPlace → Tokens → Read Pat
   pub kinds : Within
@@ -56,7 +57,7 @@ abbrev pub open_span : Option SpanEnd → ℕ → Tokens → Read Pat
 open_span None need ts = Some ((pat.Rest, 1), ts)
 open_span (Some start) need ts = Some ((pat.Span (Some start) false None, suc need), ts)
 
--- what follows the `..` or `..=` of a span, whose first end needs so much
+-- what follows the `..` or `..=` of a span; `need` is the depth that its first end needs
 abbrev pub closed_span : Within → Option SpanEnd → ℕ → Bool → Tokens → Read Pat
 closed_span kinds start need inclusive ts = do
   e ← one_end kinds ts
@@ -76,7 +77,7 @@ value_pat kinds ts = do v ← value ts; value_by kinds v.0 v.1
 
 -- ---- names that are bound
 
--- No `::` and no `!` follows a name that is bound, with what it is bound to.
+-- A name that is bound, with what it is bound to. No `::` and no `!` may follow it.
 abbrev pub bound : Pat × ℕ → Tokens → Read Pat
 bound x ts = if is_op (codes "::") ts || is_op (codes "!") ts then None else Some (x, ts)
 
@@ -215,7 +216,7 @@ is_underscore_kind _ = false
 abbrev pub is_underscore : Token → Bool
 is_underscore t = is_underscore_kind t.kind
 
--- what begins with a word or with what a path begins with
+-- a pattern that begins with a word, or with what a path begins with
 abbrev pub word_led : PatWithin → Tokens → Read Pat
 word_led within ts =
     if begins_bind ts then marked_bind within ts else (if begins_call ts then call_pat ts else path_pat within ts)
@@ -230,7 +231,7 @@ pat_by within ts =
     else (if first (opens Bracket) ts then slice_pat within (tail ts)
     else word_led within ts)))))
 
--- What no pattern is followed by doesn't follow.
+-- The pattern, if nothing follows it that would continue it.
 abbrev pub ended : (Pat × ℕ) → Tokens → Read Pat
 ended x ts = if goes_on_pattern ts then None else Some (x, ts)
 

@@ -1,4 +1,4 @@
--- Reading simple paths.
+-- The parser of simple paths.
 use Rattle.std.specs.Prelude.{Bool, ◌∷◌, drop, codes, Some}
 use Rattle.lay_token.specs.Operators.{is_op}
 use Rattle.lay_node.specs.Ahead.{Tokens}

@@ -1,4 +1,4 @@
--- Reading token lists and groups.
+-- The parser of token lists and groups.
 use Rattle.std.specs.Prelude.{Bool, true, false, ◌||◌, if◌then◌else◌, List, [], ◌∷◌, map, codes, Some, None}
 use Rattle.std.specs.List.{list_all}
 use Rattle.lay_token.specs.Delimiters.{is_closer}
@@ -13,15 +13,15 @@ use Rattle.lay_node.specs.tokens.Listing.{as_listed, turned}
 use Rattle.lay_node.specs.declared.token.Listed.{Listed}
 use Rattle.lay_node.specs.declared.tokens.Group.{Group}
 
--- It closes the group that the run stands in, or is a comma where the run goes on to one, where these delimiters are open
--- in the run.
+-- The token ends a run, in which these delimiters are open. It closes the group that the run stands
+-- in, or it is a comma where the run goes up to one.
 abbrev pub ends_run : Bool → List Delim → Token → Bool
 ends_run false [] t = is_closer t.kind
 ends_run true [] t = is_closer t.kind || is_mark (codes ",") t
 ends_run to_comma (d ∷ within) t = false
 
--- the tokens up to the closer of the group that they stand in, to a comma if it is asked for, or to the end, where these
--- delimiters are open
+-- the tokens up to the closer of the group that they stand in, to a comma if asked for, or to the
+-- end; these delimiters are open
 unfoldable pub run : Bool → List Delim → Tokens → Got (List Token)
 run to_comma [] [] = Some ([], [])
 run to_comma (d ∷ within) [] = None
@@ -35,7 +35,7 @@ tokens_of to_comma ts = do
   r ← run to_comma [] ts
   if list_all may_be_laid (map as_listed r.0) then Some (map as_listed r.0, r.1) else None
 
--- the token list that stands there
+-- the token list at the start of the tokens
 abbrev pub tokens : Tokens → Got (List Listed)
 tokens ts = tokens_of false ts
 

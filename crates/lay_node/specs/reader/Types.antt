@@ -1,4 +1,4 @@
--- Reading types, paths with generic arguments, and bounds.
+-- The parser of types, paths with generic arguments, and bounds.
 use Rattle.std.specs.Prelude.{ℕ, zero, suc, max, ◌&&◌, ◌||◌, not, Bool, true, false, if◌then◌else◌, List, [], ◌∷◌, length, drop, codes, Option, Some, None}
 use Rattle.lay_token.specs.Operators.{is_op}
 use Rattle.lay_piece.specs.declared.kind.Delim.TheVariants.{Paren, Bracket, Brace}
@@ -49,7 +49,8 @@ use Rattle.lay_node.specs.declared.types.Ty.TheVariants as ty
 use Rattle.lay_node.specs.declared.types.TypePlace.{TypePlace}
 use Rattle.lay_node.specs.declared.types.TypePlace.TheVariants.{Bounds, NoBounds}
 
--- How what is one level deeper is read: types, at a place, and what is asked of a name among generic arguments.
+-- The parsers of what is one level deeper: types at a place, and what is asked of a name among
+-- generic arguments.
 pub record Within : Type 0 where
   pub types : TypePlace → Tokens → Read Ty
   pub constraints : Tokens → Read Constraint
@@ -64,7 +65,7 @@ operator op ts = if is_op op ts then Some (drop (length op) ts) else None
 abbrev pub flag : (Token → Bool) → Tokens → Bool × Tokens
 flag p ts = if first p ts then (true, tail ts) else (false, ts)
 
--- a part where this test holds
+-- a part, if the test holds
 abbrev pub if_there : {A : Type 0} → Bool → (Tokens → Got A) → Tokens → Got (Option A)
 if_there true one ts = do x ← one ts; Some (Some x.0, x.1)
 if_there false one ts = Some (None, ts)
@@ -82,7 +83,7 @@ unfoldable pub literal : (Token → Bool) → Tokens → Got Literal
 literal p [] = None
 literal p (t ∷ ts) = if p t then Some (record { kind = t.kind; text = t.text }, ts) else None
 
--- parts with an operator between them, one at least
+-- at least one part, with an operator between them
 unfoldable pub chain : {A : Type 0} → List ℕ → (Tokens → Got A) → Tokens → Got (List A)
 chain op one ts = do
   x ← one ts
@@ -93,11 +94,11 @@ chain op one ts = do
 abbrev pub lifetimes : Tokens → Got (List Lifetime)
 lifetimes ts = if first is_lifetime ts then chain (codes "+") lifetime ts else Some ([], ts)
 
--- what a lifetime outlives, if anything is said of it
+-- what a lifetime outlives, if a `:` stands there
 abbrev pub outlived : Tokens → Got (List Lifetime)
 outlived ts = if is_op (codes ":") ts then lifetimes (drop 1 ts) else Some ([], ts)
 
--- a lifetime that is a parameter, after its attributes
+-- a lifetime parameter, after its attributes
 unfoldable pub lifetime_behind : List Attr → Tokens → Got LifetimeParam
 lifetime_behind attrs ts = do
   l ← lifetime ts
@@ -170,7 +171,7 @@ named_path p = if starts_plain (out-PathStart p.start) then named_segments p.seg
 abbrev pub named_type : Ty → Option (Name × Args)
 named_type x = do p ← as_path x; named_path p
 
--- What is asked of a name is read after it, since a type may stand there as well.
+-- A constraint of a name is parsed after the name, since a type may stand there as well.
 abbrev pub begins_constraint : Tokens → Bool
 begins_constraint ts = is_op (codes "=") ts || is_op (codes ":") ts
 
@@ -280,7 +281,7 @@ one_bound within ts =
 abbrev pub all_bounds : Within → Tokens → Read (List Bound)
 all_bounds within ts = do xs ← chain (codes "+") (one_bound within) ts; Some ((nodes xs.0, deepest xs.0), xs.1)
 
--- as many as there are, or one alone
+-- all bounds where several may stand, or else one
 unfoldable pub bounds_by : Within → TypePlace → Tokens → Read (List Bound)
 bounds_by within Bounds ts = all_bounds within ts
 bounds_by within NoBounds ts = do x ← one_bound within ts; Some ((x.0.0 ∷ [], x.0.1), x.1)
@@ -425,7 +426,7 @@ type_by within place (Some OfImpl) ts = bounds_type within false place (tail ts)
 type_by within place (Some OfDyn) ts = bounds_type within true place (tail ts)
 type_by within place (Some OfFunc) ts = func_type within ts
 
--- what is read within a budget
+-- the parsers of what is within a node, by the budget
 unfoldable pub within : ℕ → Within
 within zero = record { types = λ place ts. None; constraints = λ ts. None }
 within (suc budget) = record {
@@ -438,7 +439,7 @@ type_at place budget ts = (within budget).types place ts
 
 -- ---- nodes that aren't counted, by themselves
 
--- What is within the node is one level deeper.
+-- A node parsed by itself: what is within it is one level deeper.
 abbrev pub alone_at : {A : Type 0} → (Within → Tokens → Read A) → ℕ → Tokens → Read A
 alone_at one zero ts = None
 alone_at one (suc budget) ts = do x ← one (within budget) ts; Some ((x.0.0, suc x.0.1), x.1)

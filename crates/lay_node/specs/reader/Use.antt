@@ -1,4 +1,4 @@
--- Reading use trees.
+-- The parser of use trees.
 use Rattle.std.specs.Prelude.{ℕ, zero, suc, if◌then◌else◌, drop, codes, Option, Some, None}
 use Rattle.lay_token.specs.Operators.{is_op}
 use Rattle.lay_piece.specs.declared.kind.Delim.TheVariants.{Brace}
@@ -27,7 +27,8 @@ use_end_by within ts =
     if first (opens Brace) ts then use_group within (tail ts)
     else (if is_op (codes "*") ts then Some ((use_end.Glob, 0), drop 1 ts) else use_word ts)
 
--- No `::` follows a use tree. What follows a word without another name is no `as`, since that would have been read.
+-- No `::` may follow a use tree. No `as` follows a word without another name, since it would have
+-- been parsed.
 abbrev pub ended : (UseTree × ℕ) → Tokens → Read UseTree
 ended tree ts = if begins_there OfColons ts then None else Some (tree, ts)
 

@@ -1,4 +1,4 @@
--- Reading visibilities.
+-- The parser of visibilities.
 use Rattle.std.specs.Prelude.{if◌then◌else◌, drop, codes, Some}
 use Rattle.lay_piece.specs.declared.kind.Delim.TheVariants.{Paren}
 use Rattle.lay_node.specs.Ahead.{Tokens, first, tail, is_keyword, closes}

@@ -1,4 +1,4 @@
--- Reading where clauses.
+-- The parser of where clauses.
 use Rattle.std.specs.Prelude.{ℕ, max, Bool, false, if◌then◌else◌, [], codes, Some}
 use Rattle.lay_node.specs.Ahead.{Tokens, first, tail, is_keyword, is_lifetime}
 use Rattle.lay_node.specs.Begins.{begins_predicate}

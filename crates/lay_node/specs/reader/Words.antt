@@ -1,4 +1,4 @@
--- Reading names and words.
+-- The parser of names and words.
 use Rattle.std.specs.Prelude.{ℕ, Bool, true, false, if◌then◌else◌, List, [], ◌∷◌, drop, codes, Option, Some, None, is_some}
 use Rattle.lay_token.specs.Operators.{is_op}
 use Rattle.lay_piece.specs.Word.{class_of}

@@ -1,4 +1,4 @@
--- Which token lists some text lexes to.
+-- Token lists that some text lexes to.
 use Rattle.std.specs.Prelude.{ℕ, ◌≡◌, Bool, true, List, [], ◌∷◌, ◌++◌, ◌&&◌, ◌||◌, not, codes, IsTrue, IsFalse, IsUtf8}
 use Rattle.std.specs.List.{list_all}
 use Rattle.std.specs.Str.{chars, is_utf8}
@@ -15,8 +15,8 @@ use Rattle.lay_node.specs.declared.token.Listed.TheVariants as listed
 
 -- ---- as a sentence
 
--- The token of a list is this one: by kind, text and joint mark, or, of documentation, by what it says something of and
--- by its text.
+-- The element of a token list is this token. They have the same kind, text and joint mark. For
+-- documentation they have the same text, and both are inner or both are outer.
 abbrev pub IsToken : Listed → Token → Type 0
 IsToken (listed.Token kind text joint) t = IsFalse (is_doc_kind kind) × (t.kind ≡ kind) × (t.text ≡ text) × (t.joint ≡ joint)
 IsToken (listed.Doc inner text) t = (block : Bool) × (t.kind ≡ Doc inner block) × (t.text ≡ text)
@@ -34,12 +34,12 @@ pub record ReadsTokens (bytes : List ℕ) (us : List Listed) : Type 0 where
   pub balanced : Balanced tokens
   pub same : AreTokens us tokens
 
--- Documentation has a text that it may be laid out with.
+-- Documentation has a text that can be laid out.
 abbrev pub may_be_laid : Listed → Bool
 may_be_laid (listed.Token kind text joint) = true
 may_be_laid (listed.Doc inner text) = is_doc_text inner text
 
--- Some text does, and documentation may be laid out.
+-- Some text lexes to the list, and its documentation can be laid out.
 pub record IsTokenList (us : List Listed) : Type 0 where
   pub bytes : List ℕ
   pub utf8 : IsUtf8 bytes
@@ -53,7 +53,7 @@ abbrev pub piece_of : Kind → List ℕ → List ℕ
 piece_of RawIdent text = codes "r#" ++ chars text
 piece_of kind text = chars text
 
--- The token is a piece of its kind, at a place where a number may be an index or not.
+-- The token is a piece of its kind; `place` says that a number may be a tuple index there.
 abbrev pub is_had : Bool → Listed → Bool
 is_had place (listed.Token kind text joint) = not (is_doc_kind kind) && is_utf8 text && had kind (piece_of kind text) [] place
 is_had place (listed.Doc inner text) = is_utf8 text

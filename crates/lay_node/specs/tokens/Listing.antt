@@ -1,4 +1,4 @@
--- The tokens of a token list: the facts about each, which lists are balanced, and their groups.
+-- The tokens of a token list: tests of each token, balanced lists, and groups by delimiters.
 use Rattle.std.specs.Prelude.{ℕ, Bool, true, false, cond, not, ◌&&◌, List, [], ◌∷◌, Option, Some, None}
 use Rattle.lay_piece.specs.Docs.{doc_form}
 use Rattle.lay_token.specs.Lexes.{is_punct}
@@ -36,7 +36,7 @@ abbrev pub is_doc : Listed → Bool
 is_doc (listed.Token kind text joint) = false
 is_doc (listed.Doc inner text) = true
 
--- The text is one that documentation can be written with.
+-- Documentation can be written with the text.
 abbrev pub has_form_of_doc : DocForm → Bool
 has_form_of_doc doc.Neither = false
 has_form_of_doc _ = true
@@ -54,7 +54,7 @@ abbrev pub listed_form : Listed → Form → Form
 listed_form (listed.Token kind text joint) f = form.Listed kind text joint f
 listed_form (listed.Doc inner text) f = form.ListedDoc inner text f
 
--- The token as it stands in a list. None but punctuation is joint.
+-- The token as an element of a list. Only punctuation is joint.
 abbrev pub listed_by : Kind → List ℕ → Bool → Listed
 listed_by (Doc inner block) text joint = listed.Doc inner text
 listed_by kind text joint = listed.Token kind text (is_punct kind && joint)
@@ -64,8 +64,8 @@ as_listed t = listed_by t.kind t.text t.joint
 
 -- ---- balance
 
--- The delimiters that are open after a token of this kind, the last one first, where these are open before it. After a
--- closer that isn't the last one's there are none.
+-- The delimiters that are open after a token of this kind, the last one first, by those open before
+-- it. None after a closer that doesn't match the last one.
 abbrev pub closed : Delim → List Delim → Option (List Delim)
 closed d [] = None
 closed d (e ∷ within) = cond (same_delim d e) (Some within) None
@@ -75,7 +75,7 @@ turned (Opener d) within = Some (d ∷ within)
 turned (Closer d) within = closed d within
 turned _ within = Some within
 
--- After the tokens no delimiter is open, where these are open before them.
+-- All delimiters are closed after the tokens; these are open before them.
 abbrev pub balances : List Delim → List Listed → Bool
 balances [] [] = true
 balances (d ∷ within) [] = false
@@ -92,8 +92,8 @@ pub data Grouping : Type 0 where
   OneToken : Listed → Grouping → Grouping
   OneGroup : Delim → Grouping → Grouping → Grouping
 
--- The tokens from a place on, up to the closer of the group that the place is in; and for each group that the place is
--- in, from the inside out, what follows it.
+-- The tokens from a place on. `grouping` goes up to the closer of the group that the place is in.
+-- `outer` is what follows each group that the place is in, from the inside out.
 pub record Nested : Type 0 where
   pub grouping : Grouping
   pub outer : List Grouping

@@ -1,4 +1,4 @@
--- The form of a token list, and of a group.
+-- The form of a token list, and the form of a group.
 use Rattle.std.specs.Prelude.{Bool, true, false, List, [], ◌∷◌}
 use Rattle.lay_piece.specs.declared.kind.Delim.{Delim}
 use Rattle.lay_piece.specs.declared.kind.Delim.TheVariants.{Brace}
@@ -18,8 +18,8 @@ closed_by true d f = H- f
 closed_by false Brace f = B- f
 closed_by false _ f = Z- f
 
--- A group with this form within it; the flag says that its last token is documentation on a line. Without tokens it is
--- one text.
+-- A group with the form `inner` within it. The flag says that its last token is documentation on a
+-- line. A group without tokens is one text.
 abbrev pub enclosed_form : Delim → Grouping → Bool → Form → Form → Form
 enclosed_form d NoMore line inner f = Piece (opener d ∷ closer d ∷ []) f
 enclosed_form d _ line inner f = C4 (Piece (opener d ∷ []) (opened_by d (I0 inner (closed_by line d (piece (closer d ∷ [])))))) f
@@ -32,7 +32,8 @@ form_of_grouping s (OneGroup d i r) = let last = seen_all (at_start s.count) i i
     (enclosed_form d i (is_line_doc last.last) (form_of_grouping (at_start s.count) i)
     (Part (form_of_grouping (behind_group d last.count) r) Done))
 
--- What ends a list: where its last token is documentation on a line, a newline, since no break of a group follows.
+-- The end of a list. After documentation on a line it is a newline, since no break of a group
+-- follows.
 abbrev pub ended_by : Bool → Form
 ended_by true = H Done
 ended_by false = Done
@@ -40,7 +41,7 @@ ended_by false = Done
 abbrev pub ends_in_line : List Listed → Bool
 ends_in_line ts = is_line_doc (seen_all (at_start 0) (in_groups ts)).last
 
--- TOK
+-- TOK: a token list
 abbrev pub token_list : List Listed → Form
 token_list ts = I4 (form_of_grouping (at_start 0) (in_groups ts)) (ended_by (ends_in_line ts))
 

@@ -1,4 +1,4 @@
--- What stands between two neighbours of a token list, by what stands before them.
+-- The break between two neighbours of a token list, decided by them and by what stands before them.
 use Rattle.std.specs.Prelude.{ℕ, zero, suc, ◌-◌, Bool, true, false, List, [], ◌∷◌, ◌&&◌, ◌||◌, not, cond, codes}
 use Rattle.std.specs.Str.{bytes_eq}
 use Rattle.lay_token.specs.Lexes.{is_punct}
@@ -17,7 +17,7 @@ use Rattle.lay_node.specs.declared.token.Listed.{Listed}
 
 -- ---- neighbours
 
--- a neighbour of a place: none, a single token, or a group in delimiters
+-- a neighbour of a place: nothing, a single token, or a group in delimiters
 pub data Neighbour : Type 0 where
   Nothing : Neighbour
   Single : Listed → Neighbour
@@ -82,7 +82,7 @@ abbrev pub is_paren : Neighbour → Bool
 is_paren (Enclosed Paren) = true
 is_paren _ = false
 
--- A number after these two may be an index: after a point, but not after `..`.
+-- A number after these two may be a tuple index: after a point, but not after `..`.
 abbrev pub is_index_place : Neighbour → Neighbour → Bool
 is_index_place before last = is_mark (codes ".") last && not (is_joint_mark (codes ".") before)
 
@@ -93,8 +93,9 @@ is_number place _ = false
 
 -- ---- what stands before a place
 
--- The last two neighbours; whether the last one stands where a number may be an index, whether it is a `<` of a
--- turbofish, and whether it is the `>` that closes one; and the turbofish's count.
+-- What the scan of a list knows: the last two neighbours, whether the last one stands where a
+-- number may be an index, whether it is a `<` of a turbofish, whether it is the `>` that closes
+-- one, and the turbofish's count.
 pub record Seen : Type 0 where
   pub before : Neighbour
   pub last : Neighbour
@@ -158,7 +159,7 @@ pub data Separation : Type 0 where
   SoftBreak : Separation
   HardBreak : Separation
 
--- the first row that fits
+-- the separation of the first row that fits; without one, a soft break
 abbrev pub first_row : List (Bool × Separation) → Separation
 first_row [] = SoftBreak
 first_row (r ∷ rs) = cond r.0 r.1 (first_row rs)

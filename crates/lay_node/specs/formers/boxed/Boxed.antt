@@ -1,5 +1,5 @@
--- How a `Boxed` holds its value, for types that hold boxes of themselves. The logic asks for these names: a box is seen
--- as its value, and std's box is all that it is made of.
+-- How a `Boxed` holds its value, for types that contain boxes of themselves. The logic asks for
+-- these names. A box is seen as its value, and it is stored as std's box.
 use mathlib.Core.Path.{refl}
 use mathlib.Core.List.{List}
 use mathlib.Core.Former.{Former, this, const, pair, via}
@@ -27,7 +27,7 @@ use Rattle.lay_node.specs.declared.boxed.Boxed.TheView.{view, invariant}
 use Rattle.lay_node.specs.contracts.boxed.Boxed as whole
 use Rattle.lay_node.specs.contracts.boxed.Boxed.TheInside as fields
 
--- what a box is made of, as clauses see it and as it is stored
+-- what a box is made of: as clauses see it, and as it is stored
 abbrev pub the_former : Former {0} → Former {0}
 the_former value = value
 
@@ -46,8 +46,8 @@ refilled place y = record { ptr = place.ptr; alloc = place.alloc; value = y }
 abbrev box_of : RattleType → RattleType
 box_of R = boxes.the_row R global.the_row ghosts
 
--- A box of a value of one type and a box of a value of another, alike as those values are, are stored alike: what a box
--- owns and lends goes by the layout of its value, and by what that value owns and lends.
+-- Two boxes with values of two types are stored alike, where their values are alike. What a box
+-- owns and lends depends on the layout of its value, and on what that value owns and lends.
 module _ (R S : RattleType) (h : R.Denot → S.Denot) where
   abbrev box_at : List Ty → (List Val → Fml) → (ℕ → ℕ → Lft → Fml) → RattleType
   box_at layout owns lends = box_of (one_value R layout owns lends gnil)
