@@ -1,19 +1,18 @@
--- What calls of an Emit do.
+-- The meaning of calls on an Emit: which tokens of layout they append, and how they fail.
 use Rattle.std.specs.Prelude.{◌≡◌, ℕ, ◌≤◌, List, ◌++◌, Result, Ok, Err}
 use Rattle.lay_layout.specs.declared.layout.Tok.{Tok}
 use Rattle.lay_layout.specs.Machine.{opened}
 
--- The content and the count of faults of what an Emit writes to.
+-- Where an Emit begins: the content of what it writes to, and the count of faults.
 pub record Start : Type 0 where
   pub content : List ℕ
   pub faults : ℕ
 
--- What can be said of an Emit S whose calls fail with F.
--- fed x start s: x began at this start, and was given the tokens s since. It is a relation, because a printer doesn't
--- keep what it has written.
--- groups x: how many groups are open. faults x: a count that never falls. failed x: a call has failed.
--- cause x e y: calls of which the last one answered e lead from x to y.
--- loans x: the loans that x holds: that of what it writes to, and those that this holds in turn.
+-- What the contracts can say of an Emit S whose calls fail with F. `fed x start s`: x began at this
+-- start, and was fed the tokens s since. It is a relation, because a printer doesn't keep what it
+-- has written. `groups x`: how many groups are open. `faults x`: a count that never falls. `failed
+-- x`: a call has failed. `cause x e y`: some calls lead from x to y, and the last one returned e.
+-- `loans x`: the loans that x holds: that of what it writes to, and those that this holds in turn.
 pub record Meanings (S F : Type 0) : Type 1 where
   pub fed : S → Start → List Tok → Type 0
   pub groups : S → ℕ
@@ -22,8 +21,8 @@ pub record Meanings (S F : Type 0) : Type 1 where
   pub cause : S → F → S → Type 0
   pub loans : S → List ℕ
 
--- Ok: the tokens ts were appended, whatever was fed before. What causes a later call to fail is a cause of the whole run
--- that begins with these calls.
+-- Ok: the tokens ts were appended, whatever was fed before. If a later call fails, its cause is
+-- also a cause of the whole run that begins with these calls.
 pub record Puts {S F : Type 0} (m : Meanings S F) (old : S) (ts : List Tok) (new : S) : Type 0 where
   pub appends : (start : Start) (s : List Tok) → m.fed old start s → m.fed new start (s ++ ts)
   pub level : m.groups new ≡ opened ts (m.groups old)
@@ -33,14 +32,14 @@ pub record Puts {S F : Type 0} (m : Meanings S F) (old : S) (ts : List Tok) (new
   pub failed_after : m.failed old → m.failed new
   pub same_loans : m.loans new ≡ m.loans old
 
--- some prefix of ts was appended
+-- a prefix of ts was appended
 pub record FedFront {S F : Type 0} (m : Meanings S F) (new : S) (start : Start) (s ts : List Tok) : Type 0 where
   pub front : List Tok
   pub back : List Tok
   pub both : front ++ back ≡ ts
   pub is_fed : m.fed new start (s ++ front)
 
--- Err: a prefix of the tokens ts was appended, there is a cause, and a call has failed.
+-- Err: a prefix of the tokens ts was appended, the fault has a cause, and a call has failed.
 pub record Stops {S F : Type 0} (m : Meanings S F) (old : S) (ts : List Tok) (fault : F) (new : S) : Type 0 where
   pub appends : (start : Start) (s : List Tok) → m.fed old start s → FedFront m new start s ts
   pub later : m.faults old ≤ m.faults new
@@ -48,7 +47,7 @@ pub record Stops {S F : Type 0} (m : Meanings S F) (old : S) (ts : List Tok) (fa
   pub has_failed : m.failed new
   pub same_loans : m.loans new ≡ m.loans old
 
--- Calls that are to append the tokens ts, from old to new, of which the last one answered r.
+-- Calls that should append the tokens ts lead from old to new, and the last one returned r.
 pub record Did {S F T : Type 0} (m : Meanings S F) (old : S) (ts : List Tok) (r : Result T F) (new : S) : Type 0 where
   pub puts : (x : T) → r ≡ Ok x → Puts m old ts new
   pub stops : (fault : F) → r ≡ Err fault → Stops m old ts fault new

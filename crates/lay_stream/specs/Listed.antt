@@ -1,10 +1,10 @@
--- A list of tokens as an Emit.
+-- A list of tokens as an Emit: it collects what it is fed.
 use Rattle.std.specs.Prelude.{◌≡◌, List, []}
 use Rattle.lay_layout.specs.declared.layout.Tok.{Tok}
 use Rattle.lay_layout.specs.Machine.{opened}
 use Rattle.lay_stream.specs.Fed.{Meanings}
 
--- A list was fed just itself. Of its failures nothing is said.
+-- The list is what was fed. Nothing is said of failures.
 abbrev pub list_meanings : (F : Type 0) → Meanings (List Tok) F
 list_meanings F = record {
   fed = λ list start s. list ≡ s;
