@@ -1,40 +1,40 @@
--- What contracts see of a ring and of marks.
+-- What contracts see of a ring of entries, and of a queue of marks.
 use Rattle.std.specs.Prelude.{◌≡◌, ℕ, zero, suc, ◌+◌, ◌-◌, ◌%◌, ◌^◌, List, [], ◌∷◌}
 use Rattle.lay_ring.specs.declared.entry.Size.{Size}
 use Rattle.lay_ring.specs.declared.entry.Size.TheVariants.{Unknown}
 use Rattle.lay_ring.specs.declared.entry.Entry.{Entry}
 
--- The entries of a ring, the number of the first one, and how many more there is room for.
+-- The entries of a ring, the number of the first one, and for how many more there is room.
 pub record Held : Type 0 where
   pub entries : List Entry
   pub first : ℕ
   pub spare : ℕ
 
--- The items of marks, the oldest first, and how many more there is room for.
+-- The marks, the oldest first, and for how many more there is room.
 pub record Marked (T : Type 0) : Type 0 where
   pub items : List T
   pub spare : ℕ
 
--- the number of the entry at a place, where the first one's is `first`
+-- the number of the entry at a place; that of the first entry is `first`
 abbrev pub number_of : ℕ → ℕ → ℕ
 number_of first place = (first + place) % 2 ^ 64
 
--- the place of the entry with a number, where the first one's is `first`
+-- the place of the entry with a number; that of the first entry is `first`
 abbrev pub place_of : ℕ → ℕ → ℕ
 place_of first number = (number + (2 ^ 64 - first)) % 2 ^ 64
 
--- the number of the first entry after one is taken, if there is one
+-- the number of the first entry after a pop; without an entry it stays
 abbrev pub number_after_pop : List Entry → ℕ → ℕ
 number_after_pop [] first = first
 number_after_pop (e ∷ es) first = number_of first 1
 
--- there is an entry at a place, and its size is unknown
+-- There is an entry at the place, and its size is unknown.
 abbrev pub IsUnknownAt : List Entry → ℕ → Type 0
 IsUnknownAt [] i = ⊥
 IsUnknownAt (e ∷ es) zero = e.size ≡ Unknown
 IsUnknownAt (e ∷ es) (suc i) = IsUnknownAt es i
 
--- the entry at a place gets a size
+-- the entries, where the one at the place gets this size
 abbrev pub sized_at : List Entry → ℕ → Size → List Entry
 sized_at [] i size = []
 sized_at (e ∷ es) zero size = record { tok = e.tok; size = size } ∷ es
