@@ -1,4 +1,4 @@
--- What has been written back of the sizes of entries.
+-- Sizes that are written back to the entries, when their measures end.
 use Rattle.std.specs.Prelude.{◌≡◌, ℕ, ◌<◌, ◌⊎◌, List, [], ◌∷◌, ◌++◌, map}
 use Rattle.lay_layout.specs.declared.layout.Tok.{Tok}
 use Rattle.lay_ring.specs.declared.entry.Size.{Size}
@@ -15,11 +15,12 @@ abbrev pub sizes_of : List Entry → List Size
 sizes_of [] = []
 sizes_of (e ∷ es) = e.size ∷ sizes_of es
 
--- there is no note, or the newest was made with fewer than cur groups open
+-- There is no note, or fewer than cur groups were open when the newest one was made.
 abbrev pub NoteKept : ℕ → List Note → Type 0
 NoteKept cur ms = (ms ≡ []) ⊎ ((before : List Note) × (m : Note) × (ms ≡ before ++ m ∷ []) × (m.level < cur))
 
--- some pops were made, from entries of tokens w: acc is the width since the newest note
+-- Some notes were popped, and the tokens of the entries are w. acc is the width since the newest
+-- note.
 pub record Left (w : List Tok) (first acc cur : ℕ) (entries : List Entry) (ms : List Note) : Type 0 where
   pub now : List Scan
   pub toks : toks_of entries ≡ w
@@ -27,7 +28,7 @@ pub record Left (w : List Tok) (first acc cur : ℕ) (entries : List Entry) (ms 
   pub stops : map stop now ≡ map stop (scans w)
   pub fits : Fits first acc cur cur now ms
 
--- all pops were made
+-- All notes to be popped were popped: no scan remains that a break stops.
 pub record Closed (w : List Tok) (first acc cur : ℕ) (entries : List Entry) (ms : List Note) : Type 0 where
   pub left : Left w first acc cur entries ms
   pub none : map stop left.now ≡ left.now

@@ -1,4 +1,4 @@
--- What calls of a queue do.
+-- The effect of a call on a queue.
 use Rattle.std.specs.Prelude.{◌≡◌, ℕ, ◌+◌, ◌^◌, ◌<◌, ◌≤◌, min, false, List, [], ◌∷◌, ◌++◌, length}
 use Rattle.lay_layout.specs.declared.layout.Tok.{Tok}
 use Rattle.lay_layout.specs.declared.layout.Tok.TheVariants as tok
@@ -10,11 +10,11 @@ use Rattle.lay_queue.specs.Scan.{text_length}
 use Rattle.lay_queue.specs.declared.queue.Queue.{Queue}
 use Rattle.lay_queue.specs.Closed.{toks_of}
 
--- how many tokens there is room for in the queue, with a note of each
+-- for how many more tokens the queue has room, each with a note
 abbrev pub room_in : Queue → ℕ
 room_in q = min q.ring.spare q.notes.spare
 
--- A token may come: there is room for it.
+-- A token may come: the queue isn't ended, and it has room.
 pub record Ready (q : Queue) : Type 0 where
   pub ended : q.ended ≡ false
   pub ring : 0 < q.ring.spare
@@ -23,12 +23,13 @@ pub record Ready (q : Queue) : Type 0 where
   pub few : q.waiting ≤ margin
   pub groups : q.groups + 1 < 2 ^ 64
 
--- A token but a break is added after the others, which stay as they are. A break may end the measures of others.
+-- A token other than a break is added after the entries, which stay as they are. A break may end
+-- the measures of others.
 abbrev pub IsAdded : Tok → (old new : List Entry) → Type 0
 IsAdded (tok.Break b) old new = Unit {0}
 IsAdded t old new = (size : Size) × (new ≡ old ++ record { tok = t; size = size } ∷ [])
 
--- A token came, and waits after the others.
+-- A token came, and its entry is the last one.
 pub record Comes (old new : Queue) (t : Tok) : Type 0 where
   pub toks : toks_of new.ring.entries ≡ toks_of old.ring.entries ++ t ∷ []
   pub added : IsAdded t old.ring.entries new.ring.entries
@@ -38,7 +39,7 @@ pub record Comes (old new : Queue) (t : Tok) : Type 0 where
   pub ended : new.ended ≡ false
   pub room : room_in old ≤ room_in new + 1
 
--- Only room was made.
+-- Only room was made. All else stays as it is.
 pub record Roomier (old new : Queue) : Type 0 where
   pub entries : new.ring.entries ≡ old.ring.entries
   pub first : new.ring.first ≡ old.ring.first
