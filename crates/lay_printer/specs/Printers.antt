@@ -1,4 +1,5 @@
--- What is known of a printer, and of a press.
+-- The meaning of a printer and of a press: which tokens they were fed, and how a call changes or
+-- fails them.
 use Rattle.std.specs.Prelude.{◌≡◌, ◌≢◌, ℕ, ◌+◌, ◌-◌, ◌%◌, ◌^◌, ◌<◌, ◌≤◌, ◌⊎◌, false}
 use Rattle.std.specs.Prelude.{List, [], ◌∷◌, ◌++◌, length, Option, Some, None, Result, Err, OnOk, IfErr}
 use Rattle.lay_layout.specs.declared.layout.Tok.{Tok}
@@ -14,39 +15,41 @@ use Rattle.lay_printer.specs.declared.engine.PrintError.{PrintError}
 use Rattle.lay_printer.specs.declared.engine.PrintError.TheVariants.{WriteFailed, NoMemory}
 use Rattle.lay_printer.specs.declared.press.Press.{Press}
 
--- the number of tokens that are printed
+-- how many tokens are printed
 abbrev pub at : List Tok → List Entry → ℕ
 at s es = length s - length es
 
--- The printer was fed the tokens s, over a sink that had the content, and hasn't failed. The number of its first entry
--- counts the tokens that are printed. Each End of s closes a group, and the groups that are open are those of s.
+-- The printer was fed the tokens s and hasn't failed. Its sink had this content before them. The
+-- number of the first entry counts the printed tokens. Each End of s closes a group, and the open
+-- groups are those of s.
 pub record Runs (c : Printing) (written : Option (List ℕ)) (content : List ℕ) (s : List Tok) : Type 0 where
   pub running : Running false c.entries c.line c.frames written content s
   pub counted : c.first ≡ at s c.entries % 2 ^ 64
   pub nested : IsNested 0 s
   pub level : c.groups ≡ opened s 0
 
--- A printer that has failed: what was written is a prefix of the text of s and any tokens that follow.
+-- A printer that failed: what was written is a prefix of the text of s and of whatever tokens
+-- follow.
 pub record Fails (written : Option (List ℕ)) (content : List ℕ) (s : List Tok) : Type 0 where
   pub nested : IsNested 0 s
   pub cut : Broken false written content s
 
--- a printer that may have failed was fed the tokens s
+-- The printer was fed the tokens s, and may have failed.
 abbrev pub FedBy : Option PrintError → Printing → Option (List ℕ) → List ℕ → List Tok → Type 0
 FedBy None c written content s = Runs c written content s
 FedBy (Some e) c written content s = Fails written content s
 
--- why a call failed
+-- The cause of a failed call.
 abbrev pub CauseOf : PrintError → ℕ → ℕ → Option PrintError → Type 0
 CauseOf WriteFailed before now failed = Rose before now ⊎ (failed ≡ Some WriteFailed)
 CauseOf NoMemory before now failed = Unit {0}
 
--- the count of faults never falls, and a write failed only where it rose
+-- The count of faults never falls, and a write failed only where it rose.
 pub record Blames {T : Type 0} (before now : ℕ) (result : Result T PrintError) : Type 0 where
   pub later : before ≤ now
   pub failed : IfErr result (λ e. e ≡ WriteFailed → Rose before now)
 
--- a call that failed, after one that failed or not: after one that failed the sink isn't written to
+-- The effect of a call that fails. If an earlier call failed, the sink isn't written to.
 abbrev pub LostBy : Option PrintError → Printing → Option (List ℕ) → Option (List ℕ) → Tok → Type 0
 LostBy None c was now t = (content : List ℕ) (s : List Tok) → Runs c was content s → Fails now content (s ++ t ∷ [])
 LostBy (Some e) c was now t = now ≡ was
@@ -64,27 +67,27 @@ pub record Lost (c : Printing) (before : Option (List ℕ)) (faults : ℕ) (c' :
   pub writes : LostBy c.failed c before now t
   pub because : CauseOf e faults faults' c.failed
 
--- A call that is to feed a token.
+-- A call that should feed a token.
 pub record Calls {T : Type 0} (c : Printing) (before : Option (List ℕ)) (faults : ℕ) (result : Result T PrintError)
     (c' : Printing) (now : Option (List ℕ)) (faults' : ℕ) (t : Tok) : Type 0 where
   pub later : faults ≤ faults'
   pub ok : OnOk result (Went c before c' now t)
   pub err : IfErr result (λ e. Lost c before faults c' now faults' t e)
 
--- A call on a printer that has failed answers what the call that failed did.
+-- After a failed call, each call returns the same error.
 abbrev pub Repeats : {T : Type 0} → Printing → Result T PrintError → Type 0
 Repeats c result = (e : PrintError) → c.failed ≡ Some e → result ≡ Err e
 
--- With room for more tokens a call wants no memory, and takes room for one token at most.
+-- With room for more tokens a call needs no memory. It takes room for at most one token.
 pub record TakesRoom {T : Type 0} (c : Printing) (result : Result T PrintError) (c' : Printing) : Type 0 where
   pub sure : c.failed ≡ None → 0 < c.spare → IfErr result (λ e. e ≡ WriteFailed)
   pub lowers : c.spare ≤ c'.spare + 1
 
--- What was fed to a printer that hasn't failed is a whole stream.
+-- If the printer hasn't failed, it was fed a whole stream.
 abbrev pub IsWhole : Printing → Option (List ℕ) → Type 0
 IsWhole c written = (content : List ℕ) (s : List Tok) → c.failed ≡ None → Runs c written content s → IsClosed 0 s
 
--- The end of a stream.
+-- The call that ends a stream.
 pub record Finishes {T : Type 0} (c : Printing) (before : Option (List ℕ)) (faults : ℕ) (result : Result T PrintError)
     (c' : Printing) (now : Option (List ℕ)) (faults' : ℕ) : Type 0 where
   pub later : faults ≤ faults'
@@ -93,7 +96,7 @@ pub record Finishes {T : Type 0} (c : Printing) (before : Option (List ℕ)) (fa
   pub err : IfErr result (λ e. (c'.failed ≡ Some e) × CauseOf e faults faults' c.failed
       × ((content : List ℕ) (s : List Tok) → FedBy c.failed c before content s → Cut now content (text s)))
 
--- What is said of a printer as an Emit.
+-- The meaning of a printer as an Emit.
 abbrev pub printer_meanings : {S : Type 0}
     → (S → Printing) → (S → Option (List ℕ)) → (S → ℕ) → (S → List ℕ) → Meanings S PrintError
 printer_meanings core written faults loans = record {
@@ -105,8 +108,8 @@ printer_meanings core written faults loans = record {
   loans = loans;
 }
 
--- What contracts see of a press: what was lent to it, and which loan its sink is. It has no model, since from what a
--- model shows nobody could tell what a loan ends with.
+-- What contracts see of a press: the printer that was lent to it, its sink, and which loan that is.
+-- It has no model, because a model couldn't show how a loan ends.
 abbrev pub lent_core : {K : Type 0} → Press K → Printing
 lent_core p = p.core.now
 
@@ -116,11 +119,11 @@ lent_sink p = p.sink.now
 abbrev pub lent_as : {K : Type 0} → Press K → ℕ
 lent_as p = p.sink.ghost_name
 
--- the loan that a press holds, and the one that its sink does
+-- the loan that a press holds, and the loan that its sink holds
 abbrev pub press_loans : {K : Type 0} → (K → ℕ) → Press K → List ℕ
 press_loans loan p = lent_as p ∷ loan (lent_sink p) ∷ []
 
--- what is said of a press and of a printer that owns its sink as an Emit, over what the sink tells
+-- the meaning as an Emit of a press, and of a printer that owns its sink, by what the sink shows
 abbrev pub press_meanings : {K : Type 0} → (K → Option (List ℕ)) → (K → ℕ) → (K → ℕ) → Meanings (Press K) PrintError
 press_meanings written faults loan =
     printer_meanings lent_core (λ p. written (lent_sink p)) (λ p. faults (lent_sink p)) (press_loans loan)

@@ -5,13 +5,14 @@ use Rattle.lay_ring.specs.declared.entry.Entry.{Entry}
 use Rattle.lay_stream.specs.declared.line.Line.{Line}
 use Rattle.lay_printer.specs.declared.engine.PrintError.{PrintError}
 
--- the frames of the groups that are open, the innermost first, and how many more there is room for
+-- the frames of the open groups, the innermost first, and for how many more there is room
 pub record Framed : Type 0 where
   pub frames : List Frame
   pub spare : ℕ
 
--- The tokens that wait with their sizes, oldest first, the number of the first, how many groups are open after all of
--- them, how many may come before memory is taken, why a call failed, and the line being written with its open frames.
+-- The waiting tokens with their sizes, the oldest first; the number of the first one; how many
+-- groups are open after all of them; how many tokens may come before memory is taken; why a call
+-- failed, if one did; and the line being written, with its frames.
 pub record Printing : Type 0 where
   pub entries : List Entry
   pub first : ℕ

@@ -1,4 +1,5 @@
--- When a printer holds the tokens of a stream, some printed and some waiting, and what its calls do to that.
+-- A printer between calls: which tokens of a stream are printed and which wait, and how a call
+-- changes that.
 use Rattle.std.specs.Prelude.{◌≡◌, ℕ, ◌+◌, ◌≤◌, ◌<◌, Bool, true, false, nat_lt, pos, negsuc}
 use Rattle.std.specs.Prelude.{List, [], ◌∷◌, ◌++◌, Option, Some, None, Result, OnOk, OnErr}
 use Rattle.lay_layout.specs.declared.layout.Tok.{Tok}
@@ -15,12 +16,13 @@ use Rattle.lay_queue.specs.Scan.{sized}
 use Rattle.lay_stream.specs.declared.line.Line.{Line}
 use Rattle.lay_stream.specs.Pages.{At, Wrote, Cut}
 
--- the tokens that may follow
+-- The tokens r may follow; none may after the end.
 abbrev pub MayFollow : Bool → List Tok → Type 0
 MayFollow false r = Unit {0}
 MayFollow true r = r ≡ []
 
--- The printer after the tokens s: the first ones are printed, whatever follows s, and the others wait.
+-- The printer after the tokens s. The first ones are printed in the same way whatever follows s,
+-- and the others wait.
 pub record Holds (ended : Bool) (s : List Tok) (entries : List Entry) (layout : Layout) : Type 0 where
   pub printed : List Tok
   pub waits : List Tok
@@ -29,7 +31,8 @@ pub record Holds (ended : Bool) (s : List Tok) (entries : List Entry) (layout : 
   pub small : layout.state.room ≤ margin
   pub shown : (r : List Tok) → MayFollow ended r → play printed (waits ++ r) begun ≡ layout
 
--- Is the oldest entry too big, where it has this many columns at the least and the text that waits? None: undecided.
+-- The decision whether the oldest entry is too big, as far as it is known: the entry has at least
+-- this width, and the text that waits. None: not decided.
 abbrev pub Says : Size → (least wait : ℕ) → Line → Option Bool → Type 0
 Says Unknown least wait line None = line.used + (least + wait) ≤ line.room
 Says Unknown least wait line (Some big) = (big ≡ true) × (line.room < line.used + (least + wait))
@@ -41,34 +44,36 @@ abbrev pub Decided : List Entry → ℕ → Line → Option Bool → Type 0
 Decided [] wait line r = r ≡ None
 Decided (e ∷ es) wait line r = Says e.size (least_width e.tok) wait line r
 
--- the oldest entry, if there is one, isn't decided where some text waits
+-- The oldest entry, if there is one, isn't decided for some length of waiting text.
 abbrev pub IsUndecided : List Entry → Line → Type 0
 IsUndecided [] line = Unit {0}
 IsUndecided (e ∷ es) line = (wait : ℕ) × Says e.size (least_width e.tok) wait line None
 
--- The oldest entry, if there is one, has no size yet, and it is forced where more text than this waits.
+-- The oldest entry, if there is one, has no size yet. It is decided where more text than the limit
+-- waits.
 abbrev pub IsLimit : List Entry → Line → ℕ → Type 0
 IsLimit [] line limit = Unit {0}
 IsLimit (e ∷ es) line limit = (e.size ≡ Unknown) × (line.used + (least_width e.tok + limit) ≡ line.room)
 
--- there is an oldest entry, and it has no size yet
+-- There is an oldest entry, and it has no size yet.
 abbrev pub IsOpenAtFront : List Entry → Type 0
 IsOpenAtFront [] = ⊥
 IsOpenAtFront (e ∷ es) = e.size ≡ Unknown
 
--- A token that came last doesn't decide the oldest entry, which wasn't before: where no more text waits than the limit,
--- and where a break leaves it without a size.
+-- The token that came last leaves the oldest entry undecided, as it was. A text does where no more
+-- text waits than the limit, and a break where the entry still has no size.
 abbrev pub MayStay : Tok → List Entry → (wait limit : ℕ) → Type 0
 MayStay (tok.Text t) entries wait limit = wait ≤ limit
 MayStay (tok.Break b) entries wait limit = IsOpenAtFront entries
 MayStay t entries wait limit = Unit {0}
 
--- A token is printed as one that doesn't fit, whatever follows it.
+-- The token is printed as one that doesn't fit, whatever follows it.
 abbrev pub IsClear : Line → List Frame → Tok → Type 0
 IsClear line frames t = (m : Layout) → At line frames m → (r : List Tok)
     → act t (over (measure t r) m.state) m ≡ act t true m
 
--- A token is printed: Ok makes the layout act of it, and Err leaves a prefix of the text of that.
+-- A token is printed: Ok makes the layout act of it. Err leaves a prefix of the text of that
+-- layout.
 pub record Prints {T E : Type 0} (line : Line) (frames : List Frame) (before : Option (List ℕ)) (result : Result T E)
     (line' : Line) (frames' : List Frame) (now : Option (List ℕ)) (tok : Tok) (big : Bool) : Type 0 where
   pub ok : OnOk result ((content : List ℕ) (m : Layout) → At line frames m → Wrote before content m.state.text
@@ -76,7 +81,7 @@ pub record Prints {T E : Type 0} (line : Line) (frames : List Frame) (before : O
   pub err : OnErr result ((content : List ℕ) (m : Layout) → At line frames m → Wrote before content m.state.text
       → Cut now content (act tok big m).state.text)
 
--- The printer holds the tokens s of a stream, over a sink that had the content.
+-- The printer holds the tokens s of a stream. Its sink had this content before them.
 pub record Running (ended : Bool) (entries : List Entry) (line : Line) (frames : List Frame)
     (written : Option (List ℕ)) (content : List ℕ) (s : List Tok) : Type 0 where
   pub layout : Layout
@@ -84,11 +89,12 @@ pub record Running (ended : Bool) (entries : List Entry) (line : Line) (frames :
   pub at : At line frames layout
   pub wrote : Wrote written content layout.state.text
 
--- What was written is a prefix of the text of s and any tokens that follow.
+-- What was written is a prefix of the text of s and of whatever tokens may follow.
 abbrev pub Broken : Bool → Option (List ℕ) → List ℕ → List Tok → Type 0
 Broken ended written content s = (r : List Tok) → MayFollow ended r → Cut written content (text (s ++ r))
 
--- From a printer that holds tokens: Ok makes them f of them, and Err leaves a prefix of the text of f and what follows.
+-- From a printer that holds tokens: Ok makes it hold f of them. Err leaves a prefix of the text of
+-- f of them and what follows.
 pub record Advances {T E : Type 0} (ended : Bool) (entries : List Entry) (line : Line) (frames : List Frame)
     (before : Option (List ℕ)) (result : Result T E) (entries' : List Entry) (line' : Line) (frames' : List Frame)
     (now : Option (List ℕ)) (f : List Tok → List Tok) : Type 0 where
@@ -97,7 +103,7 @@ pub record Advances {T E : Type 0} (ended : Bool) (entries : List Entry) (line :
   pub err : OnErr result ((content : List ℕ) (s : List Tok)
       → Running ended entries line frames before content s → Broken ended now content (f s))
 
--- The rest is printed.
+-- The waiting tokens are printed, and the stream ends.
 pub record Ends {T E : Type 0} (entries : List Entry) (line : Line) (frames : List Frame) (before : Option (List ℕ))
     (result : Result T E) (now : Option (List ℕ)) : Type 0 where
   pub ok : OnOk result ((content : List ℕ) (s : List Tok)
