@@ -1,4 +1,4 @@
--- What a token list is fed as, token by token over the flat list.
+-- The stream of a token list, defined token by token over the flat list.
 use Rattle.std.specs.Prelude.{Bool, true, false, cond, List, [], ◌∷◌, ◌++◌, pos}
 use Rattle.lay_piece.specs.Forms.{opening, closing}
 use Rattle.lay_layout.specs.declared.layout.Tok.{Tok}
@@ -31,7 +31,8 @@ closing_space true d = Hard true
 closing_space false Brace = Soft true 1
 closing_space false _ = Soft true 0
 
--- what opens a group, and what closes one; the flag says that its last token is documentation on a line
+-- the tokens that open a group, and those that close it; the flag says that its last token is
+-- documentation on a line
 abbrev pub opened : Delim → List Tok
 opened d = Begin true (pos 4) ∷ Text (opening d ∷ []) ∷ Break (break_of (opening_space d)) ∷ Begin false (pos 0) ∷ []
 
@@ -42,7 +43,7 @@ closed line d = End ∷ Break (break_of (closing_space line d)) ∷ Text (closin
 abbrev pub empty_group : Delim → List Tok
 empty_group d = Text (opening d ∷ closing d ∷ []) ∷ []
 
--- A closer is the next token.
+-- The next token is a closer.
 abbrev pub closes_at_once : List Listed → Bool
 closes_at_once [] = false
 closes_at_once (t ∷ ts) = is_closer (kind_of t)
@@ -64,14 +65,14 @@ seen_by (Opener d) s t = at_start s.count
 seen_by (Closer d) s t = behind_group d s.count
 seen_by _ s t = seen_token s t
 
--- what one token is fed as, which others follow, and what is seen after it
+-- the stream of one token, by those that follow it, and the state of the scan after it
 unfoldable pub fed_token : Seen → Listed → List Listed → List Tok
 fed_token s t ts = fed_by (kind_of t) s t ts
 
 unfoldable pub seen_behind : Seen → Listed → Seen
 seen_behind s t = seen_by (kind_of t) s t
 
--- the same of tokens
+-- the same for a list of tokens
 unfoldable pub fed_tokens : Seen → List Listed → List Tok
 fed_tokens s [] = []
 fed_tokens s (t ∷ ts) = fed_token s t ts ++ fed_tokens (seen_behind s t) ts

@@ -1,4 +1,5 @@
--- What the neighbours of the code stand for, and the facts about them that are computed at once.
+-- The neighbours that the code's neighbours stand for, and the facts that are computed about each
+-- once.
 use Rattle.std.specs.Prelude.{ℕ, List, [], ◌∷◌, cond}
 use Rattle.lay_token.specs.Lexes.{is_punct}
 use Rattle.lay_node.specs.tokens.Listing.{kind_of, text_of}
@@ -17,7 +18,7 @@ one [] = 0
 one (c ∷ []) = c
 one (c ∷ d ∷ ds) = 0
 
--- the character of a neighbour that is punctuation of one, or else 0
+-- the character of a neighbour that is punctuation of one character, or else 0
 abbrev pub mark_of : pairs.Neighbour → ℕ
 mark_of (pairs.Single t) = cond (is_punct (kind_of t)) (one (text_of t)) 0
 mark_of _ = 0

@@ -1,4 +1,4 @@
--- The forms of parts that have a function of their own.
+-- The forms of parts that the code lays out by functions of their own.
 use Rattle.std.specs.Prelude.{List, [], ◌∷◌}
 use Rattle.lay_piece.specs.declared.kind.Delim.{Delim}
 use Rattle.lay_form.specs.Form.{Form, Done, Piece}

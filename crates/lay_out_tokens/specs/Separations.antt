@@ -1,4 +1,5 @@
--- What the code's places and separations stand for.
+-- The values of the definition that the code's values stand for: neighbours, scans of a list, and
+-- separations.
 use Rattle.lay_node.specs.tokens.Pairs as pairs
 use Rattle.lay_out_tokens.specs.Neighbours.{neighbour_of}
 use Rattle.lay_out_tokens.specs.declared.told.Told.{Told}
@@ -24,7 +25,7 @@ separation_of separation.NoBreak = pairs.NoBreak
 separation_of separation.SoftBreak = pairs.SoftBreak
 separation_of separation.HardBreak = pairs.HardBreak
 
--- what is seen after one more neighbour
+-- the state of the scan after one more neighbour
 abbrev pub seen_next : pairs.Seen → pairs.Neighbour → pairs.Seen
 seen_next s r = record {
   before = s.last;
