@@ -1,4 +1,4 @@
--- The streams of what stands round alternatives and round the fields of a struct's pattern.
+-- The streams of what stands around alternatives, and around the fields of a struct pattern.
 use Rattle.std.specs.Prelude.{Bool, true, false, cond, not, List, [], ◌∷◌, ◌++◌, map, codes, pos}
 use Rattle.lay_layout.specs.declared.layout.Break.{Break}
 use Rattle.lay_layout.specs.declared.layout.Tok.{Tok}
@@ -43,11 +43,11 @@ fields_form fields rest = braces (not rest) (map field_told fields ++ rest_form 
 abbrev pub braces_opened : List Tok
 braces_opened = tok.Text (codes " {") ∷ tok.Begin true (pos 4) ∷ tok.Break (break_of (Soft false 1)) ∷ []
 
--- the break after the last field, where a comma may stand or not
+-- the break after the last field; the flag says that a comma may stand there
 abbrev pub closing_break : Bool → Break
 closing_break may = cond may (comma_break 1) (break_of (Soft true 1))
 
--- What closes braces. Without fields they are one text.
+-- What closes braces. Braces without fields are one text.
 abbrev pub braces_closed : Bool → Bool → List Tok
 braces_closed may bare =
     cond bare (tok.Text (codes " {}") ∷ []) (tok.Break (closing_break may) ∷ tok.End ∷ tok.Text (codes "}") ∷ [])
