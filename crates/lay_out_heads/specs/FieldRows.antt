@@ -1,15 +1,15 @@
--- The streams of what stands round bodies and round fields.
+-- The streams of what stands around bodies and around fields.
 use Rattle.std.specs.Prelude.{Bool, true, false, cond, List, [], ◌∷◌, ◌++◌, codes, pos}
 use Rattle.lay_layout.specs.declared.layout.Tok.{Tok}
 use Rattle.lay_layout.specs.declared.layout.Tok.TheVariants as tok
 use Rattle.lay_form.specs.Form.{Hard, Never}
 use Rattle.lay_form.specs.Layout.{break_of}
 
--- what opens a body: a brace, with a leading blank or without it
+-- what opens a body: a brace, with or without a leading blank
 abbrev pub body_opened : Bool → List Tok
 body_opened lead = tok.Text (cond lead (codes " {") (codes "{")) ∷ tok.Break (break_of Never) ∷ tok.Begin true (pos 4) ∷ []
 
--- what closes it
+-- what closes a body
 abbrev pub body_closed : List Tok
 body_closed = tok.Break (break_of (Hard true)) ∷ tok.End ∷ tok.Text (codes "}") ∷ []
 
@@ -21,11 +21,11 @@ line = tok.Break (break_of (Hard false)) ∷ []
 abbrev pub fields_opened : Bool → List Tok
 fields_opened lead = body_opened lead ++ line
 
--- what stands between two of them
+-- what stands between two fields
 abbrev pub fields_between : List Tok
 fields_between = tok.Text (codes ",") ∷ tok.Break (break_of (Hard false)) ∷ []
 
--- What closes them. Without fields the braces are one text.
+-- What closes fields. Braces without fields are one text.
 abbrev pub fields_closed : Bool → Bool → List Tok
 fields_closed lead bare =
     cond bare (tok.Text (cond lead (codes " {}") (codes "{}")) ∷ [])
