@@ -1,4 +1,5 @@
--- What is laid out where the space decides is one of the texts where it doesn't.
+-- The layout of a document is one of the texts that it may be laid out as if the space decides
+-- nothing.
 use Rattle.std.proofs.Common.{◌≡◌, inl, inr, ℕ, ◌+◌, ◌≤◌, Bool, true, false, not, ◌&&◌, ◌||◌, ℤ, refl, ap, ◌∙◌, arith}
 use Rattle.std.proofs.lemmas.Bool.{or_cases, eqb-true, lt-ltb, both_ways, false_from_ne_true}
 use Rattle.lay_layout.specs.declared.layout.Break.{Break}

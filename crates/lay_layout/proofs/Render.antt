@@ -1,4 +1,4 @@
--- Laying out token by token is laying out the document.
+-- The layout of a stream, token by token, is the layout of its document.
 use Rattle.std.proofs.Common.{◌≡◌, ℕ, ℤ, Bool, suc, ◌+◌, List, [], ◌∷◌, ◌++◌, length, refl, ap, ap₂, subst, ◌∙◌, append_assoc, append-nil, arith}
 use Rattle.lay_layout.specs.declared.layout.Break.{Break}
 use Rattle.lay_layout.specs.declared.layout.Frame.{Frame}

@@ -1,4 +1,4 @@
--- A list of tokens in which each group is closed is the flattening of one document.
+-- A list of tokens in which each group is closed is the flattening of exactly one document.
 use Rattle.std.proofs.Common.{◌≡◌, ℕ, zero, suc, List, [], ◌∷◌, ◌++◌, refl, sym, ap, ap₂, ◌∙◌, subst, append_assoc, append-nil, arith}
 use Rattle.lay_layout.specs.declared.layout.Break.{Break}
 use Rattle.lay_layout.specs.declared.layout.Tok.{Tok}
