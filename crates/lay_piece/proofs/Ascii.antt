@@ -1,4 +1,4 @@
--- The tables of characters, at ASCII: told by trying each.
+-- The tables of characters at ASCII, proved by trying each character.
 use Rattle.std.proofs.Common.{◌≡◌, ℕ, ◌<◌, true, ◌||◌, refl}
 use Rattle.std.specs.Prelude.{◌==◌}
 use Rattle.std.specs.Char.{is_ascii_alphabetic, is_ascii_digit}

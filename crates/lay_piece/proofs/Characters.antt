@@ -1,4 +1,4 @@
--- Which sets of characters lie in which, told by trying the first 128.
+-- Which sets of characters are subsets of which, proved by trying the first 128 characters.
 use Rattle.std.proofs.Common.{◌≡◌, inl, inr, ℕ, zero, suc, ◌<◌, ◌≤◌, List, [], ◌∷◌, Bool, true, false, not, ◌&&◌, ◌||◌, sym, refl, subst, arith}
 use Rattle.std.specs.Prelude.{◌==◌, nat_le}
 use Rattle.std.specs.Char.{is_ascii_digit}

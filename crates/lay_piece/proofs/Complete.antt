@@ -1,4 +1,5 @@
--- What is had the scan finds: words, literals, documentation and single characters.
+-- The scan is complete: it finds each word, literal, documentation and single character that `Had`
+-- accepts.
 use Rattle.std.proofs.Common.{◌≡◌, inl, inr, ℕ, List, [], ◌∷◌, ◌++◌, Bool, true, false, cond, not, ◌&&◌, ◌||◌, Option, Some, None, sym, refl, ap, ◌∙◌, subst}
 use Rattle.std.specs.Prelude.{◌==◌, codes, encode_utf8_all}
 use Rattle.std.specs.List.{list_all, list_any}

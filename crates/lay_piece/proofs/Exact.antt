@@ -1,4 +1,4 @@
--- The scan finds what is had, and nothing else.
+-- The scan is exact: it finds what `Had` accepts, and nothing else.
 use Rattle.std.proofs.Common.{◌≡◌, ℕ, List, [], ◌∷◌, ◌++◌, Bool, Some, None, refl, ap, subst}
 use Rattle.std.specs.Prelude.{◌==◌}
 use Rattle.std.specs.Char.{is_ascii_digit}

@@ -1,4 +1,4 @@
--- The longest run at the beginning of a text, and what follows it.
+-- The longest run of characters at the start of a text, and what follows it.
 use Rattle.std.proofs.Common.{◌≡◌, inl, inr, ℕ, List, [], ◌∷◌, ◌++◌, Bool, true, false, cond, not, refl, ap}
 use Rattle.std.specs.List.{list_all}
 use Rattle.std.proofs.lemmas.Bool.{cases_Bool, and_parts}

@@ -1,4 +1,4 @@
--- No gap begins with a piece, and no piece with a gap. So a text has one gap at its beginning.
+-- No gap begins with a piece, and no piece with a gap. So a text has just one gap at its start.
 use Rattle.std.proofs.Common.{◌≡◌, ◌≢◌, inl, inr, ℕ, ◌≤◌, List, [], ◌∷◌, ◌++◌, Bool, true, false, cond, not, ◌&&◌, ◌||◌, Some, None, sym, refl, ap, ◌∙◌, subst, arith}
 use Rattle.std.specs.Prelude.{IsTrue, ◌==◌, nat_le}
 use Rattle.std.specs.Char.{is_ascii_digit}

@@ -1,4 +1,4 @@
--- A number that is had the scan finds.
+-- The scan is complete for numbers: it finds each one that `Had` accepts.
 use Rattle.std.proofs.Common.{◌≡◌, inl, inr, ℕ, List, [], ◌∷◌, ◌++◌, Bool, true, false, cond, not, ◌&&◌, ◌||◌, Some, sym, refl, ap, ◌∙◌, subst, drop}
 use Rattle.std.specs.Prelude.{◌==◌, option_and_then}
 use Rattle.std.specs.List.{list_all}

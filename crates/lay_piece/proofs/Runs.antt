@@ -1,4 +1,4 @@
--- Forms that tell their own end, step by step and part by part.
+-- Automata of forms that mark their own end, step by step and part by part.
 use Rattle.std.proofs.Common.{◌≡◌, inl, inr, ℕ, zero, suc, ◌+◌, List, [], ◌∷◌, Bool, true, false, cond, ◌&&◌, Option, Some, None, sym, refl, ap, ◌∙◌, arith, add-zero}
 use Rattle.std.specs.Prelude.{◌==◌, nat_lt, option_and_then}
 use Rattle.std.proofs.lemmas.Bool.{cases_Bool, eqb-true, eqb-false, ne_eqb, eq-eqb, lt-ltb, le-ltb, and_left, and_right}

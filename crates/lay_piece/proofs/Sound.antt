@@ -1,4 +1,4 @@
--- What the scan finds is had.
+-- The scan is sound: `Had` accepts what it finds.
 use Rattle.std.proofs.Common.{◌≡◌, inl, inr, ℕ, List, [], ◌∷◌, ◌++◌, Bool, true, false, cond, not, ◌&&◌, ◌||◌, Option, Some, None, sym, refl, ap, ◌∙◌, subst}
 use Rattle.std.specs.Prelude.{◌==◌, codes, option_and_then, encode_utf8_all}
 use Rattle.std.specs.List.{list_any}
