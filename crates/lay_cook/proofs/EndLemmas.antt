@@ -1,4 +1,4 @@
--- What a literal ends in.
+-- The last character of a literal.
 use Rattle.std.proofs.Common.{◌≡◌, inl, inr, ℕ, ◌+◌, ◌<◌, List, [], ◌∷◌, ◌++◌, length, take, get_or, Bool, true, false, cond, ◌&&◌, ◌||◌, Option, Some, None, sym, refl, ap, ◌∙◌, subst, arith, IsUtf8, length-append}
 use Rattle.std.specs.Prelude.{◌==◌, nat_lt}
 use Rattle.std.specs.List.{list_all}
