@@ -1,4 +1,5 @@
--- A token after those that were read: the last of them is joint with it, or they are as they were.
+-- A token added after those read: the last of these becomes joint with it, or they stay as they
+-- are.
 use Rattle.std.proofs.Common.{◌≡◌, ℕ, not, cond, Bool, true, false, if◌then◌else◌, ◌&&◌, List, [], ◌∷◌, ◌++◌, length, ◌<◌, inl, inr, sym, refl, ap, ◌∙◌, arith}
 use Rattle.std.proofs.lemmas.Bool.{cases_Bool}
 use Rattle.lay_token.specs.declared.token.Token.{Token}

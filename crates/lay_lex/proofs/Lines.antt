@@ -1,4 +1,4 @@
--- The first line, and what is lexed of an input.
+-- The first line of an input, and the source text.
 use Rattle.std.proofs.Common.{◌≡◌, ℕ, ◌+◌, ◌-◌, ◌<◌, ◌≤◌, List, [], ◌∷◌, ◌++◌, true, false, cond, Ok, Err, sym, refl, ap, ◌∙◌, subst, arith, length, IsUtf8, append-nil, append_assoc, length-append}
 use Rattle.std.specs.Str.{chars, is_utf8, encode_utf8_all, IsCharBoundary}
 use Rattle.std.specs.Str.Lossy.{utf8_valid_len}

@@ -1,4 +1,5 @@
--- What a token's text tells of its piece: whether it is a point, and whether it may be joint.
+-- What the text of a token says about its piece: whether it is a point, and whether it may be
+-- joint.
 use Rattle.std.proofs.Common.{◌≡◌, ℕ, ◌<◌, List, [], ◌∷◌, Bool, true, false, cond, not, ◌&&◌, ◌||◌, sym, refl, ap, ◌∙◌, arith}
 use Rattle.std.specs.Prelude.{codes}
 use Rattle.std.specs.Str.{bytes_eq, encode_utf8_all}

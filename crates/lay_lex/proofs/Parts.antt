@@ -1,4 +1,4 @@
--- One turn of the lexer.
+-- One turn of the lexer's loop.
 use Rattle.std.proofs.Common.{◌≡◌, ℕ, ◌+◌, ◌-◌, ◌<◌, ◌≤◌, List, [], ◌∷◌, ◌++◌, Bool, false, Some, sym, refl, ap, ◌∙◌, subst, arith, length, drop, IsUtf8, length-drop}
 use Rattle.std.specs.Prelude.{IsTrue, ◌==◌}
 use Rattle.std.specs.Str.{chars, IsCharBoundary}

@@ -1,4 +1,4 @@
--- Texts without what stands at their ends.
+-- Texts without a given character at their ends.
 use Rattle.std.proofs.Common.{◌≡◌, ◌⊎◌, inl, inr, ℕ, ◌<◌, List, [], ◌∷◌, ◌++◌, true, sym, refl, ap, ◌∙◌, subst, arith, length, take, get_or, IsUtf8, length-append}
 use Rattle.std.specs.Prelude.{◌==◌}
 use Rattle.std.specs.Str.{chars, encode_utf8_all}
