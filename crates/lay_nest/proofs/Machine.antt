@@ -1,4 +1,4 @@
--- A machine that reads tokens over a stack of the openers still open, the last one first.
+-- A machine that reads tokens with a stack of the openers that are still open, the last one first.
 use Rattle.std.proofs.Common.{◌≡◌, inl, inr, ℕ, Bool, true, false, cond, List, [], ◌∷◌, ◌++◌, Option, Some, None, IsTrue, IsFalse, refl, sym, ap, ◌∙◌, subst}
 use Rattle.std.proofs.lemmas.Bool.{false≢true}
 use Rattle.lay_token.specs.Delimiters as delimiters

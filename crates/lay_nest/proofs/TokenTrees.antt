@@ -1,4 +1,4 @@
--- The token tree at the beginning of tokens.
+-- The token tree at the start of a list of tokens.
 use Rattle.std.proofs.Common.{◌≡◌, Bool, true, false, not, List, [], ◌∷◌, ◌++◌, drop, get_or, IsTrue, refl, sym, ap, ◌∙◌, arith, append_assoc}
 use Rattle.std.proofs.lemmas.Bool.{false≢true}
 use Rattle.lay_token.specs.Delimiters.{One, Nest, NoTree, is_opener}
