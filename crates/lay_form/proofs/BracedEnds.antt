@@ -1,4 +1,4 @@
--- What ends within braces that aren't in the tree is spelled.
+-- A spelling that ends in a brace that isn't in the tree is a spelling of the form.
 use Rattle.std.proofs.Common.{ℕ, zero, suc, ◌-◌, ◌≤◌, List, inl, inr, refl, sym, subst, arith}
 use Rattle.lay_token.specs.declared.token.Token.{Token}
 use Rattle.lay_form.specs.Form.{Bit, Form, Done, Piece, Leaf, Listed, ListedDoc, Brk, LastComma, Group, Part, Deeper, Optional, Docs, Body}

@@ -1,4 +1,4 @@
--- What the depth and the tokens that are left have to do with the spelling of a form.
+-- How the spelling of a form depends on the depth and on the tokens after it.
 use Rattle.std.proofs.Common.{◌≡◌, inl, inr, ℕ, zero, suc, ◌-◌, ◌≤◌, Bool, List, [], ◌∷◌, ◌++◌, length, take, sym, ap, ◌∙◌, arith, append_assoc, length-append}
 use Rattle.std.proofs.lemmas.List.{take-append-drop}
 use Rattle.std.specs.Prelude.{codes}

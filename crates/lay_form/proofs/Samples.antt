@@ -1,4 +1,5 @@
--- Samples of the signs and of the notation: how they are laid out, what spells them, and what may follow.
+-- Samples of forms and of the notation: how they are laid out, which tokens spell them, and what
+-- may follow.
 use Rattle.std.proofs.Common.{◌≡◌, ℕ, Bool, true, false, List, [], ◌∷◌, ◌++◌, refl, inl, inr, arith}
 use Rattle.std.specs.Prelude.{codes, replicate}
 use Rattle.std.specs.Str.{chars}
