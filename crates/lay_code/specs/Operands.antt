@@ -1,4 +1,5 @@
--- What an expression begins with (Rust Reference, "Expressions").
+-- Lookahead for expressions: what kind of expression the next tokens begin, if any (Rust Reference,
+-- "Expressions").
 use Rattle.std.specs.Prelude.{ℕ, ◌&&◌, ◌||◌, not, Bool, true, false, if◌then◌else◌, List, [], ◌∷◌, codes, Option, Some, None}
 use Rattle.std.specs.List.{list_any}
 use Rattle.std.specs.Str.{bytes_eq}
@@ -28,7 +29,7 @@ pub data ExprLead : Type 0 where
   ByContinue : ExprLead
   ByBreak : ExprLead
   ByReturn : ExprLead
-  -- a word of an expression that holds a block
+  -- a keyword that begins an expression with a block, such as `if` or `unsafe`
   ByBlockWord : ExprLead
   -- a closure
   ByClosure : ExprLead
@@ -36,17 +37,17 @@ pub data ExprLead : Type 0 where
 abbrev pub is_of : List (List ℕ) → List ℕ → Bool
 is_of words text = list_any (λ w. bytes_eq text w) words
 
--- `const` begins an expression before a `{` alone.
+-- `const` begins an expression only where a `{` follows it.
 abbrev pub is_block_word : List ℕ → Tokens → Bool
 is_block_word text ts =
     is_of (codes "for" ∷ codes "if" ∷ codes "loop" ∷ codes "match" ∷ codes "unsafe" ∷ codes "while" ∷ []) text
     || (if bytes_eq text (codes "const") then first (opens Brace) ts else false)
 
--- the `|` before the parameters of a closure, after a `move` if that stands there
+-- A closure begins here: with `|`, or with `move` and then `|`.
 abbrev pub begins_closure : Tokens → Bool
 begins_closure ts = first (is_mark (codes "|")) ts || (first (is_keyword (codes "move")) ts && first (is_mark (codes "|")) (tail ts))
 
--- what the word `async` begins before these tokens: a closure or a block
+-- what `async` begins, by the tokens after it: a closure or a block
 abbrev pub async_lead : Tokens → ExprLead
 async_lead ts = if begins_closure ts then ByClosure else ByBlockWord
 
@@ -81,7 +82,7 @@ expr_lead_by (kind.Closer d) text ts = None
 expr_lead_by (kind.Doc inner block) text ts = None
 expr_lead_by _ text ts = Some ByLiteral
 
--- what the tokens ahead begin, if it is an expression
+-- what kind of expression the next tokens begin, if they begin one
 unfoldable pub expr_lead_at : Tokens → Option ExprLead
 expr_lead_at [] = None
 expr_lead_at (t ∷ ts) = expr_lead_by t.kind t.text (t ∷ ts)
@@ -91,6 +92,7 @@ is_operand_lead no_struct None = false
 is_operand_lead no_struct (Some ByBrace) = not no_struct
 is_operand_lead no_struct (Some lead) = true
 
--- The tokens begin an operand; the flag says that no struct literal may stand there, and so no `{` begins one.
+-- The tokens begin an operand. Where the flag is set no struct literal may stand there, and then no
+-- `{` begins one.
 abbrev pub begins_operand : Bool → Tokens → Bool
 begins_operand no_struct ts = is_operand_lead no_struct (expr_lead_at ts)

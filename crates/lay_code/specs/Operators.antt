@@ -1,5 +1,5 @@
--- The operators of expressions, their levels, and how strongly the tokens ahead go on with an expression (Rust Reference,
--- "Expression precedence").
+-- The operators of expressions, their precedence levels, and how strongly the operator that comes
+-- next binds (Rust Reference, "Expression precedence").
 use Rattle.std.specs.Prelude.{ℕ, suc, ◌||◌, Bool, true, false, cond, if◌then◌else◌, List, [], ◌∷◌, codes, Option, Some, None, option_and_then}
 use Rattle.std.specs.Str.{bytes_eq}
 use Rattle.lay_piece.specs.declared.kind.Delim.TheVariants.{Paren, Bracket}
@@ -46,7 +46,9 @@ op_text op.Mul = codes "*"
 op_text op.Div = codes "/"
 op_text op.Rem = codes "%"
 
--- The level of an operator. The level of `as` is 11, of prefix operators 12, of postfix steps 13, and all else is at 14.
+-- The precedence level of an operator between operands. Above these are `as` at level 11, prefix
+-- operators with `return`, `break` and closures at 12, and postfix steps at 13. All other
+-- expressions are at 14.
 abbrev pub op_level : Op → ℕ
 op_level op.Upto = 1
 op_level op.UptoEq = 1
@@ -76,16 +78,16 @@ all_ops =
     ∷ op.Upto ∷ op.UptoEq ∷ op.OrOr ∷ op.AndAnd ∷ op.EqEq ∷ op.Differ ∷ op.Less ∷ op.Greater ∷ op.LessEq ∷ op.GreaterEq
     ∷ op.BitOr ∷ op.BitXor ∷ op.BitAnd ∷ op.Shl ∷ op.Shr ∷ op.Add ∷ op.Sub ∷ op.Mul ∷ op.Div ∷ op.Rem ∷ []
 
--- the operator of these that has this text
+-- the first operator of the list that has this text
 abbrev pub named : List Op → List ℕ → Option Op
 named [] text = None
 named (o ∷ os) text = cond (bytes_eq (op_text o) text) (Some o) (named os text)
 
--- the operator between operands at the beginning
+-- the operator between operands that the tokens begin with
 unfoldable pub binary : Tokens → Option Op
 binary ts = option_and_then (named all_ops) (op_at ts)
 
--- `<` and `<<`, which would open the generic arguments of a type before them
+-- `<` and `<<`: after a type they would open its generic arguments
 abbrev pub is_angle_op : Op → Bool
 is_angle_op op.Less = true
 is_angle_op op.Shl = true
@@ -93,7 +95,8 @@ is_angle_op _ = false
 
 -- ---- before an operand
 
--- what follows `&`: `mut`, `raw const`, `raw mut`, or no more of the operator
+-- The prefix operator after `&` and `raw`. It is a plain `&` where neither `const` nor `mut`
+-- follows.
 abbrev pub raw_by : Tokens → Prefix
 raw_by ts =
     if first (is_keyword (codes "const")) ts then before.RawConst
@@ -111,12 +114,13 @@ prefix_by text ts =
     else (if bytes_eq text (codes "!") then Some before.Bang
     else (if bytes_eq text (codes "&") then Some (amp_by ts) else None)))
 
--- The operator before an operand at the beginning: one character, whatever follows it, and the words that belong to it.
+-- The prefix operator that the tokens begin with: one character, whatever follows it, and after `&`
+-- the words that belong to it.
 unfoldable pub prefix : Tokens → Option Prefix
 prefix [] = None
 prefix (t ∷ ts) = if is_punct t.kind then prefix_by t.text ts else None
 
--- how many tokens it is
+-- how many tokens the prefix operator has
 abbrev pub prefix_length : Prefix → ℕ
 prefix_length before.AmpMut = 2
 prefix_length before.RawConst = 3
@@ -125,11 +129,11 @@ prefix_length _ = 1
 
 -- ---- after an expression
 
--- `.` or `?`, which go on with an expression even where nothing else does
+-- `.` or `?`, which go on with an expression even where no other operator does
 abbrev pub is_dot_or_try : Tokens → Bool
 is_dot_or_try ts = is_op (codes ".") ts || is_op (codes "?") ts
 
--- the first token of a postfix step
+-- The tokens begin a postfix step.
 abbrev pub begins_step : Tokens → Bool
 begins_step ts = is_dot_or_try ts || (first (opens Paren) ts || first (opens Bracket) ts)
 
@@ -144,8 +148,8 @@ abbrev pub strength_by : Option Op → Tokens → ℕ
 strength_by (Some o) ts = suc (op_level o)
 strength_by None ts = if first (is_keyword (codes "as")) ts then 12 else (if begins_step ts then 14 else 0)
 
--- How strongly the tokens ahead go on with an expression: 0 where they don't, and else one more than the level of the
--- operator, of `as` or of the postfix step. So no operator of a level or of a higher one follows where the strength is at
--- most that level.
+-- How strongly the next tokens go on with an expression. The strength is 0 where they don't.
+-- Otherwise it is one more than the level of what comes next: an operator, `as` or a postfix step.
+-- So where the strength is at most a level, no operator of that level or a higher one comes next.
 unfoldable pub strength : Tokens → ℕ
 strength ts = strength_by (binary ts) ts

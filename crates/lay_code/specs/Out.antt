@@ -1,4 +1,4 @@
--- The layout of a file, and its text.
+-- The layout of a file as a document, and the text that the document gives.
 use Rattle.std.specs.Prelude.{ℕ, false, List, Option, Some, None}
 use Rattle.lay_layout.specs.Document.{Document, AddText, AddBreak, Empty, text_of}
 use Rattle.lay_form.specs.Form.{Hard}
@@ -6,7 +6,7 @@ use Rattle.lay_form.specs.Layout.{laid_out, break_of}
 use Rattle.lay_code.specs.nodes.File.{form_of_file}
 use Rattle.lay_code.specs.declared.file.File.{File}
 
--- the first line of a file, if it is a shebang, and what follows it
+-- the shebang of a file on a line of its own, if it has one, and then the document
 abbrev pub behind_shebang : Option (List ℕ) → Document → Document
 behind_shebang None d = d
 behind_shebang (Some line) d = AddText line (AddBreak (break_of (Hard false)) d)

@@ -1,5 +1,5 @@
--- Which trees are files that can be written: they are normal, each node meets the conditions of its form, and each
--- name, word and literal is a piece of its kind.
+-- Which syntax trees are files that can be written. Their nodes are normal and meet the conditions
+-- of their forms, and each name, word and literal is a piece of its kind.
 use Rattle.std.specs.Prelude.{ℕ, Bool, true, ◌&&◌, List, Option, Some, None, IsTrue, encode_utf8_all}
 use Rattle.std.specs.List.{list_all}
 use Rattle.std.specs.Str.{chars, is_utf8, bytes_eq}
@@ -9,7 +9,7 @@ use Rattle.lay_form.specs.Pieces.{are_pieces}
 use Rattle.lay_code.specs.nodes.File.{form_of_file, is_normal}
 use Rattle.lay_code.specs.declared.file.File.{File}
 
--- A good shebang is given back whole where it stands alone as the first line.
+-- A good shebang is one line of UTF-8 that is a shebang and doesn't end in a carriage return.
 abbrev pub is_good_shebang : Option (List ℕ) → Bool
 is_good_shebang None = true
 is_good_shebang (Some line) =

@@ -1,4 +1,5 @@
--- The nodes, a family a file. Each says what is well formed, which form it has, and what may not follow.
+-- The nodes of expressions, blocks and items, a family of nodes a file. Each file says which nodes
+-- are well formed, which form a node has, and which tokens may not follow it.
 pub mod Places
 pub mod PlacesTable
 pub mod CodeFacts

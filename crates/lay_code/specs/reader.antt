@@ -1,6 +1,7 @@
--- Reading as functions of the tokens ahead, a family a file: what is read and what is left, or none. These are the words
--- of readers' contracts, and stand in no promise of their own: that what is read is what stands at the beginning of the
--- tokens, and all of it, is proved of them.
+-- The parser as functions of the next tokens, a family of nodes a file. A function gives what is
+-- read and the tokens that are left, or nothing. The contracts of the readers use these functions,
+-- and no promise to callers does. It is proved that what they read is what stands at the beginning
+-- of the tokens, and all of it.
 pub mod Within
 pub mod ItemLeads
 pub mod Conditions

@@ -1,4 +1,5 @@
--- Blocks, statements, branches and the arms of a match (Rust Reference, "Statements and expressions").
+-- The forms of blocks, statements, branches and the arms of a match, and when each is well formed
+-- (Rust Reference, "Statements and expressions").
 use Rattle.std.specs.Prelude.{◌==◌, ◌&&◌, ◌||◌, not, Bool, true, false, if◌then◌else◌, List, [], ◌∷◌, ◌++◌, map, codes, Option, Some, None}
 use Rattle.std.specs.List.{list_all}
 use Rattle.lay_form.specs.Form.{Blank, Operator, Semicolons, ArmComma, Form, Done, Piece, Part, Deeper, Body, keyword, semicolon, Bit}
@@ -22,7 +23,8 @@ use Rattle.lay_code.specs.declared.blocks.Stmt.TheOpen.{Stmt-F}
 
 -- ---- statements
 
--- A value with an `else` after it is no chain of `||` or `&&`, ends in no closure, and its last token is no `}`.
+-- Which value may stand before an `else`: one that is no chain of `||` or `&&`, that doesn't end in
+-- a closure, and whose last token is no `}`.
 abbrev pub may_precede_else : ExprFacts → Bool
 may_precede_else x = not (x.level == 2) && not (x.level == 3) && not x.tail.closure && not (ends_in_brace x.form)
 
@@ -87,14 +89,14 @@ stmt_facts (Stmt-F.Stmt::Expr attrs x ended) = record {
 
 -- ---- blocks
 
--- what may follow a statement of a block without being laid out
+-- the tokens that may follow a statement of a block and aren't laid out
 abbrev pub dropped : List Bit
 dropped = Semicolons ∷ []
 
 abbrev pub stmt_form : StmtFacts → Form
 stmt_form s = if s.unended then Part s.form Done else Part s.form (piece dropped)
 
--- inner attributes, the last with what may follow it
+-- Inner attributes. Tokens that aren't laid out may follow the last one.
 abbrev pub attrs_before : List Form → List Form
 attrs_before [] = []
 attrs_before (a ∷ []) = Part a (piece dropped) ∷ []
@@ -108,7 +110,7 @@ abbrev pub block_form : List Attr → List StmtFacts → Bool → Form
 block_form attrs stmts lead =
     body (blank_if lead) (dropped_if (is_plain attrs)) (attrs_before (map attr_form attrs) ++ map stmt_form stmts)
 
--- The block is one expression without a `;`.
+-- The block holds one expression without a `;`, and nothing else.
 abbrev pub is_single : List Attr → List StmtFacts → Bool
 is_single [] (s ∷ []) = s.bare
 is_single _ _ = false
@@ -117,7 +119,7 @@ abbrev pub soft_form : List Attr → List StmtFacts → Form
 soft_form [] (s ∷ []) = if s.bare then soft s.form else block_form [] (s ∷ []) true
 soft_form attrs stmts = block_form attrs stmts true
 
--- A statement that doesn't end by itself is the last.
+-- Each statement but the last ends by itself.
 abbrev pub stmts_good : List StmtFacts → Bool
 stmts_good [] = true
 stmts_good (s ∷ []) = s.good
@@ -148,7 +150,7 @@ branch_facts b = record {
   good = b.condition.good && b.body.good;
 }
 
--- After such a body the comma of an arm may be left out.
+-- After such a body an arm needs no comma.
 abbrev pub is_free : ExprFacts → Bool
 is_free x = x.block_like && not (is_macro x.kind)
 

@@ -1,4 +1,5 @@
--- All facts about expressions, blocks and items, which hold each other: one fold over their trees.
+-- The facts about expressions, blocks and items. These nodes hold each other, so the facts are one
+-- fold over the syntax tree.
 use Rattle.lay_node.specs.nodes.Facts.{Facts}
 use Rattle.lay_node.specs.declared.heads.Site.{Site}
 use Rattle.lay_form.specs.Form.{Form}

@@ -1,16 +1,17 @@
--- The facts about the nodes of code that aren't expressions.
+-- What is computed of each node of code that is no expression.
 use Rattle.std.specs.Prelude.{Bool, Option}
 use Rattle.lay_form.specs.Form.{Form}
 use Rattle.lay_node.specs.declared.heads.Site.{Site}
 
 pub record BlockFacts : Type 0 where
-  -- its braces and what is within them; the flag says that a blank stands before them
+  -- The braces and what stands within them. The flag says that a blank stands before them.
   pub form : Bool → Form
-  -- the same, where a block of one expression may stand on one line
+  -- the same, where a block of one expression may stay on one line
   pub soft : Form
   pub good : Bool
-  -- It holds an expression that is no macro call, without attributes and without a `;`, and nothing else. So it isn't the
-  -- body of an arm, nor that of a closure in whose place the expression may stand: there its braces are dropped.
+  -- It holds one expression without attributes and without a `;`, which is no macro call, and
+  -- nothing else. A body of an arm is no such block, since its braces are dropped. Nor is the body
+  -- of a closure, where the expression may stand in its place.
   pub lone : Bool
   -- That expression holds no struct literal outside delimiters.
   pub structless : Bool
@@ -18,22 +19,23 @@ pub record BlockFacts : Type 0 where
 pub record StmtFacts : Type 0 where
   pub form : Form
   pub good : Bool
-  -- an expression without a `;`, after which none may stand
+  -- an expression without a `;`, which no `;` may follow
   pub unended : Bool
   -- Another statement may stand after it.
   pub ends : Bool
   -- an expression without attributes and without a `;`
   pub bare : Bool
-  -- such a one that is a macro call
+  -- an expression that is a macro call
   pub call : Bool
-  -- no expression that holds a struct literal outside delimiters
+  -- It is no expression that holds a struct literal outside delimiters.
   pub structless : Bool
 
 pub record LinkFacts : Type 0 where
   pub form : Form
   -- It begins with `let`.
   pub is_let : Bool
-  -- It may be one of the links of a condition with a `let`; the flag says that a further link follows.
+  -- It may be one of several links of a condition that has a `let`. The flag says that a further
+  -- link follows.
   pub good : Bool → Bool
   -- It may be a condition by itself.
   pub alone : Bool
@@ -61,7 +63,8 @@ pub record ItemFacts : Type 0 where
   pub call : Bool
 
 pub record KindFacts : Type 0 where
-  -- the head, which the layout keeps in a group of its own, with a visibility before it; a macro has none
+  -- The head, which the layout puts into a group of its own, with the visibility before it. Macros
+  -- have no head.
   pub head : Option Form
   -- what follows it
   pub tail : Form

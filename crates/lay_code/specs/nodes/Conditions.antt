@@ -1,4 +1,5 @@
--- Conditions and their links (Rust Reference, "`if` and `if let` expressions").
+-- The forms of conditions and of their links, and when each is well formed (Rust Reference, "`if`
+-- and `if let` expressions").
 use Rattle.std.specs.Prelude.{◌&&◌, Bool, true, false, List, [], ◌∷◌, codes}
 use Rattle.std.specs.List.{list_any}
 use Rattle.lay_form.specs.Form.{Blank, Operator, Form, Done, Piece, Part, keyword}
@@ -55,7 +56,8 @@ links_good (l ∷ m ∷ more) = l.good true && links_good (m ∷ more)
 abbrev pub has_let : List LinkFacts → Bool
 has_let links = list_any (λ (l : LinkFacts). l.is_let) links
 
--- One link, or more with a `let` among them: without one they would be an expression, whose operator is `&&`.
+-- A condition is one link, or several of which one has a `let`. Several without a `let` are one
+-- expression, whose operator is `&&`.
 abbrev pub condition_good : List LinkFacts → Bool
 condition_good [] = false
 condition_good (l ∷ []) = l.alone

@@ -1,4 +1,4 @@
--- The last token of a form.
+-- Whether the last token of a form is a `}`.
 use Rattle.std.specs.Prelude.{Bool, true, false, List, [], ◌∷◌}
 use Rattle.lay_piece.specs.declared.kind.Delim.TheVariants.{Brace}
 use Rattle.lay_piece.specs.declared.kind.Kind.{Kind}
@@ -9,7 +9,7 @@ abbrev pub is_brace_kind : Kind → Bool
 is_brace_kind (kind.Closer Brace) = true
 is_brace_kind _ = false
 
--- whether the last token is a `}`, where the flag says so of the tokens before
+-- Whether the last token is a `}`. The flag says whether the last token before these bits is one.
 abbrev pub brace_bits : Bool → List Bit → Bool
 brace_bits before [] = before
 brace_bits before (Blank ∷ bits) = brace_bits before bits
@@ -17,8 +17,8 @@ brace_bits before (Fixed kind text ∷ bits) = brace_bits (is_brace_kind kind) b
 brace_bits before (Operator text ∷ bits) = brace_bits false bits
 brace_bits before (Semicolons ∷ bits) = brace_bits before bits
 
--- The same of a form. A body's braces and commas that aren't in the tree don't count: they end no expression but a closure, which
--- stands before no `else`.
+-- The same of a form. Braces and commas of a body that aren't in the tree don't count. They end no
+-- expression but a closure, and a closure may not stand before an `else` anyway.
 abbrev pub brace_behind : Bool → Form → Bool
 brace_behind before Done = before
 brace_behind before (Piece bits f) = brace_behind (brace_bits before bits) f

@@ -1,4 +1,5 @@
--- Files (Rust Reference, "Crates and source files").
+-- The form of a file, and when its syntax tree is normal (Rust Reference, "Crates and source
+-- files").
 use Rattle.std.specs.Prelude.{Bool, true, ◌&&◌, ◌++◌, map}
 use Rattle.lay_form.specs.Form.{Form}
 use Rattle.lay_form.specs.Notation.{lines}

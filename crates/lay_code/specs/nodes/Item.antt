@@ -1,4 +1,5 @@
--- Items (Rust Reference, "Items"). Each ends in a `;` or in a `}`, so anything may follow it.
+-- The forms of items, and when each is well formed (Rust Reference, "Items"). An item ends in a `;`
+-- or a `}`, so any token may follow it.
 use Rattle.std.specs.Prelude.{Bool, true, false, ◌&&◌, ◌||◌, List, [], ◌∷◌, ◌++◌, map, codes, Option, Some, None, is_some, not}
 use Rattle.std.specs.List.{list_all}
 use Rattle.lay_form.specs.Form.{Blank, Operator, Form, Done, Piece, Part, Deeper, keyword, semicolon}
@@ -40,26 +41,29 @@ abbrev pub in_module : Site → Bool
 in_module site.Module = true
 in_module _ = false
 
--- A function may lack its body in a trait, and has none in a foreign block. The flag says that it has one.
+-- Whether a function may stand at a site with a body or without one; the flag says that it has one.
+-- In a trait both may stand, in a foreign block only one without, and elsewhere only one with a
+-- body.
 abbrev pub may_be_bodied : Site → Bool → Bool
 may_be_bodied site.Foreign bodied = not bodied
 may_be_bodied site.TraitMember bodied = true
 may_be_bodied _ bodied = bodied
 
--- A constant has no value in a trait, where it may lack one, and a static in a foreign block.
+-- What may have no value: a constant in a trait, and a static in a foreign block.
 abbrev pub may_lack_value : Site → ValueHead → Bool
 may_lack_value site.TraitMember (value.Const name x) = true
 may_lack_value site.Foreign (value.Static mutable name x) = true
 may_lack_value _ _ = false
 
--- It may have one but in a foreign block, and a static in a module alone.
+-- What may have a value: a constant everywhere but in a foreign block, and a static in a module
+-- only.
 abbrev pub may_have_value : Site → ValueHead → Bool
 may_have_value site.Module head = true
 may_have_value site.Foreign head = false
 may_have_value _ (value.Const name x) = true
 may_have_value _ (value.Static mutable name x) = false
 
--- The flag says that it has one.
+-- The same, where the flag says whether it has a value.
 abbrev pub may_be_valued : Site → ValueHead → Bool → Bool
 may_be_valued site head true = may_have_value site head
 may_be_valued site head false = may_lack_value site head
@@ -157,11 +161,11 @@ call_item_form call = Part (about_call call).form (end_form call.tokens.delim)
 
 -- ---- kinds, given all facts about the items within them
 
--- what has a head, in a module
+-- an item with a head that may stand in a module only
 abbrev pub in_modules : HeadFacts → KindFacts
 in_modules x = record { head = Some x.head; tail = x.tail; good = λ site. x.good && in_module site; call = false }
 
--- what has a head, of which the site decides
+-- an item with a head that depends on the site, as do the sites where it may stand
 abbrev pub by_site : (Site → HeadFacts) → KindFacts
 by_site x = record { head = Some (x site.Module).head; tail = (x site.Module).tail; good = λ site. (x site).good; call = false }
 

@@ -1,4 +1,4 @@
--- What stands in a node of each kind, where the nodes within it are trees.
+-- The nodes of each kind, one level deep: the nodes within them are whole syntax trees.
 use Rattle.lay_code.specs.declared.blocks.Arm.{Arm}
 use Rattle.lay_code.specs.declared.blocks.Block.{Block}
 use Rattle.lay_code.specs.declared.blocks.Branch.{Branch}
@@ -12,7 +12,7 @@ use Rattle.lay_code.specs.declared.exprs.Step.{Step}
 use Rattle.lay_code.specs.declared.item.Item.{Item}
 use Rattle.lay_code.specs.declared.item.ItemKind.{ItemKind}
 
--- one of these, over trees
+-- a node of this kind, with trees within it
 abbrev pub Node : (Type 0 → Type 0 → Type 0 → Type 0 → Type 0 → Type 0 → Type 0 → Type 0 → Type 0 → Type 0 → Type 0 → Type 0) → Type 0
 Node F = F Stmt Link Expr FieldExpr Step ItemKind Arm Block Branch Condition Item
 

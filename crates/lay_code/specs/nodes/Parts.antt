@@ -1,4 +1,4 @@
--- What is within a node, where it is of this kind.
+-- What a node holds, if it is of a given kind.
 use Rattle.std.specs.Prelude.{Option, Some, None}
 use Rattle.lay_code.specs.declared.blocks.Block.{Block}
 use Rattle.lay_code.specs.declared.blocks.Stmt.{Stmt}
@@ -11,7 +11,7 @@ abbrev pub block_in : ExprNode → Option Block
 block_in (Expr-F.Block label b) = Some b
 block_in _ = None
 
--- the block of an expression that is one
+-- the block that an expression is, if it is one
 abbrev pub block_of : Expr → Option Block
 block_of x = block_in (out-Expr x)
 
@@ -19,6 +19,6 @@ abbrev pub expr_in : StmtNode → Option Expr
 expr_in (Stmt-F.Stmt::Expr attrs x ended) = Some x
 expr_in _ = None
 
--- the expression of a statement that is one
+-- the expression that a statement is, if it is one
 abbrev pub expr_of : Stmt → Option Expr
 expr_of s = expr_in (out-Stmt s)
