@@ -1,4 +1,5 @@
--- Expressions (Rust Reference, "Expressions").
+-- The forms of expressions, when each is well formed, and which tokens may follow it (Rust
+-- Reference, "Expressions").
 use Rattle.std.specs.Prelude.{ℕ, suc, ◌+◌, ◌==◌, nat_le, ◌&&◌, ◌||◌, not, Bool, true, false, if◌then◌else◌, List, [], ◌∷◌, ◌++◌, map, codes, length, drop, Option, Some, None, is_some, ◌≤◌, ◌⊎◌, IsTrue}
 use Rattle.std.specs.List.{list_all}
 use Rattle.std.specs.Str.{bytes_eq, chars}
@@ -44,9 +45,10 @@ use Rattle.lay_code.specs.declared.operators.Prefix.TheVariants as before
 -- ---- what an expression ends in
 
 pub record Tail : Type 0 where
-  -- the operand of a `return` or of a `break`, or the body of a closure, which takes all operators
+  -- It ends in the operand of a `return` or of a `break`, or in the body of a closure. Such an
+  -- operand takes every operator that follows.
   pub takes_all : Bool
-  -- A last operand that may stand there is left out.
+  -- It ends where an operand may stand that is left out.
   pub bare : Bool
   -- a path, after which a `{` begins a struct literal
   pub path : Bool
@@ -54,11 +56,11 @@ pub record Tail : Type 0 where
   pub unlabelled : Bool
   -- a `&` before the path `raw`
   pub raw : Bool
-  -- branches without an `else`
+  -- an `if` without an `else`
   pub lacks_else : Bool
   -- a closure
   pub closure : Bool
-  -- what the part refuses that it ends in
+  -- what the part at its end refuses
   pub refuses : List Begin
 
 abbrev pub shut_by : List Begin → Tail
@@ -70,7 +72,7 @@ shut = shut_by []
 abbrev pub lacks_operand : Tail
 lacks_operand = record shut { bare = true }
 
--- No operator can follow it.
+-- No operator can follow what ends so.
 abbrev pub is_open : Tail → Bool
 is_open t = t.takes_all || t.bare || t.closure
 
@@ -78,19 +80,22 @@ abbrev pub is_args : Begin → Bool
 is_args OfArgs = true
 is_args _ = false
 
--- what refuses generic arguments, as a type does that is open at its end
+-- Generic arguments are among what is refused. So it is after a type to which they could still be
+-- added.
 abbrev pub lacks_args : List Begin → Bool
 lacks_args [] = false
 lacks_args (b ∷ bs) = is_args b || lacks_args bs
 
--- It ends in a type that is open at its end.
+-- The expression ends in a type to which generic arguments could still be added, and in no operand
+-- that takes all operators.
 abbrev pub is_typed : Tail → Bool
 is_typed t = not t.takes_all && lacks_args t.refuses
 
 abbrev pub begins_pointer : Tokens → Bool
 begins_pointer ts = first (is_keyword (codes "const")) ts || first (is_keyword (codes "mut")) ts
 
--- The tokens may follow what an expression ends in; the flag says that no struct literal may stand there.
+-- The tokens may follow an expression that ends so. The flag says that no struct literal may stand
+-- there.
 abbrev pub tail_follows : Tail → Bool → Tokens → Bool
 tail_follows t no_struct ts =
     (not t.takes_all || strength ts == 0) && not (t.bare && begins_operand no_struct ts)
@@ -104,45 +109,46 @@ pub record ExprFacts : Type 0 where
   pub level : ℕ
   pub lead : ExprLead
   pub tail : Tail
-  -- a `return`, a `break` or a closure, which stands at its level only where no operator follows
+  -- A `return`, a `break` or a closure. It stands at its level only where no operator follows.
   pub jumps : Bool
   -- a range without an end
   pub endless : Bool
-  -- a cast to a type that is open at its end
+  -- a cast to a type to which generic arguments could still be added
   pub typed : Bool
   pub is_struct : Bool
-  -- It ends a statement without a `;`, so that nothing but `.` and `?` goes on with it there: what ends in a block of its
-  -- own, and a macro call in braces.
+  -- As a statement it needs no `;`, and then only `.` and `?` go on with it. Such are expressions
+  -- that end in a block of their own, and macro calls in braces.
   pub block_like : Bool
   pub kind : BodyKind
   -- the path of the one word `raw`
   pub is_raw : Bool
   -- a number without suffix
   pub is_number : Bool
-  -- Each expression that begins where it begins may stand there where it begins a statement.
+  -- Where it begins a statement, each expression at its left edge may stand there too.
   pub starts : Bool
-  -- No closure ends where it ends whose body keeps braces only since no struct literal may stand there.
+  -- No closure at its right edge has a body that keeps its braces only because no struct literal
+  -- may stand there.
   pub tight : Bool
   -- It holds no struct literal outside delimiters.
   pub structless : Bool
-  -- What is within it is well formed and stands in its places; the flags say that no struct literal may stand there, and
-  -- that it begins a statement.
+  -- What is within it is well formed and stands in its places. The flags say that no struct literal
+  -- may stand there, and that the expression begins a statement.
   pub within : Bool → Bool → Bool
 
--- An expression may stand in a place, by its root alone.
+-- The root of an expression may stand in a place.
 abbrev pub may : ExprFacts → Place → Bool
 may e place =
     nat_le place.level e.level && not (place.op_after && (e.jumps || e.endless)) && not (place.lt_after && e.typed)
     && not (is_part place.start && e.block_like) && not (place.no_struct && e.is_struct)
 
--- It may stand there, and so may each expression that ends where it ends: where an operator follows it, one follows them
--- too. The places of those are within it otherwise.
+-- The root may stand in the place, and so may each expression at the right edge: an operator that
+-- follows the whole follows these too.
 abbrev pub stands : ExprFacts → Place → Bool
 stands e place =
     nat_le place.level e.level && not (place.op_after && is_open e.tail) && not (place.lt_after && is_typed e.tail)
     && not (is_part place.start && e.block_like) && not (place.no_struct && e.is_struct)
 
--- It stands in a place, and all that is within it in its own.
+-- The expression stands in a place, and all that is within it stands in its own places.
 abbrev pub placed : ExprFacts → Place → Bool
 placed e place = stands e place && e.within place.no_struct (begins place.start)
 
@@ -150,7 +156,7 @@ abbrev pub root_follows : ExprFacts → Place → Tokens → Bool
 root_follows e place ts =
     if is_whole place.start && e.block_like then not (is_dot_or_try ts) else nat_le (strength ts) place.level
 
--- The tokens may follow it: what goes on with its root, and what goes on with what it ends in.
+-- The tokens may follow the expression: they don't go on with its root, nor with what it ends in.
 abbrev pub follows : ExprFacts → Place → Tokens → Bool
 follows e place ts = root_follows e place ts && tail_follows e.tail place.no_struct ts
 
@@ -178,7 +184,7 @@ pub record StepFacts : Type 0 where
 
 -- ---- layers
 
--- what stands in a node, given these facts about the nodes within it
+-- what stands in a node, with facts in place of the nodes within it
 abbrev pub Layer : (Type 0 → Type 0 → Type 0 → Type 0 → Type 0 → Type 0 → Type 0 → Type 0 → Type 0 → Type 0 → Type 0 → Type 0) → Type 0
 Layer F = F StmtFacts LinkFacts ExprFacts Facts StepFacts KindFacts ArmFacts BlockFacts BranchFacts ConditionFacts ItemFacts
 
@@ -276,7 +282,7 @@ step_facts (Step-F.Index x) = record {
 step_facts Step-F.Try = record { kind = OfTry; form = piece (Operator (codes "?") ∷ []); good = true }
 step_facts Step-F.Await = record { kind = OfAwait; form = piece (Operator (codes ".") ∷ keyword (codes "await") ∷ []); good = true }
 
--- A call doesn't stand directly after a field: that is a method.
+-- No call stands directly after a field, since that would be a method call.
 abbrev pub are_steps : List StepFacts → Bool
 are_steps [] = true
 are_steps (s ∷ []) = s.good
@@ -291,7 +297,7 @@ tail_of_steps [] = shut
 tail_of_steps (s ∷ []) = if is_field s.kind then shut_by (OfColons ∷ []) else shut
 tail_of_steps (s ∷ t ∷ more) = tail_of_steps (t ∷ more)
 
--- how many of them are methods
+-- how many of the steps are method calls
 abbrev pub methods : List StepFacts → ℕ
 methods [] = 0
 methods (s ∷ more) = (if is_method s.kind then 1 else 0) + methods more
@@ -300,8 +306,8 @@ abbrev pub break_if : Bool → Form → Form
 break_if true f = Z f
 break_if false f = f
 
--- Steps, where a break stands before each method after the first; the flags say that there are several methods, and that
--- one stands before these.
+-- The steps, with a break before each method call after the first. The flags say that there are
+-- several method calls, and that one of them stands before these steps.
 abbrev pub steps_form : Bool → Bool → List StepFacts → Form
 steps_form several behind [] = Done
 steps_form several behind (s ∷ more) =
@@ -431,20 +437,21 @@ is_closure_param p = are_attrs false p.attrs && pat_good Single (about_pat p.pat
 abbrev pub bar : Bit
 bar = Fixed kind.Punct (codes "|")
 
--- what stands before the body of a closure, after its `async`
+-- a closure from its parameters on, after its `async`, with a `move` if it has one
 abbrev pub behind_async : Bool → List ClosureParam → Form → Form
 behind_async moves params f =
     when moves (keyword (codes "move") ∷ Blank ∷ []) (Part (comma_list true bar bar (map closure_param params)) f)
 
--- what stands before the body of a closure
+-- a closure up to its body
 abbrev pub closure_head : Bool → Bool → List ClosureParam → Form → Form
 closure_head is_async moves params f = when is_async (keyword (codes "async") ∷ Blank ∷ []) (behind_async moves params f)
 
--- Braces that aren't in the tree stand only round a body that may be a statement.
+-- Braces that aren't in the tree may stand around a body only if the body may be a statement.
 abbrev pub body_braces : ExprFacts → Braces
 body_braces x = if x.starts && x.tight then braces_of x.kind else Bare
 
--- The body of a closure. One that gets braces where it is broken stands after a break that is never a newline.
+-- The body of a closure. A body that gets braces where it is broken stands after a break that is
+-- never a newline.
 abbrev pub closure_body : Braces → Form → Form
 closure_body Marked x = N (Body Marked Nothing x Done)
 closure_body braces x = Body braces Nothing x Done
@@ -663,7 +670,7 @@ is_bare_literal _ = false
 
 -- ---- what it begins with and ends in, where it is a statement
 
--- What stands first in it may begin a statement's part.
+-- The left edge of the expression may begin a part of a statement.
 abbrev pub begins_part : ExprFacts → Bool
 begins_part x = not x.block_like && x.starts
 
@@ -700,7 +707,8 @@ abbrev pub structless_operand : Option ExprFacts → Bool
 structless_operand None = true
 structless_operand (Some x) = x.structless
 
--- an operand that may be left out: one that begins with a `{` stands only where a struct literal may
+-- An operand that may be left out. If it begins with a `{`, it may stand only where a struct
+-- literal may.
 abbrev pub structless_end : Option ExprFacts → Bool
 structless_end None = true
 structless_end (Some x) = x.structless && not (is_brace_lead x.lead)
@@ -724,7 +732,7 @@ abbrev pub next_is_angle : List (Op × ExprFacts) → Bool
 next_is_angle [] = false
 next_is_angle (x ∷ more) = is_angle_op x.0
 
--- an operand after an operator of this level, before those that follow
+-- the place of an operand after an operator of this level, by the operators that follow
 abbrev pub operand_place : ℕ → Bool → List (Op × ExprFacts) → Place
 operand_place level no_struct [] = plain (suc level) no_struct
 operand_place level no_struct (x ∷ more) = before_op (suc level) no_struct false (is_angle_op x.0)
@@ -734,7 +742,7 @@ operands_placed level no_struct [] = true
 operands_placed level no_struct (x ∷ more) =
     (op_level x.0 == level) && placed x.1 (operand_place level no_struct more) && operands_placed level no_struct more
 
--- Operators of level 4 don't follow each other.
+-- Operators of level 4, the comparisons, don't chain.
 abbrev pub may_chain : ℕ → List (Op × ExprFacts) → Bool
 may_chain level [] = false
 may_chain level (x ∷ []) = true
@@ -770,7 +778,8 @@ abbrev pub operand_placed : Option ExprFacts → Bool → Bool
 operand_placed None no_struct = true
 operand_placed (Some x) no_struct = placed x (plain 0 no_struct) && begins_free no_struct x
 
--- After a `break` without a label a lifetime would be one.
+-- A `break` without a label has no operand that begins with a lifetime: it would be read as the
+-- label.
 abbrev pub break_placed : Option Lifetime → Option ExprFacts → Bool
 break_placed None (Some x) = not (is_label_lead x.lead)
 break_placed _ _ = true
@@ -779,8 +788,8 @@ abbrev pub base_placed : Option (Option ExprFacts) → Bool
 base_placed (Some (Some x)) = placed x FREE
 base_placed _ = true
 
--- A base begins a statement's part where its first step isn't `.` or `?`. A tuple index isn't directly after a number
--- without suffix.
+-- The base begins a part of a statement unless its first step is `.` or `?`. No tuple index stands
+-- directly after a number without a suffix.
 abbrev pub postfix_placed : ExprFacts → List StepFacts → Bool → Bool → Bool
 postfix_placed x steps no_struct first =
     is_there steps && are_steps steps && not (x.is_number && first_step is_tuple_index steps)
@@ -857,11 +866,11 @@ expr_facts x = record {
 
 -- ---- beginnings
 
--- What is spelled by these tokens may stand before the rest. Where it ends within braces that aren't in the tree, it ends as a
--- block does: no operator follows it, and nothing else is asked.
+-- The expression that these tokens spell may stand before the rest. If it ends in braces that
+-- aren't in the tree, it ends as a block does: then it is enough that no operator follows.
 abbrev pub Followed : ExprFacts → Place → ℕ → Tokens → Tokens → Type 0
 Followed x place depth ts rest = IsTrue (follows x place rest) ⊎ (EndsBraced x.form depth ts rest × IsTrue (strength rest == 0))
 
--- An expression with these facts stands at the beginning of the tokens, at the place.
+-- An expression with these facts stands at the place, and the first `n` tokens spell it.
 abbrev pub ExprFront : Place → ExprFacts → Tokens → ℕ → ℕ → Type 0
 ExprFront place x ts n depth = (n ≤ length ts) × Spells x.form depth ts (drop n ts) × IsTrue (placed x place) × Followed x place depth ts (drop n ts)

@@ -1,4 +1,5 @@
--- Reading blocks, statements and arms, over what reads one level deeper.
+-- Parsing blocks, statements and the arms of a match, given the functions that parse one level
+-- deeper.
 use Rattle.std.specs.Prelude.{ℕ, zero, suc, max, not, ◌&&◌, ◌||◌, Bool, true, false, if◌then◌else◌, List, [], ◌∷◌, length, drop, codes, Option, Some, None, is_some}
 use Rattle.std.specs.List.{list_any}
 use Rattle.lay_token.specs.Operators.{is_op}
@@ -31,7 +32,7 @@ use Rattle.lay_code.specs.declared.exprs.Expr.{Expr}
 
 -- ---- statements
 
--- what is left after any number of `;`
+-- the tokens after any number of `;`
 abbrev pub behind_semicolons : Tokens → Tokens
 behind_semicolons [] = []
 behind_semicolons (t ∷ ts) = if is_mark (codes ";") t then behind_semicolons ts else t ∷ ts
@@ -45,14 +46,15 @@ item_words =
 abbrev pub begins_with : List (List ℕ) → Tokens → Bool
 begins_with words ts = list_any (λ word. first (is_keyword word) ts) words
 
--- `const` and `unsafe` before a `{`, and `async` before what is no function, begin an expression.
+-- What begins an item: one of these words, or `const` or `unsafe` without a `{` after it, or
+-- `async` before the words of a function.
 abbrev pub begins_item : Tokens → Bool
 begins_item ts =
     begins_with item_words ts || (begins_with (codes "const" ∷ codes "unsafe" ∷ []) ts && not (first (opens Brace) (tail ts)))
     || (first (is_keyword (codes "async")) ts && begins_with (codes "fn" ∷ codes "unsafe" ∷ codes "extern" ∷ []) (tail ts))
     || begins_union ts || begins_rules ts
 
--- an item, which is no macro call: there that is an expression
+-- An item that is no macro call. As a statement a macro call is an expression.
 abbrev pub item_stmt : ExprWithin → Tokens → Read Stmt
 item_stmt within ts = do
   i ← within.items Module ts
@@ -89,7 +91,8 @@ stmt_behind within attrs begun ts =
 unfoldable pub stmt_by : ExprWithin → Tokens → Read Stmt
 stmt_by within ts = do attrs ← attributes false ts; stmt_behind within attrs.0 ts attrs.1
 
--- a statement of a block, and the `;` after it; one that doesn't end by itself is the last
+-- A statement of a block and each `;` after it. A statement that doesn't end by itself is the last
+-- one.
 abbrev pub stmt_in_block : ExprWithin → Tokens → Read Stmt
 stmt_in_block within ts = do
   s ← stmt_by within ts
@@ -128,17 +131,19 @@ abbrev pub block_held : (Expr → Expr) → Expr → ExprNode → Expr
 block_held undress x (Expr-F.Block label b) = held_by undress x b.stmts
 block_held undress x _ = x
 
--- The body of an arm, without the braces that aren't in the tree. Each turn takes off one pair.
+-- The body of an arm without the braces that aren't in the tree. Each turn takes off one pair.
 unfoldable pub undressed : ℕ → Expr → Expr
 undressed zero x = x
 undressed (suc turns) x = if is_lone_body (about_expr x).kind then block_held (undressed turns) x (out-Expr x) else x
 
--- Within this many pairs of braces that aren't in the tree a body needs as many more, and one at least.
+-- The depth that a body needs, by what the expression needs as it was parsed. Braces that are
+-- dropped are a level already. Where none are dropped, one level is added.
 abbrev pub body_need : Bool → ℕ → ℕ
 body_need true need = need
 body_need false need = suc need
 
--- what is left after the comma of an arm, which may lack it before the end, and where the flag says so
+-- The tokens after the comma of an arm. The comma may be missing at the end of the match, and where
+-- the flag says so.
 abbrev pub arm_end : Bool → Tokens → Option Tokens
 arm_end free ts = if first (is_mark (codes ",")) ts then Some (tail ts) else (if free || first (closes Brace) ts then Some ts else None)
 

@@ -1,4 +1,5 @@
--- Reading expressions, blocks and items, each over what reads one level deeper.
+-- Parsing expressions, blocks and items of a limited depth. Each parser uses those of the depth
+-- below.
 use Rattle.std.specs.Prelude.{ℕ, zero, suc, true, Some, None}
 use Rattle.lay_node.specs.Ahead.{Tokens}
 use Rattle.lay_node.specs.reader.Functions.{insides}
@@ -21,11 +22,12 @@ use Rattle.lay_code.specs.declared.item.Item.{Item}
 abbrev pub deeper_block : ExprWithin → Tokens → Read Block
 deeper_block within ts = do b ← block_by within ts; Some ((b.0.0, suc b.0.1), b.1)
 
--- The operators after the first operands of a condition, whose level is that of an `&&`.
+-- The operators after the first operands of a condition. Those operands are joined by `&&`, so only
+-- operators of lower levels may follow.
 abbrev pub climbed_on : ExprWithin → ℕ → Expr × ℕ → Tokens → Read Expr
 climbed_on within budget lhs ts = do x ← climb within (plain 0 true) 3 lhs ts; accepted budget (plain 0 true) x.0 x.1
 
--- expressions, blocks and items within a budget
+-- how expressions, blocks and items of at most this depth are parsed
 unfoldable pub code_in : ℕ → ExprWithin
 code_in zero = record {
   exprs = λ place ts. None;

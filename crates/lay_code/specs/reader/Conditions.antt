@@ -1,8 +1,8 @@
--- Reading conditions, over what reads one level deeper.
+-- Parsing conditions, given the functions that parse one level deeper.
 --
--- A condition doesn't show at its start whether it has links. So links are read one by one, at the depth at which they stand. If
--- none of them is a `let`, they are the first operands of an expression, whose further operators are read after them. So
--- nothing is read twice.
+-- How a condition begins doesn't tell whether it has links. So its links are parsed one by one, at
+-- the depth of links. If none of them is a `let`, they become the first operands of an expression,
+-- and the operators after them are parsed next. So nothing is parsed twice.
 use Rattle.std.specs.Prelude.{ℕ, suc, max, ◌==◌, Bool, true, if◌then◌else◌, List, [], ◌∷◌, drop, map, codes, Option, Some, None, is_some}
 use Rattle.std.specs.List.{list_any}
 use Rattle.lay_token.specs.Operators.{is_op}
@@ -25,7 +25,7 @@ use Rattle.lay_code.specs.declared.operators.Op.TheVariants as op
 
 -- ---- links
 
--- a link as it is read: an expression, which stands after a `let` and a pattern if there is one
+-- a link as it is parsed: an expression, after a `let` and a pattern if it has them
 abbrev pub ReadLink : Type 0
 ReadLink = Option Pat × Expr
 
@@ -49,11 +49,11 @@ expr_link within ts = do x ← within.exprs (plain 4 true) ts; Some (((None, x.0
 abbrev pub link_by : ExprWithin → Tokens → Read ReadLink
 link_by within ts = if first (is_keyword (codes "let")) ts then let_link within (tail ts) else expr_link within ts
 
--- An `&&` goes on with the links.
+-- The next operator is an `&&`, so a further link follows.
 abbrev pub begins_link : Tokens → Bool
 begins_link ts = strength ts == 4
 
--- Where a further link follows, it may stand before it.
+-- If a further link follows, this one may stand before it.
 abbrev pub link_ends : ReadLink → Tokens → Bool
 link_ends l ts = if begins_link ts then stands (about_expr l.1) (link_place true) else true
 
@@ -62,13 +62,13 @@ one_link within ts = do
   l ← link_by within ts
   if link_ends l.0.0 l.1 then Some l else None
 
--- what follows, each after an `&&`
+-- the further links, each after an `&&`
 unfoldable pub further_links : ExprWithin → Tokens → Got (List (ReadLink × ℕ))
 further_links within ts = repeat begins_link (λ us. one_link within (drop 2 us)) ts
 
 -- ---- conditions
 
--- links without a `let` as one expression
+-- the links, of which none has a `let`, as one expression
 abbrev pub chain_of : ReadLink × ℕ → List (ReadLink × ℕ) → Expr × ℕ
 chain_of l [] = (l.0.1, l.1)
 chain_of l (m ∷ more) =
@@ -80,13 +80,13 @@ any_let l more = list_any is_let (l.0 ∷ nodes more)
 abbrev pub alone : Expr → Condition
 alone x = record { links = link.Expr x ∷ [] }
 
--- the condition that begins with these links, or is them
+-- the condition of these links, or of an expression that begins with them
 unfoldable pub condition_of : ExprWithin → ReadLink × ℕ → List (ReadLink × ℕ) → Tokens → Read Condition
 condition_of within l more ts =
     if any_let l more then Some ((record { links = map linked (l.0 ∷ nodes more) }, max l.1 (deepest more)), ts)
     else (do x ← within.goes_on (chain_of l more) ts; Some ((alone x.0.0, x.0.1), x.1))
 
--- A range without a start is an expression, whose level is below that of links.
+-- A range without a start is no link: its level is lower. So it is parsed as an expression.
 unfoldable pub condition_by : ExprWithin → Tokens → Read Condition
 condition_by within ts =
     if begins_dots ts then (do x ← within.exprs (plain 0 true) ts; Some ((alone x.0.0, x.0.1), x.1))

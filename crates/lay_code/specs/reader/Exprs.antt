@@ -1,4 +1,5 @@
--- Reading expressions. What begins one is read first, and then each operator after it, from the strongest on.
+-- Parsing expressions by precedence climbing. What begins an expression is parsed first, and then
+-- the operators after it, from the highest level down to that of the place.
 use Rattle.std.specs.Prelude.{ℕ, zero, suc, max, ◌==◌, nat_le, ◌&&◌, not, Bool, true, false, if◌then◌else◌, List, [], ◌∷◌, length, drop, codes, Option, Some, None, is_some}
 use Rattle.std.specs.Str.{chars}
 use Rattle.lay_piece.specs.Number.{is_index}
@@ -64,13 +65,13 @@ field_by within attrs (Some i) ts = do x ← within.exprs FREE i.1; Some ((field
 unfoldable pub one_field : ExprWithin → Tokens → Read FieldExpr
 one_field within ts = do attrs ← attributes false ts; field_by within attrs.0 (index attrs.1) attrs.1
 
--- what follows the `..` of a base
+-- the base of a struct literal, after its `..`
 abbrev pub base_by : ExprWithin → Tokens → Read (Option (Option Expr))
 base_by within ts =
     if first (closes Brace) ts then Some ((Some None, 0), ts)
     else (do x ← within.exprs FREE ts; Some ((Some (Some x.0.0), x.0.1), x.1))
 
--- a base, where the flag says that fields have ended
+-- The base of a struct literal, if it has one. The flag says that the fields have ended.
 unfoldable pub base : ExprWithin → Bool → Tokens → Read (Option (Option Expr))
 base within ended ts = if ended && is_op (codes "..") ts then base_by within (drop 2 ts) else Some ((None, 0), ts)
 
@@ -135,7 +136,7 @@ bracket_expr within ts =
 
 -- ---- after a word or an operator
 
--- an operand at a level, where one begins
+-- an operand of this level, if the tokens begin one
 abbrev pub operand_if : ExprWithin → ℕ → Bool → Tokens → Read (Option Expr)
 operand_if within level no_struct ts = if_read (begins_operand no_struct ts) (within.exprs (plain level no_struct)) ts
 
@@ -163,7 +164,7 @@ unary_expr within no_struct ts = do
   x ← within.exprs (plain 12 no_struct) ps.1
   Some ((expr.Unary ps.0 x.0.0, suc x.0.1), x.1)
 
--- what follows the operator of a range, whose first end needs so much
+-- A range after its operator. Its start needs this depth.
 abbrev pub range_by : ExprWithin → Bool → Option Expr → ℕ → Bool → Tokens → Read Expr
 range_by within no_struct start need inclusive ts = do
   x ← operand_if within 2 no_struct ts
@@ -252,13 +253,13 @@ closure_param within ts = do
   t ← if_read (is_op (codes ":") p.1) (λ us. within.kinds.types Bounds (drop 1 us)) p.1
   Some ((record { attrs = attrs.0; pat = p.0.0; ty = t.0.0 }, max p.0.1 t.0.1), t.1)
 
--- The body of a closure, without the braces that aren't in the tree. Each turn takes off one pair, and a pair whose
--- expression can't stand in the body's place stays.
+-- The body of a closure without the braces that aren't in the tree. Each turn takes off one pair. A
+-- pair stays if the expression within can't stand in the body's place.
 unfoldable pub shed : Bool → ℕ → Expr → Expr
 shed no_struct zero x = x
 shed no_struct (suc turns) x = if sheds (about_expr x).kind no_struct then block_held (shed no_struct turns) x (out-Expr x) else x
 
--- what follows the parameters of a closure; after its body no operator stands
+-- a closure after its parameters
 abbrev pub closure_body : ExprWithin → Bool → Bool → Bool → List ClosureParam → ℕ → Tokens → Read Expr
 closure_body within no_struct is_async moves params need ts =
     if is_op (codes "->") ts
@@ -307,7 +308,7 @@ head_by within no_struct None ts = None
 
 -- ---- steps
 
--- arguments, and generic ones before them, of a method
+-- a method call after its name and its generic arguments, if it has those
 abbrev pub method_by : ExprWithin → Name → Option (List Arg) → ℕ → Tokens → Read Step
 method_by within n generics need ts = do
   behind ← passed (opens Paren) ts
@@ -319,7 +320,7 @@ generics_by within n ts = do
   args ← angled (one_arg within.kinds) ts
   method_by within n (Some (nodes args.0)) (deepest args.0) args.1
 
--- what follows a `.` and a name
+-- a method call or a field, after the `.` and its name
 abbrev pub member_by : ExprWithin → Name → Tokens → Read Step
 member_by within n ts =
     if first (opens Paren) ts then method_by within n None 0 ts
@@ -354,7 +355,7 @@ one_step within ts =
     else (if first (opens Paren) ts then call_step within (tail ts)
     else (do behind ← passed (opens Bracket) ts; index_step within behind)))
 
--- A tuple index doesn't stand directly after a number without suffix.
+-- The tokens begin a tuple index. It may not stand directly after a number without a suffix.
 abbrev pub begins_tuple_index : Tokens → Bool
 begins_tuple_index ts = is_op (codes ".") ts && first is_index_token (drop 1 ts)
 
@@ -367,7 +368,8 @@ postfix_expr within lhs ts =
 
 -- ---- operators after an operand
 
--- Where an operator of the same level follows an operand, the operand may stand before it, and the level isn't 4.
+-- If an operator of the same level follows, the operand may stand before it, and the level isn't 4,
+-- whose operators don't chain.
 abbrev pub operand_ends : ℕ → Bool → ExprFacts → Tokens → Bool
 operand_ends level no_struct x ts =
     if strength ts == suc level then not (level == 4) && stands x (before_op (suc level) no_struct false (is_angle ts)) else true
@@ -387,7 +389,7 @@ chain_expr within level no_struct lhs ts = do
   more ← operands within level no_struct ts
   Some ((expr.Chain lhs.0 (nodes more.0), suc (max lhs.1 (deepest more.0))), more.1)
 
--- operands with operators between them, as targets and a value
+-- the targets of an assignment, out of operands and the operators between them
 abbrev pub targets_of : Expr → List (Op × Expr) → List (Expr × Op)
 targets_of x [] = []
 targets_of x (y ∷ more) = (x, y.0) ∷ targets_of y.1 more
@@ -409,7 +411,7 @@ cast_expr within lhs ts = do
   types ← repeat (first (is_keyword (codes "as"))) (one_type within) ts
   Some ((expr.Cast lhs.0 (nodes types.0), suc (max lhs.1 (deepest types.0))), types.1)
 
--- what an operator of this level makes of the expression before it
+-- the expression that an operator of this level makes of the expression before it
 abbrev pub stage : ExprWithin → ℕ → Bool → Expr × ℕ → Tokens → Read Expr
 stage within zero no_struct lhs ts = assign_expr within no_struct lhs ts
 stage within (suc zero) no_struct lhs ts = range_expr within no_struct (Some lhs.0) lhs.1 ts
@@ -417,12 +419,13 @@ stage within (suc (suc level)) no_struct lhs ts =
     if suc (suc level) == 11 then cast_expr within lhs ts
     else (if suc (suc level) == 13 then postfix_expr within lhs ts else chain_expr within (suc (suc level)) no_struct lhs ts)
 
--- where the expression before an operator of this level stands
+-- the place of the expression before an operator of this level
 abbrev pub left_place : Place → ℕ → Tokens → Place
 left_place place level ts =
     before_op (suc level) place.no_struct (begins place.start && not (level == 13 && is_dot_or_try ts)) (is_angle ts)
 
--- the operators below a level that the place allows, from the strongest on
+-- The operators that are below the first level and that the place allows, from the highest level
+-- down.
 unfoldable pub climb : ExprWithin → Place → ℕ → Expr × ℕ → Tokens → Read Expr
 climb within place zero lhs ts = Some (lhs, ts)
 climb within place (suc level) lhs ts =
@@ -432,7 +435,7 @@ climb within place (suc level) lhs ts =
     else None)
     else climb within place level lhs ts
 
--- At the start of a statement nothing but `.` and `?` goes on with what ends it.
+-- At the start of a statement only `.` and `?` go on with an expression that ends the statement.
 abbrev pub is_ended : Place → ExprFacts → Tokens → Bool
 is_ended place x ts = is_whole place.start && x.block_like && not (is_dot_or_try ts)
 

@@ -1,4 +1,4 @@
--- Reading items.
+-- Parsing items, given the functions that parse one level deeper.
 use Rattle.std.specs.Prelude.{ℕ, suc, max, ◌||◌, Bool, true, false, if◌then◌else◌, List, drop, codes, Some, None, is_some, Option}
 use Rattle.lay_token.specs.Operators.{is_op}
 use Rattle.lay_piece.specs.declared.kind.Delim.TheVariants.{Brace}
@@ -29,11 +29,12 @@ use Rattle.lay_code.specs.declared.item.Item.{Item}
 use Rattle.lay_code.specs.declared.item.ItemKind.{ItemKind}
 use Rattle.lay_code.specs.declared.item.ItemKind.TheVariants as item
 
--- all items up to where they end
+-- all items up to the end of the body or of the tokens
 unfoldable pub items_by : (Tokens → Read Item) → Tokens → Got (List (Item × ℕ))
 items_by one ts = repeat more_items one ts
 
--- How what is within an item is read: items at a site one level deeper, use trees, what is within heads, and code.
+-- The parsers of what stands within an item: items at a site one level deeper, use trees, what
+-- stands within heads, and code.
 pub record ItemWithin : Type 0 where
   pub items : Site → Tokens → Read Item
   pub trees : Tokens → Read UseTree
@@ -115,7 +116,8 @@ rules_item ts = do
 unfoldable pub call_item : Tokens → Read ItemKind
 call_item ts = do c ← call ts; rest ← behind_end c.0.tokens.delim c.1; Some ((item.Call c.0, 0), rest)
 
--- Where an item with this lead may stand. Of a function, an alias and a value what follows the lead decides.
+-- An item with this lead may stand at the site, as far as the lead tells. For functions, aliases
+-- and values, what follows the lead decides.
 abbrev pub may_stand : Site → ItemLead → Bool
 may_stand at OfFunction = true
 may_stand at OfAlias = true
@@ -144,7 +146,8 @@ kind_at at within ts = if may_stand at (item_lead ts) then kind_by at within (it
 
 -- ---- with its attributes and its visibility
 
--- A macro call and what declares a macro have no visibility.
+-- An item with its attributes and its visibility. Macro calls and declarations of macros have no
+-- visibility.
 unfoldable pub item_by : Site → ItemWithin → Tokens → Read Item
 item_by at within ts = do
   attrs ← attributes false ts

@@ -1,4 +1,4 @@
--- What an item begins with.
+-- Lookahead for items: which kind of item the next tokens begin.
 use Rattle.std.specs.Prelude.{◌&&◌, Bool, if◌then◌else◌, drop, codes, is_some}
 use Rattle.lay_token.specs.Operators.{is_op}
 use Rattle.lay_node.specs.Ahead.{Tokens, first, tail, is_keyword}
@@ -24,14 +24,14 @@ pub data ItemLead : Type 0 where
 abbrev pub begins_function : Tokens → Bool
 begins_function ts = first (is_keyword (codes "fn")) (behind_qualifiers ts)
 
--- `union` before a name, and `macro_rules` before a `!` and a name, are words of their own.
+-- `union` is a keyword only before a name, and `macro_rules` only before a `!` and a name.
 abbrev pub begins_union : Tokens → Bool
 begins_union ts = first (is_keyword (codes "union")) ts && is_some (name (tail ts))
 
 abbrev pub begins_rules : Tokens → Bool
 begins_rules ts = first (is_keyword (codes "macro_rules")) ts && is_op (codes "!") (tail ts) && is_some (name (drop 1 (tail ts)))
 
--- what begins with `unsafe`, or could, and is no function
+-- what `unsafe` begins, by the tokens after it, if it is no function
 abbrev pub unsafe_lead : Tokens → ItemLead
 unsafe_lead ts =
     if first (is_keyword (codes "trait")) ts then OfTrait

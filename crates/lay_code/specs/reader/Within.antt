@@ -1,4 +1,4 @@
--- How what is one level deeper is read.
+-- The parsers of one level deeper.
 use Rattle.std.specs.Prelude.{ℕ}
 use Rattle.lay_node.specs.Ahead.{Tokens}
 use Rattle.lay_node.specs.reader.Loops.{Read}
@@ -11,8 +11,9 @@ use Rattle.lay_code.specs.declared.exprs.Expr.{Expr}
 use Rattle.lay_code.specs.declared.exprs.Place.{Place}
 use Rattle.lay_code.specs.declared.item.Item.{Item}
 
--- Expressions at a place, the types and the arguments of paths, patterns at a place, the blocks after an `else`, the
--- items of a site, and what goes on with the first operands of a condition, which need so much.
+-- They parse expressions at a place, types and the arguments of paths, patterns at a place, blocks
+-- after an `else`, and items at a site. The last one goes on with the first operands of a
+-- condition, which it is given with the depth that they need.
 pub record ExprWithin : Type 0 where
   pub exprs : Place → Tokens → Read Expr
   pub kinds : Within
