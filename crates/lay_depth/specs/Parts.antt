@@ -1,4 +1,4 @@
--- What the parts of code need that have no form of their own.
+-- The forms and needs of parts of code that the definitions give no form of their own.
 use Rattle.std.specs.Prelude.{ℕ, max, true, Option, Some, None}
 use Rattle.lay_form.specs.Depth.{least_depth}
 use Rattle.lay_form.specs.Form.{Form, Part}
@@ -12,7 +12,7 @@ use Rattle.lay_code.specs.declared.exprs.Step.{Step}
 use Rattle.lay_code.specs.declared.item.ItemKind.{ItemKind}
 use Rattle.lay_code.specs.declared.operators.Op.{Op}
 
--- the form of an operand after its operator, of a target before one, and of a step
+-- The forms of an operand after its operator, of a target before its operator, and of a step.
 abbrev pub operand_form : Op × Expr → Form
 operand_form x = (about_expr x.1).form
 
@@ -26,7 +26,7 @@ step_form s = (about_step s).form
 abbrev pub arm_form : Arm → Form
 arm_form a = (about_arm a).form true
 
--- what is needed by an expression or a block that may be left out
+-- the depth that an optional expression or block needs
 abbrev pub expr_if : Option Expr → ℕ
 expr_if None = 0
 expr_if (Some x) = least_depth (about_expr x).form
@@ -42,7 +42,7 @@ link_form l = (about_link l).form
 abbrev pub branch_form : Branch → Form
 branch_form b = Part (about_branch b).condition (about_branch b).soft
 
--- what the head of an item needs, if it has one, and what follows it
+-- the depths that the head of an item, if it has one, and the rest of the item need
 abbrev pub head_if : Option Form → ℕ
 head_if None = 0
 head_if (Some head) = least_depth head

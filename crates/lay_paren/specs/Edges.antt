@@ -1,4 +1,4 @@
--- What begins a node whose parts have their parentheses, in code.
+-- What a node begins with in code, once its parts have their parentheses.
 use Rattle.std.specs.Prelude.{Bool, true, false}
 use Rattle.lay_code.specs.Operands as operands
 use Rattle.lay_code.specs.nodes.Code.{about_expr}
@@ -9,7 +9,7 @@ use Rattle.lay_paren.specs.InPlace.{least_in}
 use Rattle.lay_paren.specs.declared.leads.Edge.{Edge}
 use Rattle.lay_paren.specs.declared.leads.Edge.TheVariants as edge
 
--- the slot of a part at the left end, which may stand directly before the index of a tuple
+-- the slot of a part at the left edge; the flag says that it stands directly before a tuple index
 abbrev pub left_slot : Bool → Slot
 left_slot false = Any
 left_slot true = BeforeIndex

@@ -1,4 +1,4 @@
--- Expressions without parentheses.
+-- An expression without its parentheses.
 use Rattle.lay_code.specs.nodes.Layers.{ExprNode}
 use Rattle.lay_code.specs.declared.blocks.Arm.{Arm}
 use Rattle.lay_code.specs.declared.blocks.Block.{Block}
@@ -15,11 +15,11 @@ use Rattle.lay_code.specs.declared.exprs.Step.{Step}
 use Rattle.lay_code.specs.declared.item.Item.{Item}
 use Rattle.lay_code.specs.declared.item.ItemKind.{ItemKind}
 
--- what stands in a node whose parts have no parentheses
+-- a node whose parts have lost their parentheses, without its own
 abbrev pub without_parens : ExprNode → Expr
 without_parens (Expr-F.Paren x) = x
 without_parens x = views.roll-Expr x
 
--- the expression with everything in parentheses in their place
+-- the expression with each pair of parentheses replaced by what it holds
 unfoldable pub erase : Expr → Expr
 erase = fold.fold-Expr Stmt Link Expr FieldExpr Step ItemKind Arm Block Branch Condition Item views.roll-Stmt views.roll-Link without_parens views.roll-FieldExpr views.roll-Step views.roll-ItemKind views.roll-Arm views.roll-Block views.roll-Branch views.roll-Condition views.roll-Item

@@ -1,4 +1,5 @@
--- What the parts of a node become where each gets its parentheses, part by part.
+-- The parts of a node, where each one gets the parentheses that it needs, as the code computes them
+-- part by part.
 use Rattle.std.specs.Prelude.{ℕ, suc, Bool, true, false, List, [], ◌∷◌, map, Option, Some, None, option_map}
 use Rattle.lay_node.specs.nodes.Types.{is_there}
 use Rattle.lay_code.specs.Operators.{is_angle_op}
@@ -29,7 +30,7 @@ use Rattle.lay_paren.specs.Parts.{expr_made}
 use Rattle.lay_paren.specs.declared.slots.Slot.{Slot}
 use Rattle.lay_paren.specs.declared.slots.Slot.TheVariants as slot
 
--- the slots that code asks after beforehand: all but the one before an `else`
+-- the slots that the code asks for before it looks at a part: all but the one before an `else`
 abbrev pub slot_of : Slot → of.Slot
 slot_of slot.Any = Any
 slot_of slot.Prefixed = of.Prefixed
@@ -39,15 +40,15 @@ slot_of slot.BeforeIndex = of.BeforeIndex
 
 -- ---- expressions
 
--- the expression with the parentheses that it lacks in this place and this slot
+-- the expression with the parentheses that it needs in this place and this slot
 unfoldable pub least_in : Expr → Place → of.Slot → Expr
 least_in x place slot = (made_of x place slot).result
 
--- the expression where its parts alone get theirs, since it stands in this place
+-- an expression that stands in this place, with parentheses added within its parts only
 unfoldable pub parts_least : Place → Expr → Expr
 parts_least place x = (expr_made place (expr_parts (views.out-Expr x))).result
 
--- within delimiters
+-- the expression with the parentheses that it needs within delimiters
 abbrev pub free_least : Expr → Expr
 free_least x = least_in x FREE Any
 
@@ -60,11 +61,12 @@ operand_least place slot x = option_map (λ y. least_in y place slot) x
 abbrev pub base_least : Option (Option Expr) → Option (Option Expr)
 base_least x = option_map (operand_least FREE Any) x
 
--- the place of the first operand, before the others
+-- the place of the first operand, by the operands that follow
 abbrev pub first_place : Place → List (Op × Expr) → Place
 first_place p rest = before_op (suc (level_by rest)) p.no_struct (begins p.start) (angle_next rest)
 
--- the place of an operand after an operator of this level, before a further operator or without one
+-- the place of an operand after an operator of this level, by the operator that follows, if one
+-- does
 abbrev pub operand_before : Place → ℕ → Option Op → Place
 operand_before p level None = as_node p (suc level)
 operand_before p level (Some o) = before_op (suc level) p.no_struct false (is_angle_op o)
@@ -92,7 +94,7 @@ arm_least x = (made_arm x).result
 unfoldable pub condition_least : Condition → Condition
 condition_least x = (made_condition x).result
 
--- The flags say that the link is a condition by itself, and that a further link follows.
+-- The flags say that the link is a condition by itself, and that a further link follows it.
 unfoldable pub link_least : Bool → Bool → Link → Link
 link_least alone more x = (made_link x alone more).result
 
@@ -105,7 +107,7 @@ kind_least x = (made_kind x).result
 abbrev pub block_or_none_least : Option Block → Option Block
 block_or_none_least x = option_map block_least x
 
--- a link is a condition by itself where there is one alone
+-- A link is a condition by itself if it is the only one.
 abbrev pub is_single : List Link → Bool
 is_single (x ∷ []) = true
 is_single _ = false
@@ -123,7 +125,7 @@ abbrev pub row : {A B C : Type 0} → (A → B → C) → (Bool → A → List A
 row put part first [] = []
 row put part first (x ∷ more) = put x (part first x more) ∷ row put part false more
 
--- as it is, of a row by what follows it
+-- The same as `as_is`, but an element of a row depends on the elements after it.
 abbrev pub placing : Ways Same
 placing = record as_is { row = λ put part first xs. row put part first xs }
 
@@ -147,10 +149,10 @@ least_parts = record {
   item = λ x. item_least x;
 }
 
--- the operands after operators of this level
+-- the operands after operators of this level, with the parentheses that they need
 abbrev pub operands_least : Place → ℕ → List (Op × Expr) → List (Op × Expr)
 operands_least place level xs = operands_of placing least_parts place level xs
 
--- The flag says that the first of the targets begins a part of what begins a statement.
+-- The flag says that the first target begins a part of what begins a statement.
 abbrev pub targets_least : Place → Bool → List (Expr × Op) → List (Expr × Op)
 targets_least place first xs = targets_of placing least_parts place first xs

@@ -1,4 +1,4 @@
--- An expression without one of its pairs of parentheses.
+-- An expression with one of its pairs of parentheses left out.
 use Rattle.std.specs.Prelude.{List}
 use Rattle.lay_code.specs.nodes.Places.{FREE}
 use Rattle.lay_code.specs.declared.blocks.Arm.{Arm}
@@ -18,7 +18,8 @@ use Rattle.lay_paren.specs.Least.{wrapped}
 use Rattle.lay_paren.specs.Made.{Made}
 use Rattle.lay_paren.specs.Parts.{Linked, Parts, Placed, arm_made, block_made, branch_made, condition_made, expr_made, field_made, item_made, kind_made, link_made, step_made, stmt_made}
 
--- The node as it is, wherever it stands. Its pairs are those of its parts, and itself where it is one.
+-- The node as it is, in any place. Its cuts leave out a pair within a part, or the node's own pair
+-- if it is one.
 abbrev pub own_made : Parts Expr-F → Placed
 own_made (Expr-F.Paren x) = λ place slot. wrapped (x FREE Any)
 own_made x = λ place slot. expr_made FREE x
@@ -26,6 +27,6 @@ own_made x = λ place slot. expr_made FREE x
 unfoldable pub own : Expr → Placed
 own = fold.fold-Expr (Made Stmt) Linked Placed (Made FieldExpr) (Made Step) (Made ItemKind) (Made Arm) (Made Block) (Made Branch) (Made Condition) (Made Item) stmt_made link_made own_made field_made step_made kind_made arm_made block_made branch_made condition_made item_made
 
--- the expression without one of its pairs, for each of them
+-- the expression with one of its pairs left out: a list with one result for each pair
 abbrev pub left_out : Expr → List Expr
 left_out x = (own x FREE Any).cuts

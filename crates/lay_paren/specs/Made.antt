@@ -1,4 +1,5 @@
--- What is made of a tree that gets parentheses: the result, and the results without one of the pairs that it got.
+-- A node that gets parentheses: the result, and a cut for each pair that was added, which is the
+-- result without that pair.
 use Rattle.std.specs.Prelude.{Bool, false, List, [], ◌∷◌, ◌++◌, map, Option, Some, None}
 use Rattle.lay_paren_defs.specs.Traversal.{Ways}
 
@@ -6,15 +7,15 @@ pub record Made (A : Type 0) : Type 0 where
   pub result : A
   pub cuts : List A
 
--- what gets none
+-- a node that gets no parentheses
 abbrev pub kept : {A : Type 0} → A → Made A
 kept x = record { result = x; cuts = [] }
 
--- a node with one part
+-- a node of one part
 abbrev pub one : {A B : Type 0} → (A → B) → Made A → Made B
 one f x = record { result = f x.result; cuts = map f x.cuts }
 
--- A node with two parts: a pair is left out in the first of them, or in the second.
+-- A node of two parts. Each cut leaves out a pair in one of them.
 abbrev pub both : {A B C : Type 0} → (A → B → C) → Made A → Made B → Made C
 both f x y = record {
   result = f x.result y.result;
@@ -25,7 +26,7 @@ abbrev pub all : {A : Type 0} → List (Made A) → Made (List A)
 all [] = kept []
 all (x ∷ xs) = both (λ y ys. y ∷ ys) x (all xs)
 
--- a part that may be left out
+-- an optional part
 abbrev pub may_be : {A : Type 0} → Option (Made A) → Made (Option A)
 may_be None = kept None
 may_be (Some x) = one Some x

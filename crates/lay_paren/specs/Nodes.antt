@@ -1,4 +1,4 @@
--- What is made of a node of each kind, and of the parts of a node.
+-- What each kind of node becomes with parentheses added, as a fold over the syntax tree.
 use Rattle.lay_code.specs.nodes.Layers.{ArmNode, BlockNode, BranchNode, ConditionNode, ExprNode, FieldNode, ItemNode, KindNode, LinkNode, StepNode, StmtNode}
 use Rattle.lay_code.specs.declared.blocks.Arm.{Arm}
 use Rattle.lay_code.specs.declared.blocks.Block.{Block}

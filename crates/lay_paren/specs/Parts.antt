@@ -1,4 +1,4 @@
--- The parts of each node, made of what is made of an expression in its place and slot.
+-- The parts of each kind of node, given what each expression becomes in its place and its slot.
 use Rattle.std.specs.Prelude.{ℕ, Bool, true, false, List, [], ◌∷◌, map}
 use Rattle.lay_node.specs.nodes.Types.{is_there}
 use Rattle.lay_code.specs.nodes.Code.{about_step}
@@ -21,15 +21,16 @@ use Rattle.lay_paren_defs.specs.Traversal.{PartsBy, arm_of, block_of, branch_of,
 use Rattle.lay_paren_defs.specs.loose.Slots.{Any, Slot}
 use Rattle.lay_paren.specs.Made.{Made, making}
 
--- what is made of an expression, by its place and its slot
+-- what an expression becomes, by its place and its slot
 abbrev pub Placed : Type 0
 Placed = Place → Slot → Made Expr
 
--- What is made of a link. The flags say that it is a condition by itself, and that a further link follows.
+-- What a link becomes. The flags say that it is a condition by itself, and that a further link
+-- follows.
 abbrev pub Linked : Type 0
 Linked = Bool → Bool → Made Link
 
--- what stands in a node, where this is made of the nodes within it
+-- a node of this kind, with results in place of the nodes within it
 abbrev pub Parts : (Type 0 → Type 0 → Type 0 → Type 0 → Type 0 → Type 0 → Type 0 → Type 0 → Type 0 → Type 0 → Type 0 → Type 0) → Type 0
 Parts F = F (Made Stmt) Linked Placed (Made FieldExpr) (Made Step) (Made ItemKind) (Made Arm) (Made Block) (Made Branch) (Made Condition) (Made Item)
 
@@ -54,7 +55,7 @@ free_made xs = free_of making made_parts xs
 abbrev pub operands_made : Place → ℕ → List (Op × Placed) → Made (List (Op × Expr))
 operands_made place level xs = operands_of making made_parts place level xs
 
--- The flag says that the first of the targets begins a part of what begins a statement.
+-- The flag says that the first target begins a part of what begins a statement.
 abbrev pub targets_made : Place → Bool → List (Placed × Op) → Made (List (Expr × Op))
 targets_made place first xs = targets_of making made_parts place first xs
 
@@ -64,7 +65,7 @@ step_made x = step_of making made_parts x
 abbrev pub field_made : Parts FieldExpr-F → Made FieldExpr
 field_made x = field_of making made_parts x
 
--- The node stands in this place.
+-- what a node in this place becomes, by what its parts become
 abbrev pub expr_made : Place → Parts Expr-F → Made Expr
 expr_made place x = expr_of making made_parts place x
 

@@ -1,4 +1,4 @@
--- The file of one constant.
+-- The file `const _: () = x;` of an expression x.
 use Rattle.std.specs.Prelude.{[], ◌∷◌, Some, None}
 use Rattle.lay_node.specs.declared.heads.ValueHead.TheVariants as head
 use Rattle.lay_node.specs.declared.token.GivenName.TheVariants as given
@@ -14,6 +14,6 @@ abbrev pub constant_item : Expr → Item
 constant_item x =
     record { attrs = []; vis = vis.Inherited; kind = kind.Value (head.Const given.Underscore (ty.Tuple [])) (Some x) }
 
--- It stands there alone.
+-- the file that holds this item and nothing else
 abbrev pub constant : Expr → File
 constant x = record { shebang = None; attrs = []; items = constant_item x ∷ [] }

@@ -1,5 +1,5 @@
--- Trees in which each part stands in parentheses, save the whole of a statement and, as the body of an arm or of a closure, a block without
--- a label.
+-- Syntax trees in which each part is in parentheses. Not in parentheses are the whole of a
+-- statement, and a block without a label that is the body of an arm or of a closure.
 use Rattle.std.specs.Prelude.{Bool, if◌then◌else◌, true, false, [], map, None, option_map}
 use Rattle.lay_code.specs.nodes.Places.{FREE}
 use Rattle.lay_code.specs.nodes.Layers.{ArmNode, BlockNode, BranchNode, ConditionNode, ExprNode, FieldNode, ItemNode, KindNode, LinkNode, StepNode, StmtNode}
@@ -38,7 +38,8 @@ bodied x = if is_bare x then x else expr.Paren x
 abbrev pub TreesBy : Type 0
 TreesBy = PartsBy Same Stmt Link Expr FieldExpr Step ItemKind Arm Block Branch Condition Item
 
--- a pair round each part of which the parts have theirs
+-- Each part gets a pair of parentheses around what its own parts became. A body that is a block
+-- without a label gets none, nor does the whole of a statement.
 abbrev pub in_parens : TreesBy
 in_parens =
     made_within {M = Same} {L = Link} {E = Expr} (λ x place slot. expr.Paren x)

@@ -1,5 +1,5 @@
--- One traversal of the parts of each kind of node: where each part stands, and how the node is put
--- together again.
+-- One traversal of the parts of each kind of node: in which place each part stands, and how the
+-- node is built again from the results.
 use Rattle.std.specs.Prelude.{ℕ, suc, Bool, true, false, ◌&&◌, not, if◌then◌else◌, is_some, List, [], ◌∷◌, map, Option, Some, None, option_map}
 use Rattle.lay_node.specs.declared.token.Lifetime.{Lifetime}
 use Rattle.lay_code.specs.Operators.{is_angle_op, op_level}
@@ -42,14 +42,14 @@ pub record Ways (M : Type 0 → Type 0) : Type 1 where
   pub may_be : {A : Type 0} → Option (M A) → M (Option A)
   -- the base of a struct literal
   pub base : {A : Type 0} → Option (Option (M A)) → M (Option (Option A))
-  -- A row, of which each is put together with what was made of its part. The flag is that of the
-  -- first of them; those after it have none. The list is what stands after.
+  -- A row, each element of which is built from what its part became. The flag is that of the first
+  -- element, and the others have none. An element also sees the elements after it.
   pub row : {A B C : Type 0} → (A → B → C) → (Bool → A → List A → M B) → Bool → List A → M (List C)
 
 abbrev pub Same : Type 0 → Type 0
 Same A = A
 
--- Each is what is made of it, and of a row as if nothing stood after it.
+-- Each result is the part itself. An element of a row is built as if nothing stood after it.
 abbrev pub as_is : Ways Same
 as_is = record {
   kept = λ x. x;
@@ -61,7 +61,7 @@ as_is = record {
   row = λ put part first xs. map (λ x. put x (part first x [])) xs;
 }
 
--- What is made of the parts of a node, which are statements S, links L, expressions E, fields F,
+-- How the parts of a node are handled. They are statements S, links L, expressions E, fields F,
 -- steps T, kinds of items K, arms A, blocks B, branches R, conditions C and items I.
 pub record PartsBy (M : Type 0 → Type 0) (S L E F T K A B R C I : Type 0) : Type 0 where
   pub part : E → Place → Slot → M Expr
@@ -85,7 +85,7 @@ pub record PartsBy (M : Type 0 → Type 0) (S L E F T K A B R C I : Type 0) : Ty
   pub kind : K → M ItemKind
   pub item : I → M Item
 
--- where the nodes within are made already, save expressions and links
+-- the same, where all nodes but expressions and links are results already
 abbrev pub made_within : {M : Type 0 → Type 0} {L E : Type 0} → (E → Place → Slot → M Expr)
     → (E → Place → M Expr) → (E → M Expr) → (M (List Step) → List StepFacts)
     → (List L → List (M Link))
@@ -112,7 +112,7 @@ made_within part body whole told links = record {
 
 -- ---- places and slots
 
--- the level of the first operator
+-- the level of the first operator, or 0 if there is none
 abbrev pub level_by : {A : Type 0} → List (Op × A) → ℕ
 level_by [] = 0
 level_by (x ∷ more) = op_level x.0
@@ -122,8 +122,8 @@ abbrev pub angle_next : {A : Type 0} → List (Op × A) → Bool
 angle_next [] = false
 angle_next (x ∷ more) = is_angle_op x.0
 
--- an operand after an operator of this level: before a further operator, or with the rest as the
--- node's
+-- The place of an operand after an operator of this level. It stands before the next operator; the
+-- last operand has the other rules of the node's place.
 abbrev pub operand_at : {A : Type 0} → Place → ℕ → List (Op × A) → Place
 operand_at place level [] = as_node place (suc level)
 operand_at place level (x ∷ more) = before_op (suc level) place.no_struct false (is_angle_op x.0)
@@ -139,7 +139,7 @@ abbrev pub break_slot : Option Lifetime → Slot
 break_slot None = Unlabelled
 break_slot (Some label) = Optional
 
--- the slot of the value of a statement, before an `else` or without one
+-- The slot of the value of a `let`. The flag says that an `else` follows.
 abbrev pub value_slot : Bool → Slot
 value_slot true = BeforeElse
 value_slot false = Any
@@ -174,7 +174,7 @@ module _ {M : Type 0 → Type 0} {S L E F T K A B R C I : Type 0} (w : Ways M)
       w.row (λ (x : Op × E) (y : Expr). (x.0, y))
       (λ first x more. of.part x.1 (operand_at place level more) Any) false xs
 
-  -- The flag says that the first of the targets begins a part of what begins a statement.
+  -- The flag says that the first target begins a part of what begins a statement.
   abbrev pub targets_of : Place → Bool → List (E × Op) → M (List (Expr × Op))
   targets_of place first xs =
       w.row (λ (x : E × Op) (y : Expr). (y, x.1))

@@ -1,4 +1,4 @@
--- Depths as they are counted.
+-- The depths that parts need, as the code counts them.
 use Rattle.std.specs.Prelude.{ℕ, List, [], ◌∷◌, max, min, Option, Some, None}
 use Rattle.lay_form.specs.Depth.{least_depth}
 use Rattle.lay_form.specs.Form.{Form}
@@ -8,11 +8,11 @@ use Rattle.lay_node.specs.declared.token.Word.{Word}
 use Rattle.lay_node.specs.declared.types.Args.{Args}
 use Rattle.lay_node.specs.declared.types.Ty.{Ty}
 
--- up to the greatest number of 32 bits
+-- a depth, capped at the greatest number of 32 bits
 abbrev pub counted : ℕ → ℕ
 counted depth = min depth 4294967295
 
--- the depth that the deepest of the forms needs
+-- the greatest depth that any of the forms needs
 abbrev pub greatest : List Form → ℕ
 greatest [] = 0
 greatest (e ∷ es) = max (least_depth e) (greatest es)
@@ -21,11 +21,11 @@ greatest (e ∷ es) = max (least_depth e) (greatest es)
 abbrev pub segment_args : Word × Args → Form
 segment_args s = (about_args s.1).kind.form
 
--- what a type that may be left out needs
+-- the depth that an optional type needs
 abbrev pub type_if : Option Ty → ℕ
 type_if None = 0
 type_if (Some x) = least_depth (about_type x).told.form
 
--- what the head of an item and what follows it need
+-- the depth that an item with this head needs
 abbrev pub head_depth : HeadFacts → ℕ
 head_depth x = max (least_depth x.head) (least_depth x.tail)
