@@ -1,4 +1,5 @@
--- What stands at the edges of expressions, and struct literals outside delimiters, in code.
+-- The edges of expressions in code: what begins and ends them, and struct literals outside
+-- delimiters.
 use Rattle.std.specs.Prelude.{Bool, List, map}
 use Rattle.std.specs.List.{list_all}
 use Rattle.lay_code.specs.nodes.Code.{about_expr, about_step}
@@ -9,17 +10,18 @@ use Rattle.lay_code.specs.declared.operators.Op.{Op}
 use Rattle.lay_ops.specs.declared.edges.Edge.{Edge}
 use Rattle.lay_ops.specs.declared.edges.Edge.TheVariants as edge
 
--- An expression with this edge may begin a statement with all that begins where it begins.
+-- An expression with this left edge may begin a statement, and so may each expression at the edge.
 abbrev pub starts_at : Edge → Bool
 starts_at (edge.Told answer) = answer
 starts_at (edge.In x) = begins_part (about_expr x.now)
 
--- No closure ends where it ends whose body keeps braces only since no struct literal may stand there.
+-- No closure at this right edge has a body that keeps its braces only because no struct literal may
+-- stand there.
 abbrev pub tight_at : Edge → Bool
 tight_at (edge.Told answer) = answer
 tight_at (edge.In x) = (about_expr x.now).tight
 
--- It begins with a `{`.
+-- The expression begins with a `{`.
 abbrev pub braced_at : Edge → Bool
 braced_at (edge.Told answer) = answer
 braced_at (edge.In x) = is_brace_lead (about_expr x.now).lead
@@ -28,11 +30,12 @@ abbrev pub IfPart : Edge → (Expr → Type 0) → Type 0
 IfPart (edge.In x) p = p x.now
 IfPart _ p = Unit {0}
 
--- The first of the steps begins with `.` or is `?`.
+-- The first step begins with `.` or is `?`.
 abbrev pub dotted_first : List Step → Bool
 dotted_first steps = first_step is_dotted (map about_step steps)
 
--- None of the operands after operators, and none of the targets of an assignment, holds a struct literal outside delimiters.
+-- An operand after its operator, or a target of an assignment, that holds no struct literal outside
+-- delimiters.
 abbrev pub is_structless_operand : Op × Expr → Bool
 is_structless_operand x = (about_expr x.1).structless
 

@@ -10,7 +10,7 @@ use Rattle.lay_ops.specs.declared.expr_ends.ExprEnd.TheVariants as expr_end
 use Rattle.lay_ops.specs.declared.type_ends.TypeEnd.{TypeEnd}
 use Rattle.lay_ops.specs.declared.type_ends.TypeEnd.TheVariants as end
 
--- What ends so lacks generic arguments at its end.
+-- A type that ends so is one to which generic arguments could still be added.
 abbrev pub lacks : TypeEnd → Bool
 lacks end.Shut = false
 lacks end.Bare = true
@@ -20,7 +20,7 @@ abbrev pub IfIn : TypeEnd → (Ty → Type 0) → Type 0
 IfIn (end.In ty) p = p ty.now
 IfIn _ p = Unit {0}
 
--- An expression that ends so takes the operators after it, or ends in a type that lacks generic arguments.
+-- An expression that ends so takes the operators after it, or no operator can follow it.
 abbrev pub is_open_end : ExprEnd → Bool
 is_open_end expr_end.Open = true
 is_open_end (expr_end.In x) = is_open (about_expr x.now).tail

@@ -1,4 +1,4 @@
--- Which operators begin with a character, and what begins an expression, in code.
+-- In code: which operators begin with a character, and what begins an expression.
 use Rattle.std.specs.Prelude.{ℕ, ◌==◌, Bool, false, List, [], ◌∷◌, codes}
 use Rattle.std.specs.List.{filter}
 use Rattle.lay_code.specs.Operands as operands
@@ -31,6 +31,6 @@ told lead.Return = operands.ByReturn
 told lead.BlockWord = operands.ByBlockWord
 told lead.Closure = operands.ByClosure
 
--- the words that begin an expression that holds a block, whatever follows them
+-- the words that begin an expression with a block, whatever follows them
 abbrev pub block_words : List (List ℕ)
 block_words = codes "for" ∷ codes "if" ∷ codes "loop" ∷ codes "match" ∷ codes "unsafe" ∷ codes "while" ∷ []

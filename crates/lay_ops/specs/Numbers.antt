@@ -1,4 +1,4 @@
--- Numbers without suffix, read byte by byte.
+-- Whether a text is a number without a suffix, read byte by byte by a state machine.
 use Rattle.std.specs.Prelude.{ℕ, ◌==◌, ◌||◌, Bool, true, false, if◌then◌else◌, List, [], ◌∷◌}
 use Rattle.lay_piece.specs.Characters as char
 use Rattle.lay_piece.specs.Chars.{in_digits, in_hex}
@@ -27,7 +27,7 @@ abbrev pub is_read : Reading → Bool
 is_read read.Refused = false
 is_read _ = true
 
--- The bytes go on to their end with what is read.
+-- From this state the bytes are read to their end, and the number is complete there.
 abbrev pub run : Reading → List ℕ → Bool
 run r [] = is_read r
 run r (c ∷ cs) = run (leads_to r c) cs

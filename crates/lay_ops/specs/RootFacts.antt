@@ -1,4 +1,4 @@
--- The facts about an expression by its root, in code.
+-- The facts about an expression that its root tells, in code.
 use Rattle.std.specs.Prelude.{ℕ, ◌&&◌, not, Bool, false, List, [], ◌∷◌}
 use Rattle.std.specs.List.{list_all}
 use Rattle.lay_code.specs.Operators.{op_level}
@@ -7,17 +7,18 @@ use Rattle.lay_code.specs.declared.blocks.Stmt.{Stmt}
 use Rattle.lay_code.specs.declared.exprs.Expr.{Expr}
 use Rattle.lay_code.specs.declared.operators.Op.{Op}
 
--- the level of the first operator
+-- the level of the first operator, or 0 if there is none
 abbrev pub first_level : List (Op × Expr) → ℕ
 first_level [] = 0
 first_level (x ∷ more) = op_level x.0
 
--- one statement, which is an expression that is no macro call, without attributes and without a `;`
+-- The one statement of the list is an expression without attributes and without a `;`, and no macro
+-- call.
 abbrev pub lone_in : List Stmt → Bool
 lone_in (s ∷ []) = (about_stmt s).bare && not (about_stmt s).call
 lone_in _ = false
 
--- statements of which none is an expression that holds a struct literal outside delimiters
+-- The statement is no expression that holds a struct literal outside delimiters.
 abbrev pub is_structless_stmt : Stmt → Bool
 is_structless_stmt s = (about_stmt s).structless
 

@@ -1,4 +1,5 @@
--- What types and expressions end in, in code: a `}`, or for an expression a closure.
+-- In code: whether a type or an expression ends in a `}`, and whether an expression ends in a
+-- closure.
 use Rattle.std.specs.Prelude.{Bool, true, false, List, [], ◌∷◌, Option, is_some}
 use Rattle.lay_node.specs.nodes.Types.{about_type}
 use Rattle.lay_node.specs.declared.types.Ty.{Ty}
@@ -14,7 +15,7 @@ use Rattle.lay_ops_ends.specs.declared.brace_ends.Edge.TheVariants as edge
 use Rattle.lay_ops_ends.specs.declared.brace_ends.TypeEdge.{TypeEdge}
 use Rattle.lay_ops_ends.specs.declared.brace_ends.TypeEdge.TheVariants as type_edge
 
--- What ends so ends in a `}`.
+-- A type with this right edge ends in a `}`.
 abbrev pub ends_type : TypeEdge → Bool
 ends_type (type_edge.Token brace) = brace
 ends_type (type_edge.In ty) = ends_in_brace (about_type ty.now).told.form
@@ -32,7 +33,7 @@ abbrev pub IfPart : Edge → (Expr → Type 0) → Type 0
 IfPart (edge.In x) p = p x.now
 IfPart _ p = Unit {0}
 
--- What ends so ends in a closure.
+-- An expression with this right edge ends in a closure.
 abbrev pub closes : ClosureEdge → Bool
 closes closure_edge.Shut = false
 closes closure_edge.Closure = true
@@ -42,7 +43,7 @@ abbrev pub IfOperand : ClosureEdge → (Expr → Type 0) → Type 0
 IfOperand (closure_edge.In x) p = p x.now
 IfOperand _ p = Unit {0}
 
--- There is a branch or an `else`.
+-- There is a branch or an `else`, and so a block.
 abbrev pub has_block : List Branch → Option Block → Bool
 has_block [] otherwise = is_some otherwise
 has_block (b ∷ more) otherwise = true

@@ -1,4 +1,5 @@
--- Items up to their bodies, and what the bodies make of them.
+-- Parsing an item in two steps: first up to its body, and then the item that it becomes with its
+-- body.
 use Rattle.std.specs.Prelude.{ℕ, ◌≡◌, max, Bool, if◌then◌else◌, List, [], codes, drop, Option, Some, None, is_some, Result, Ok, Err}
 use Rattle.lay_token.specs.Operators.{is_op}
 use Rattle.lay_node.specs.Ahead.{Tokens, first, tail, is_keyword, is_mark}
@@ -37,13 +38,13 @@ use Rattle.lay_read_tokens.specs.declared.stop.ReadNone.{ReadNone}
 use Rattle.lay_read_tokens.specs.declared.stop.ReadNone.TheVariants.{NoReading, NoMemory}
 use Rattle.lay_read_shared.specs.Code.{code_within}
 
--- how what is one level deeper is read within a depth
+-- the parsers of what stands within an item, at most this deep
 abbrev pub deeper : ℕ → ItemWithin
 deeper depth = record { items = λ s ts. item_at s depth ts; trees = use_at depth; heads = insides depth; code = code_within depth }
 
 -- ---- items up to their bodies
 
--- an item that is this node alone
+-- an item that is this node and has no body
 abbrev pub node_alone : {A : Type 0} → (A → Whole) → Read A → Read Begun
 node_alone make read = do x ← read; Some ((begun.Whole (make x.0.0), x.0.1), x.1)
 
@@ -54,7 +55,7 @@ import_begun within ts = do
   rest ← semicolon t.1
   Some ((begun.Whole (whole.Import t.0.0), t.0.1), rest)
 
--- the declaration of a macro
+-- a declaration of a macro
 abbrev pub rules_begun : Tokens → Read Begun
 rules_begun ts = do
   n ← name (drop 2 ts)
@@ -65,7 +66,7 @@ rules_begun ts = do
 abbrev pub call_begun : Tokens → Read Begun
 call_begun ts = do c ← call ts; rest ← behind_end c.0.tokens.delim c.1; Some ((begun.Whole (whole.Call c.0), 0), rest)
 
--- a module in a file of its own, or the head of another
+-- a module without a body, or the head of a module with one
 abbrev pub module_begun : Tokens → Read Begun
 module_begun ts = do
   behind ← passed (is_keyword (codes "mod")) ts
@@ -120,7 +121,7 @@ begun_at at within ts = if reader.may_stand at (item_lead ts) then begun_by at w
 
 -- ---- bodies
 
--- what the body of an item is
+-- the body that the item goes on with
 abbrev pub body_of : Begun → Body
 body_of (begun.Whole x) = body.None
 body_of (begun.Module name) = body.Items site.Module
@@ -130,7 +131,7 @@ body_of (begun.Foreign is_unsafe abi) = body.Items site.Foreign
 body_of (begun.Function head wheres) = body.Block
 body_of (begun.Value head) = body.Value
 
--- an item that has no body, as an item
+-- the item that a node without a body is
 abbrev pub kind_of : Whole → ItemKind
 kind_of (whole.ExternCrate x) = item.ExternCrate x
 kind_of (whole.Import tree) = item.Import tree
@@ -142,7 +143,7 @@ kind_of (whole.Enum x) = item.Enum x
 kind_of (whole.MacroRules name rules) = item.MacroRules name rules
 kind_of (whole.Call call) = item.Call call
 
--- an item with what stands in its body, if it has one
+-- the item with the attributes and the items of its body, if it has one
 abbrev pub with_items : Begun → List Attr → List Item → ItemKind
 with_items (begun.Whole x) attrs items = kind_of x
 with_items (begun.Module name) attrs items = item.Module name attrs items
@@ -155,48 +156,48 @@ with_items (begun.Value head) attrs items = item.Value head None
 abbrev pub kept : {A : Type 0} → Bool → A → ℕ → Result (Found A) ReadNone
 kept keeps node need = if keeps then Ok (record { node = node; need = need }) else Err NoReading
 
--- a function with its body, where it may have or lack it
+-- a function with its body or without one, if that may stand at the site
 abbrev pub with_block : Begun × ℕ → Site → Option Block × ℕ → Result (Found ItemKind) ReadNone
 with_block (begun.Function head wheres, need) at b = kept (may_be_bodied at (is_some b.0)) (item.Function head wheres b.0) (max need b.1)
 with_block _ at b = Err NoReading
 
--- a constant or a static with its value, where it may have or lack it
+-- a constant or a static with its value or without one, if that may stand at the site
 abbrev pub with_value : Begun × ℕ → Site → Option Expr × ℕ → Result (Found ItemKind) ReadNone
 with_value (begun.Value head, need) at v = kept (may_be_valued at head (is_some v.0)) (item.Value head v.0) (max need v.1)
 with_value _ at v = Err NoReading
 
 -- ---- an item of what it begins with and of what was read of its body
 
--- an item with what was read in its braces
+-- the item with what was parsed in its braces
 abbrev pub items_kind : Found Begun → Result (Found (List Attr × List Item)) ReadNone → Result (Found ItemKind) ReadNone
 items_kind begun (Ok body) = Ok (record { node = with_items begun.node body.node.0 body.node.1; need = max begun.need body.need })
 items_kind begun (Err none) = Err none
 
--- a function with what was read of its body
+-- the function with what was parsed as its body
 abbrev pub block_kind : Found Begun → Site → Result (Found (Option Block)) ReadNone → Result (Found ItemKind) ReadNone
 block_kind begun at (Ok body) = with_block (begun.node, begun.need) at (body.node, body.need)
 block_kind begun at (Err none) = Err none
 
--- a constant or a static with what was read of its value
+-- the constant or the static with what was parsed as its value
 abbrev pub value_kind : Found Begun → Site → Result (Found (Option Expr)) ReadNone → Result (Found ItemKind) ReadNone
 value_kind begun at (Ok value) = with_value (begun.node, begun.need) at (value.node, value.need)
 value_kind begun at (Err none) = Err none
 
--- What was made was put into a box, or memory ran out.
+-- The result was put into a box, unless memory ran out.
 abbrev pub IsBoxed : Result (Found ItemKind) ReadNone → Result (Found ItemKind) ReadNone → Type 0
 IsBoxed (Ok kind) (Ok found) = found ≡ kind
 IsBoxed (Ok kind) (Err none) = none ≡ NoMemory
 IsBoxed (Err none) (Ok found) = ⊥
 IsBoxed (Err none) (Err other) = other ≡ none
 
--- a value, if one stands there, and the `;`
+-- a value, if the item has one, and then the `;`
 abbrev pub value_end : ItemWithin → Tokens → Read (Option Expr)
 value_end within ts = do
   v ← if_read (is_op (codes "=") ts) (λ us. within.code.exprs FREE (drop 1 us)) ts
   rest ← semicolon v.1
   Some (v.0, rest)
 
--- what was made, and what is left
+-- the result and the tokens that are left, or nothing
 abbrev pub made : Result (Found ItemKind) ReadNone → Tokens → Read ItemKind
 made (Ok found) ts = Some ((found.node, found.need), ts)
 made (Err none) ts = None

@@ -1,4 +1,4 @@
--- What an item begins with, in code.
+-- Lookahead for items, in code.
 use Rattle.std.specs.Prelude.{ℕ, ◌||◌, Bool, if◌then◌else◌, List, codes}
 use Rattle.std.specs.Str.{bytes_eq}
 use Rattle.lay_node.specs.Ahead.{Tokens, tail}
@@ -23,7 +23,7 @@ told lead.Foreign = item.OfForeign
 told lead.Rules = item.OfRules
 told lead.Call = item.OfCall
 
--- the word may begin a function
+-- A function may begin with this word.
 abbrev pub may_lead_function : List ℕ → Bool
 may_lead_function word =
     bytes_eq word (codes "fn")
@@ -31,7 +31,7 @@ may_lead_function word =
     || (bytes_eq word (codes "async")
     || (bytes_eq word (codes "unsafe") || (bytes_eq word (codes "safe") || bytes_eq word (codes "extern")))))
 
--- what this word leads, which stands first in the tokens
+-- the kind of item that begins with this word, where the tokens begin with it too
 abbrev pub led_by : List ℕ → Tokens → ItemLead
 led_by word ts =
     if bytes_eq word (codes "use") then item.OfImport

@@ -1,4 +1,4 @@
--- What readers of blocks ask for and what they answer.
+-- What the parsers of blocks require of the functions that they call, and what they answer.
 use Rattle.std.specs.Prelude.{ℕ, suc, max, nat_le, ◌+◌, ◌-◌, ◌^◌, ◌<◌, ◌≤◌, Bool, if◌then◌else◌, List, drop, codes, Option, Some, None, is_some, Result, Ok, Err, IfOk}
 use Rattle.std.specs.declared.alloc.Global.{Global}
 use denote.Ref.{MutBor}
@@ -36,7 +36,8 @@ use Rattle.lay_read_tokens.specs.Answers.{IsFound}
 use Rattle.lay_read_tokens.specs.declared.found.Found.{Found}
 use Rattle.lay_read_tokens.specs.declared.stop.ReadNone.{ReadNone}
 
--- These functions read expressions, blocks after an `else`, and items at this depth, and the depth one above is a number.
+-- These functions parse expressions, blocks after an `else`, and items at this depth. The depth
+-- plus one fits in 32 bits.
 pub record AreCode (depth : ℕ)
     (may_read_expr : Global → MutBor Tokens → Place → ℕ → Type 0)
     (reads_expr : Global → MutBor Tokens → Place → ℕ → Result (Found Expr) ReadNone → MutBor Tokens → Type 0)
@@ -50,7 +51,7 @@ pub record AreCode (depth : ℕ)
       → reads_expr alloc old place depth r new → IsFound (expr_at place depth old.now) r new.now
   pub expr_within : (alloc : Global) (old new : MutBor Tokens) (place : Place) (r : Result (Found Expr) ReadNone)
       → reads_expr alloc old place depth r new → IfOk r (λ found. found.need ≤ depth)
-  -- expressions that stand one level deeper than these, where there is such a level
+  -- expressions one level deeper, if there is such a level
   pub below_readable : (alloc : Global) (old : MutBor Tokens) (place : Place) → may_read_expr alloc old place (depth - 1)
   pub below_read : (alloc : Global) (old new : MutBor Tokens) (place : Place) (r : Result (Found Expr) ReadNone)
       → reads_expr alloc old place (depth - 1) r new → IsFound (expr_at place (depth - 1) old.now) r new.now
@@ -67,20 +68,20 @@ pub record AreCode (depth : ℕ)
   pub item_within : (alloc : Global) (old new : MutBor Tokens) (site : Site) (r : Result (Found Item) ReadNone)
       → reads_item alloc old site depth r new → IfOk r (λ found. found.need ≤ depth)
 
--- what is read, unless it is deeper than may be
+-- what is read, unless it needs more than the budget
 abbrev pub fits : {A : Type 0} → ℕ → Read A → Read A
 fits budget read = do x ← read; if nat_le x.0.1 budget then Some x else None
 
 -- ---- statements
 
--- the pattern after `let`, and its type if it has one
+-- a `let` after its first word: the pattern, and the type if it has one
 abbrev pub let_head : ExprWithin → Tokens → Read (Pat × Option Ty)
 let_head within ts = do
   p ← within.pats Single ts
   t ← if_read (is_op (codes ":") p.1) (λ us. within.kinds.types Bounds (drop 1 us)) p.1
   Some (((p.0.0, t.0.0), max p.0.1 t.0.1), t.1)
 
--- what follows these: a value and a block after an `else`, if they stand there, and a `;`
+-- the rest of a `let`: a value and a block after an `else`, if it has them, and the `;`
 abbrev pub let_behind : ExprWithin → Tokens → Read (Option Expr × Option Block)
 let_behind within ts = do
   x ← if_read (is_op (codes "=") ts) (λ us. within.exprs FREE (drop 1 us)) ts
@@ -88,19 +89,20 @@ let_behind within ts = do
   rest ← semicolon b.1
   if else_stands x.0.0 (is_some b.0.0) then Some (((x.0.0, b.0.0), max x.0.1 b.0.1), rest) else None
 
--- a `let` of both
+-- the `let` that both parts make
 abbrev pub let_of : List Attr → Found (Pat × Option Ty) → Result (Found (Option Expr × Option Block)) ReadNone → Result (Found Stmt) ReadNone
 let_of attrs head (Ok behind) =
     Ok (record { node = stmt.Let attrs head.node.0 head.node.1 behind.node.0 behind.node.1; need = max head.need behind.need })
 let_of attrs head (Err none) = Err none
 
--- the body of a function, or the `;` where it has none
+-- a function body, or the `;` of a function without one
 abbrev pub body_if : ExprWithin → Tokens → Read (Option Block)
 body_if within ts = fn_body within ts
 
 -- ---- arms
 
--- what follows the pattern of an arm, and its guard if it has one, up to its comma, and whether it may lack that
+-- An arm from its `=>` up to its comma, given its pattern and its guard. The flag that is read says
+-- whether its comma may be missing.
 abbrev pub arm_behind : ExprWithin → List Attr → Pat × ℕ → Option Expr × ℕ → Tokens → Read (Arm × Bool)
 arm_behind within attrs p g ts = do
   x ← (if is_op (codes "=>") ts then body_begun within (drop 2 ts) else None)
@@ -108,7 +110,7 @@ arm_behind within attrs p g ts = do
 
 -- ---- closures
 
--- what follows the parameters of a closure, from its `->` on
+-- a closure with a type, from its `->` on
 abbrev pub typed_closure : ExprWithin → Bool → Bool → List ClosureParam → ℕ → Tokens → Read Expr
 typed_closure within is_async moves params need ts = do
   t ← within.kinds.types NoBounds (drop 2 ts)
@@ -117,7 +119,7 @@ typed_closure within is_async moves params need ts = do
 
 -- ---- what begins an expression
 
--- what holds blocks, or is a closure, told from what the first token begins
+-- an expression that holds blocks or is a closure, by its first token
 abbrev pub block_head : ExprWithin → Bool → ExprLead → Tokens → Read Expr
 block_head within no_struct lead.Label ts = label_expr within ts
 block_head within no_struct lead.Brace ts = labelled_expr within None ts
@@ -130,6 +132,6 @@ block_head within no_struct _ ts = None
 abbrev pub deeper_stmt : ExprWithin → Tokens → Read Stmt
 deeper_stmt within ts = do s ← stmt_alone within ts; Some ((s.0.0, suc s.0.1), s.1)
 
--- an arm, unless it is deeper than may be
+-- an arm, unless it is deeper than this depth
 abbrev pub deeper_arm : ExprWithin → ℕ → Tokens → Read Arm
 deeper_arm within depth ts = do x ← arm_alone within ts; if nat_le x.0.1 depth then Some ((x.0.0, suc x.0.1), x.1) else None

@@ -1,4 +1,5 @@
--- What readers of conditions, of branches and of what begins with a block answer.
+-- What the parsers of conditions, of branches and of expressions that begin with a block's word
+-- answer.
 use Rattle.std.specs.Prelude.{ℕ, suc, max, ◌≡◌, if◌then◌else◌, List, [], ◌∷◌, drop, map, codes, Some, None, Result, Ok, Err}
 use Rattle.std.specs.List.{list_any}
 use Rattle.lay_node.specs.Ahead.{Tokens, first, tail, is_keyword}
@@ -19,26 +20,29 @@ use Rattle.lay_read_tokens.specs.declared.stop.ReadNone.TheVariants.{NoMemory}
 
 -- ---- conditions
 
--- an operand that the link of an expression is, after its `&&`
+-- a link after its `&&`, as an operand
 abbrev pub and_operand : ReadLink → Op × Expr
 and_operand l = (op.AndAnd, l.1)
 
--- Links without a `let` as one expression, by what they are and what they need.
+-- The links, of which none has a `let`, as one expression with the depth that it needs. The first
+-- number is the need of the first link, and the second one the greatest need of the others.
 abbrev pub chain_found : ReadLink → ℕ → List ReadLink → ℕ → Expr × ℕ
 chain_found l need [] most = (l.1, need)
 chain_found l need (m ∷ more) most = (expr.Chain l.1 (map and_operand (m ∷ more)), suc (max need most))
 
--- The condition that begins with these links, or is them, in the same way.
+-- The condition of these links, or of an expression that begins with them. The needs are given in
+-- the same way.
 abbrev pub condition_found : ExprWithin → ReadLink → ℕ → List ReadLink → ℕ → Tokens → Read Condition
 condition_found within l need more most ts =
     if list_any is_let (l ∷ more) then Some ((record { links = map linked (l ∷ more) }, max need most), ts)
     else (do x ← within.goes_on (chain_found l need more most) ts; Some ((alone x.0.0, x.0.1), x.1))
 
--- the condition whose first link this is
+-- the condition with this first link
 abbrev pub condition_behind : ExprWithin → ReadLink × ℕ → Tokens → Read Condition
 condition_behind within l ts = do more ← further_links within ts; condition_of within l more.0 more.1
 
--- The condition is this expression alone, or none is read for the same reason; memory may always be wanting.
+-- The condition is this expression alone. If no expression was read, there is no condition for the
+-- same reason. Memory may run out in any case.
 abbrev pub IsAlone : Result (Found Expr) ReadNone → Result (Found Condition) ReadNone → Type 0
 IsAlone (Ok x) (Ok c) = (c.node ≡ alone x.node) × (c.need ≡ x.need)
 IsAlone (Ok x) (Err none) = none ≡ NoMemory
@@ -47,14 +51,14 @@ IsAlone (Err none) (Err other) = other ≡ none
 
 -- ---- branches
 
--- what follows an `if`, and the branches after `else if`
+-- the branches of an `if`, without the first word and up to the last `else`
 abbrev pub branches : ExprWithin → Tokens → Read (List Branch)
 branches within ts = do
   b ← branch_by within ts
   more ← repeat begins_else_if (λ us. branch_by within (drop 2 us)) b.1
   Some ((b.0.0 ∷ nodes more.0, max b.0.1 (deepest more.0)), more.1)
 
--- A branch and those after it were put into one list, or memory ran out.
+-- The branch was put before the further ones, unless memory ran out.
 abbrev pub AreBranches : Found Branch → Result (Found (List Branch)) ReadNone → Result (Found (List Branch)) ReadNone → Type 0
 AreBranches one (Ok more) (Ok all) = (all.node ≡ one.node ∷ more.node) × (all.need ≡ max one.need more.need)
 AreBranches one (Ok more) (Err none) = none ≡ NoMemory
@@ -63,14 +67,14 @@ AreBranches one (Err none) (Err other) = other ≡ none
 
 -- ---- what begins an expression
 
--- a block after its `unsafe`, `const` or `async`
+-- a block after the word `unsafe`, `const` or `async`
 abbrev pub worded_block : ExprWithin → Tokens → Read Expr
 worded_block within ts =
     if first (is_keyword (codes "unsafe")) ts then block_expr within expr.Unsafe (tail ts)
     else (if first (is_keyword (codes "const")) ts then block_expr within expr.ConstBlock (tail ts)
     else (if first (is_keyword (codes "async")) ts then async_expr within (tail ts) else None))
 
--- what begins with `if` or `match`, or is a loop
+-- an expression that begins with `if` or `match`, or a loop
 abbrev pub worded : ExprWithin → Tokens → Read Expr
 worded within ts =
     if first (is_keyword (codes "if")) ts then if_expr within (tail ts)

@@ -1,4 +1,4 @@
--- What readers answer.
+-- What the parsers of files and of items answer.
 use Rattle.std.specs.Prelude.{ℕ, zero, suc, nat_le, if◌then◌else◌, ◌≡◌, Bool, true, false, List, Option, Some, None, Result, Ok, Err}
 use Rattle.lay_text.specs.declared.refusal.FormatError.{FormatError}
 use Rattle.lay_text.specs.declared.refusal.FormatError.TheVariants as format
@@ -16,25 +16,26 @@ use Rattle.lay_read_tokens.specs.declared.stop.ReadNone.{ReadNone}
 use Rattle.lay_read_tokens.specs.declared.stop.ReadNone.TheVariants as stop
 use Rattle.lay_read_shared.specs.Code.{code_within}
 
--- What was read one by one, and what is left, is this run; memory may always be wanting.
+-- The nodes that were parsed, and the tokens that are left, are those of this run. Memory may run
+-- out.
 abbrev pub IsRun : {A : Type 0} → A × Tokens → Result A NoMemory → Tokens → Type 0
 IsRun run (Ok found) left = run ≡ (found, left)
 IsRun run (Err none) left = Unit {0}
 
--- What stands next was read, or there is none, and the place stays.
+-- The next node was parsed; or there is none, and the cursor stays. Memory may run out.
 abbrev pub IsNext : {A : Type 0} → Got A → Result (Option A) NoMemory → Tokens → Tokens → Type 0
 IsNext got (Ok (Some a)) ahead left = got ≡ Some (a, left)
 IsNext got (Ok None) ahead left = (got ≡ None) × (left ≡ ahead)
 IsNext got (Err none) ahead left = Unit {0}
 
--- What a reader of files answers at a depth; memory may always be wanting.
+-- What the parser of a file answers at a depth. Memory may run out.
 abbrev pub FileAs : ℕ → List Token → Option (List ℕ) → Result File FormatError → Type 0
 FileAs depth tokens shebang (Ok file) = (file.shebang ≡ shebang) × SpellsFile depth file tokens
 FileAs depth tokens shebang (Err (format.Refused (NoItem at))) = NoItemAt depth tokens at
 FileAs depth tokens shebang (Err (format.Refused refusal)) = ⊥
 FileAs depth tokens shebang (Err format.NoMemory) = Unit {0}
 
--- An item has a head, where it is no macro call and declares no macro.
+-- An item has a head unless it is a macro call or declares a macro.
 abbrev pub has_head : ItemKind → Bool
 has_head (item.MacroRules name rules) = false
 has_head (item.Call call) = false

@@ -1,4 +1,4 @@
--- What readers of what begins an expression answer.
+-- What the parsers of what begins an expression answer.
 use Rattle.std.specs.Prelude.{ℕ, suc, max, Bool, if◌then◌else◌, List, [], ◌∷◌, codes, Some, None}
 use Rattle.lay_piece.specs.declared.kind.Delim.TheVariants.{Bracket, Brace}
 use Rattle.lay_node.specs.Ahead.{Tokens, first, tail, is_mark, closes}
@@ -16,7 +16,7 @@ use Rattle.lay_ops.specs.declared.operands.ExprLead.TheVariants as lead
 
 -- ---- in delimiters
 
--- what follows a `[` and an expression, where it is no `;`
+-- an array after its `[` and its first element, which no `;` follows
 abbrev pub array_by : ExprWithin → Expr × ℕ → Tokens → Read Expr
 array_by within x ts =
     if first (closes Bracket) ts then Some ((expr.Array (x.0 ∷ []), suc x.1), tail ts)
@@ -27,24 +27,24 @@ array_by within x ts =
 
 -- ---- what begins with a path
 
--- a field after its number and the `:`
+-- a field with a number as its name, after the `:`
 abbrev pub numbered_field : ExprWithin → List Attr → List ℕ → Tokens → Read FieldExpr
 numbered_field within attrs index ts = field_by within attrs (Some (index, ts)) ts
 
--- what follows the fields of a struct literal, of which it is known whether they ended
+-- a struct literal after its fields; the flag says whether they have ended
 abbrev pub struct_by : ExprWithin → Path × ℕ → (List FieldExpr × Bool) × ℕ → Tokens → Read Expr
 struct_by within p fields ts = do
   b ← base within fields.0.1 ts
   rest ← passed (closes Brace) b.1
   Some ((expr.Struct p.0 fields.0.0 b.0.0, suc (max p.1 (max fields.1 b.0.1))), rest)
 
--- a macro call, or what begins with a path
+-- a macro call, or another expression that begins with a path
 abbrev pub path_or_call : ExprWithin → Bool → Tokens → Read Expr
 path_or_call within no_struct ts = if begins_call ts then call_expr ts else path_expr within no_struct ts
 
 -- ---- what begins an expression
 
--- an expression after the token that begins it
+-- an expression after its first token
 abbrev pub marked : ExprWithin → Bool → ExprLead → Tokens → Read Expr
 marked within no_struct lead.Underscore ts = Some ((expr.Underscore, 1), ts)
 marked within no_struct lead.Paren ts = paren_expr within ts

@@ -1,4 +1,4 @@
--- What readers of operators ask for and what they answer.
+-- What the parsers of operators require of the function that they call, and what they answer.
 use Rattle.std.specs.Prelude.{ℕ, suc, ◌+◌, ◌^◌, ◌<◌, ◌≤◌, nat_le, ◌&&◌, if◌then◌else◌, List, drop, None, Result, IfOk}
 use Rattle.std.specs.declared.alloc.Global.{Global}
 use denote.Ref.{MutBor}
@@ -21,7 +21,7 @@ use Rattle.lay_read_parts.specs.Answers.{gathered}
 use Rattle.lay_read_tokens.specs.declared.found.Found.{Found}
 use Rattle.lay_read_tokens.specs.declared.stop.ReadNone.{ReadNone}
 
--- This function reads expressions at this depth, and the depth one above is a number.
+-- This function parses expressions at this depth. The depth plus one fits in 32 bits.
 pub record AreExprs (depth : ℕ) (may_read : Global → MutBor Tokens → Place → ℕ → Type 0)
     (reads : Global → MutBor Tokens → Place → ℕ → Result (Found Expr) ReadNone → MutBor Tokens → Type 0) : Type 0 where
   pub room : depth + 1 < 2 ^ 32
@@ -33,27 +33,27 @@ pub record AreExprs (depth : ℕ) (may_read : Global → MutBor Tokens → Place
 
 -- ---- steps
 
--- an index in brackets
+-- an index step, with its brackets
 abbrev pub bracket_step : ExprWithin → Tokens → Read Step
 bracket_step within ts = do behind ← passed (opens Bracket) ts; index_step within behind
 
--- generic arguments after a `::`
+-- generic arguments after their `::`
 abbrev pub late_args : Within → Tokens → Read (List Arg)
 late_args within ts = gathered (angled (one_arg within) (drop 2 ts))
 
--- a method after its name, where generic arguments stand after that
+-- a method call with generic arguments, after its name
 abbrev pub generic_method : ExprWithin → Name → Tokens → Read Step
 generic_method within n ts = generics_by within n (drop 2 ts)
 
 -- ---- operators after an operand
 
--- What an operator of the level makes of the expression before it, where that may stand there and isn't so deep that what
--- is made exceeds the budget.
+-- The expression that an operator of this level makes of the one before it. The one before must be
+-- able to stand there, and one level more must fit in the budget.
 abbrev pub climb_once : ExprWithin → ℕ → Place → ℕ → Expr × ℕ → Tokens → Read Expr
 climb_once within budget place level lhs ts =
     if nat_le (suc lhs.1) budget && stands (about_expr lhs.0) (left_place place level ts) then stage within level place.no_struct lhs ts
     else None
 
--- the operators below a level, where what they make is accepted in the end
+-- the operators below this level, if what they make is accepted
 abbrev pub climbed : ExprWithin → ℕ → Place → ℕ → Expr × ℕ → Tokens → Read Expr
 climbed within budget place level lhs ts = do x ← climb within place level lhs ts; accepted budget place x.0 x.1

@@ -1,4 +1,4 @@
--- What begins a type, in code.
+-- Lookahead for types, in code.
 use Rattle.lay_node.specs.Begins as begins
 use Rattle.lay_read_parts.specs.declared.leads.Lead.{Lead}
 use Rattle.lay_read_parts.specs.declared.leads.Lead.TheVariants as lead
