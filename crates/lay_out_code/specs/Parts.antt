@@ -1,4 +1,4 @@
--- The streams of heads, and of what stands in blocks and items.
+-- The streams of heads of items, and of what stands within blocks and items.
 use Rattle.std.specs.Prelude.{Bool, true, false, List, [], ◌∷◌, ◌++◌, codes, pos, Option}
 use Rattle.lay_layout.specs.declared.layout.Tok.{Tok}
 use Rattle.lay_layout.specs.declared.layout.Tok.TheVariants as tok
@@ -19,12 +19,12 @@ use Rattle.lay_code.specs.declared.blocks.Branch.{Branch}
 use Rattle.lay_code.specs.declared.blocks.Stmt.{Stmt}
 use Rattle.lay_code.specs.declared.conditions.Link.{Link}
 
--- There are none.
+-- The list of forms is empty.
 abbrev pub no_forms : List Form → Bool
 no_forms [] = true
 no_forms (f ∷ fs) = false
 
--- a head after its visibility, in a group of its own
+-- a head after its visibility, as a group
 abbrev pub head_row : Vis → Form → List Tok
 head_row v head = tok.Begin false (pos 0) ∷ (stream_of (vis_form v) ++ (stream_of head ++ (tok.End ∷ [])))
 

@@ -1,4 +1,4 @@
--- The streams of what stands round the bodies of arms and of closures.
+-- The streams of what is laid out around the bodies of arms and of closures.
 use Rattle.std.specs.Prelude.{true, List, [], ◌∷◌, codes, pos}
 use Rattle.lay_layout.specs.declared.layout.Tok.{Tok}
 use Rattle.lay_layout.specs.declared.layout.Tok.TheVariants as tok
@@ -17,7 +17,7 @@ abbrev pub arm_opened : Braces → List Tok
 arm_opened Marked = tok.Begin true (pos 4) ∷ tok.Break opening_break ∷ []
 arm_opened _ = []
 
--- what closes it, whether or not its arm is the last
+-- what closes the body of an arm, whether or not the arm is the last
 abbrev pub arm_closed : Braces → List Tok
 arm_closed Bare = tok.Text (codes ",") ∷ []
 arm_closed Unseen = []
@@ -28,7 +28,7 @@ abbrev pub closure_opened : Braces → List Tok
 closure_opened Marked = tok.Break (break_of Never) ∷ tok.Begin true (pos 4) ∷ tok.Break opening_break ∷ []
 closure_opened _ = []
 
--- what closes it
+-- what closes the body of a closure
 abbrev pub closure_closed : Braces → List Tok
 closure_closed Marked = tok.Break (closing_break Nothing) ∷ tok.End ∷ []
 closure_closed _ = []

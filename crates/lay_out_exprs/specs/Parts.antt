@@ -1,4 +1,4 @@
--- The parts of expressions, as contracts speak of them.
+-- The forms, facts and streams of parts of expressions, as the contracts use them.
 use Rattle.std.specs.Prelude.{Bool, true, not, cond, List, [], ◌∷◌, ◌++◌, map, is_some, Option, option_map}
 use Rattle.lay_layout.specs.declared.layout.Tok.{Tok}
 use Rattle.lay_layout.specs.declared.layout.Tok.TheVariants as tok
@@ -31,17 +31,17 @@ before_op x = (about_expr x.0, x.1)
 abbrev pub prefix_texts : List Prefix → List Tok
 prefix_texts ps = map (λ (p : Prefix). tok.Text (text_of_bits (prefix_bits p))) ps
 
--- fields in braces, and after them the `..` with its base
+-- the facts about the base of a struct literal, if it has one
 abbrev pub base_facts : Option (Option Expr) → Option (Option ExprFacts)
 base_facts base = option_map (option_map about_expr) base
 
 abbrev pub fields_form : List FieldExpr → Option (Option Expr) → Form
 fields_form fields base = braces (not (is_some (base_facts base))) (map field_told fields ++ base_form (base_facts base))
 
--- the stream of a base, if there is one, after its `..`
+-- the stream of the base of a struct literal after its `..`, if there is one
 abbrev pub base_told : Option Expr → List Tok
 base_told base = fed true (end_form (option_map about_expr base) Done) []
 
--- what closes a group, where steps with several methods stand in one
+-- what closes the group of steps with several method calls, if they have one
 abbrev pub steps_closed : Bool → List Tok
 steps_closed several = cond several (tok.End ∷ []) []

@@ -1,11 +1,12 @@
--- How code is read within a depth.
+-- The parsers of code of a limited depth.
 use Rattle.std.specs.Prelude.{ℕ}
 use Rattle.lay_node.specs.reader.Patterns.{pat_at}
 use Rattle.lay_node.specs.reader.Types.{within}
 use Rattle.lay_code.specs.reader.Code.{code_in, expr_at, item_at}
 use Rattle.lay_code.specs.reader.Within.{ExprWithin}
 
--- It is `code_in`, which computes only where the depth is known to be zero or not; here types and patterns do at each depth.
+-- These are those of `code_in`, which computes only where the depth is known to be zero or not.
+-- Here the parsers of types and patterns compute at each depth.
 abbrev pub code_within : ℕ → ExprWithin
 code_within depth = record {
   exprs = λ place ts. expr_at place depth ts;

@@ -1,4 +1,4 @@
--- What goes on as long as a part of it begins, in code.
+-- Lookahead for loops, in code: whether a further part begins.
 use Rattle.std.specs.Prelude.{suc, ◌==◌, Bool, codes}
 use Rattle.lay_node.specs.Ahead.{Tokens, first, is_keyword, more_items}
 use Rattle.lay_code.specs.Operators.{begins_step, strength}

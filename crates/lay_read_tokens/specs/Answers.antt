@@ -1,4 +1,4 @@
--- What readers ask for and what they answer.
+-- What parsers require of the tokens, and what they answer.
 use Rattle.std.specs.Prelude.{ℕ, ◌≡◌, ◌&&◌, not, Bool, true, false, if◌then◌else◌, codes, IsTrue, IsFalse, IsUtf8}
 use Rattle.std.specs.Prelude.{List, [], ◌∷◌, ◌++◌, map, drop, encode_utf8_all, Option, Some, None, Result, Ok, Err}
 use Rattle.std.specs.List.{list_all}
@@ -30,7 +30,7 @@ use Rattle.lay_read_tokens.specs.declared.found.Found.{Found}
 use Rattle.lay_read_tokens.specs.declared.stop.ReadNone.{ReadNone}
 use Rattle.lay_read_tokens.specs.declared.stop.ReadNone.TheVariants.{NoReading, NoMemory}
 
--- The tokens stand in a row in a list that some text lexes to, from a place on.
+-- Some text lexes to a list that has these tokens in a row.
 pub record AreLexed (tokens : List Token) : Type 0 where
   pub bytes : List ℕ
   pub start : ℕ
@@ -39,57 +39,59 @@ pub record AreLexed (tokens : List Token) : Type 0 where
   pub utf8 : IsUtf8 (drop start bytes)
   pub lexes : Lexes bytes start (before ++ tokens ++ after)
 
--- Where a reader stops, reading gives nothing, unless memory ran out.
+-- A parser that stops has read nothing, unless memory ran out.
 abbrev pub Stopped : {A : Type 0} → Option A → ReadNone → Type 0
 Stopped got NoReading = got ≡ None
 Stopped got NoMemory = Unit {0}
 
--- What a reader answered is what reading gives.
+-- The answer is what was read and the cursor stands after it, or nothing was read.
 abbrev pub IsGot : {A : Type 0} → Got A → Result A ReadNone → Tokens → Type 0
 IsGot got (Ok a) left = got ≡ Some (a, left)
 IsGot got (Err none) left = Stopped got none
 
--- What a reader answered is what reading gives, a node with the depth that it needs.
+-- The answer is the node that was read, with the depth that it needs.
 abbrev pub IsFound : {A : Type 0} → Read A → Result (Found A) ReadNone → Tokens → Type 0
 IsFound read (Ok found) left = read ≡ Some ((found.node, found.need), left)
 IsFound read (Err none) left = Stopped read none
 
--- These nodes were read, and this is the greatest need of theirs.
+-- The answer is the nodes that were read, with the greatest depth that one of them needs.
 abbrev pub AreFound : {A : Type 0} → List (A × ℕ) → Found (List A) → Type 0
 AreFound read found = (nodes read ≡ found.node) × (deepest read ≡ found.need)
 
--- The node stands at the beginning at this depth, and this is what follows it.
+-- The node stands at the beginning at this depth, and these tokens follow it.
 abbrev pub StandsBefore : {A : Type 0} → (A → Tokens → ℕ → ℕ → Type 0) → ℕ → Tokens → A → Tokens → Type 0
 StandsBefore Front depth ahead node left = (n : ℕ) × (left ≡ drop n ahead) × Front node ahead n depth
 
--- What stands there is this alone, and only this follows it.
+-- This node is the only one that stands there, and these tokens are the only ones that can follow.
 abbrev pub IsSole : {A : Type 0} → (A → Tokens → Type 0) → A → Tokens → Type 0
 IsSole {A} Stands node left = (other : A) (rest : Tokens) → Stands other rest → (other ≡ node) × (rest ≡ left)
 
--- What a reader of a node answers. Where it reads one, the node comes next, no other does, and the cursor moves
--- past it; where it doesn't, none stands there, or memory ran out, and the cursor stays.
+-- What the parser of a node answers. If it parses a node, the node is the only one that comes next,
+-- and the cursor moves past it. Otherwise no node comes next, or memory ran out, and the cursor
+-- stays.
 abbrev pub IsRead : {A : Type 0} → (A → Tokens → ℕ → ℕ → Type 0) → Tokens → Result A ReadNone → Tokens → Type 0
 IsRead Front ahead (Ok node) left = StandsBefore Front 0 ahead node left × IsSole (StandsBefore Front 0 ahead) node left
 IsRead {A} Front ahead (Err NoReading) left = (left ≡ ahead) × ((node : A) (n : ℕ) → Front node ahead n 0 → ⊥)
 IsRead Front ahead (Err NoMemory) left = left ≡ ahead
 
--- The nodes come next one after the other, and this is what follows them.
+-- The nodes come next one after another, and these tokens follow them.
 abbrev pub StandInRow : {A : Type 0} → (A → Tokens → ℕ → ℕ → Type 0) → Tokens → List A → Tokens → Type 0
 StandInRow Front ahead [] left = left ≡ ahead
 StandInRow Front ahead (node ∷ nodes) left = (rest : Tokens) × StandsBefore Front 0 ahead node rest × StandInRow Front rest nodes left
 
--- The same, and none begins after them.
+-- The same, and no further node begins after them.
 abbrev pub AreAll : {A : Type 0} → (A → Tokens → ℕ → ℕ → Type 0) → (Tokens → Bool) → Tokens → List A → Tokens → Type 0
 AreAll Front begins ahead nodes left = StandInRow Front ahead nodes left × IsFalse (begins left)
 
--- What a reader of nodes in a row answers. Where it reads them, they come next and none begins after them, no others
--- do, and the cursor moves past them; where it doesn't, no such nodes stand there, or memory ran out, and the cursor stays.
+-- What the parser of a row of nodes answers. If it parses them, they come next, no further one
+-- begins after them, and they are the only such nodes. The cursor moves past them. Otherwise no
+-- such row comes next, or memory ran out, and the cursor stays.
 abbrev pub AreRead : {A : Type 0} → (A → Tokens → ℕ → ℕ → Type 0) → (Tokens → Bool) → Tokens → Result (List A) ReadNone → Tokens → Type 0
 AreRead Front begins ahead (Ok nodes) left = AreAll Front begins ahead nodes left × IsSole (AreAll Front begins ahead) nodes left
 AreRead {A} Front begins ahead (Err NoReading) left = (left ≡ ahead) × ((nodes : List A) (rest : Tokens) → AreAll Front begins ahead nodes rest → ⊥)
 AreRead Front begins ahead (Err NoMemory) left = left ≡ ahead
 
--- What a reader holds in its own way is what reading gives.
+-- What the parser holds in its own data is what was read.
 abbrev pub IsHeld : {A B : Type 0} → (A → B → Type 0) → Got A → Result B ReadNone → Tokens → Type 0
 IsHeld {A} Holds got (Ok b) left = (a : A) × (got ≡ Some (a, left)) × Holds a b
 IsHeld Holds got (Err none) left = Stopped got none
@@ -100,11 +102,11 @@ IsMade value (Ok a) = a ≡ value
 IsMade value (Err NoReading) = ⊥
 IsMade value (Err NoMemory) = Unit {0}
 
--- the same text, unless memory ran out
+-- The answer is the same text, unless memory ran out.
 abbrev pub IsCopy : List ℕ → Result (List ℕ) ReadNone → Type 0
 IsCopy text answer = IsMade text answer
 
--- The words are the first one and the others.
+-- The list of words is this first word and then the others.
 abbrev pub BeginWith : Word → List Word → List Word → Type 0
 BeginWith first others words = words ≡ first ∷ others
 
@@ -123,29 +125,31 @@ is_underscore t = is_underscore_kind t.kind
 
 -- ---- tokens
 
--- The tokens as they stand in a list; documentation among them has a text that it may be laid out with.
+-- The tokens may be laid out as the tokens of a list. For documentation that depends on its text.
 abbrev pub are_laid : List Token → Bool
 are_laid tokens = list_all may_be_laid (map as_listed tokens)
 
--- The answer is this token of a list, unless it may not be laid out or memory ran out.
+-- The answer is this token of a list. It is refused if it may not be laid out, and memory may run
+-- out.
 abbrev pub IsLaid : Listed → Result Listed ReadNone → Type 0
 IsLaid u (Ok v) = (v ≡ u) × IsTrue (may_be_laid u)
 IsLaid u (Err NoReading) = IsFalse (may_be_laid u)
 IsLaid u (Err NoMemory) = Unit {0}
 
--- The same of all these tokens as they stand in a list.
+-- The same for all of these tokens.
 abbrev pub AreListed : List Token → Result (List Listed) ReadNone → Type 0
 AreListed tokens (Ok us) = (us ≡ map as_listed tokens) × IsTrue (are_laid tokens)
 AreListed tokens (Err NoReading) = IsFalse (are_laid tokens)
 AreListed tokens (Err NoMemory) = Unit {0}
 
--- The same where they are added to a list.
+-- The same, where the tokens are added to a list.
 abbrev pub AreAdded : List Listed → List Token → Result (Unit {0}) ReadNone → List Listed → Type 0
 AreAdded before tokens (Ok done) now = (now ≡ before ++ map as_listed tokens) × IsTrue (are_laid tokens)
 AreAdded before tokens (Err NoReading) now = IsFalse (are_laid tokens)
 AreAdded before tokens (Err NoMemory) now = Unit {0}
 
--- A token tree begins that a list goes on to: up to a comma outside its groups, if it is asked for.
+-- A token tree begins here, and the list goes on with it. If the flag is set, a comma outside of
+-- groups ends the list.
 abbrev pub goes_on : Bool → Tokens → Bool
 goes_on to_comma ts = begins_tree ts && not (to_comma && first (is_mark (codes ",")) ts)
 
@@ -160,22 +164,22 @@ front_opener (t ∷ ts) = opened_by t.kind
 
 -- ---- attributes
 
--- what an attribute is given, and its closing bracket
+-- an attribute from its input on, with its closing bracket
 abbrev pub closed : Bool → MetaPath → Got MetaInput → Got Attr
 closed inner path got = do given ← got; rest ← passed (closes Bracket) given.1; Some (made inner path given.0, rest)
 
 abbrev pub meta_rest : Bool → MetaPath → Tokens → Got Attr
 meta_rest inner path ts = closed inner path (meta_input ts)
 
--- the value that it is given, after the `=`
+-- the value of an attribute, after the `=`
 abbrev pub value_behind : Tokens → Got MetaInput
 value_behind ts = do us ← reader.tokens ts; if is_empty us.0 then None else Some (input.Value us.0, us.1)
 
--- the closing bracket of an attribute that is no documentation
+-- an attribute that is no documentation, from its closing bracket on
 abbrev pub meta_closed : Bool → MetaPath → MetaInput → Tokens → Got Attr
 meta_closed inner path given ts = do rest ← passed (closes Bracket) ts; Some (attr.Meta inner path given, rest)
 
--- the text of documentation that has this value, if it can be written with it
+-- the text of documentation with this value, if documentation can be written with it
 abbrev pub doc_text : Bool → Option (List ℕ) → Option (List ℕ)
 doc_text inner None = None
 doc_text inner (Some value) = if is_doc_text inner (encode_utf8_all value) then Some (encode_utf8_all value) else None
@@ -184,6 +188,7 @@ abbrev pub front_doc : Bool → Tokens → Option (List ℕ)
 front_doc inner [] = None
 front_doc inner (t ∷ ts) = doc_text inner (value_of t.kind (chars t.text))
 
--- the text of the documentation that an attribute is, where its value is one string before the closing bracket
+-- The text of the documentation that an attribute is. The attribute's value must be one string
+-- before the closing bracket.
 abbrev pub doc_value : Bool → MetaPath → Tokens → Option (List ℕ)
 doc_value inner path ts = if is_doc_path path && first (closes Bracket) (tail ts) then front_doc inner ts else None

@@ -1,4 +1,4 @@
--- What the rules ask for and what they answer.
+-- What the parsers of types require of the functions that they call, and what they answer.
 use Rattle.std.specs.Prelude.{ℕ, ◌≤◌, true, false, if◌then◌else◌, [], ◌∷◌, Option, Some, None, Result, IfOk}
 use Rattle.std.specs.declared.alloc.Global.{Global}
 use denote.Ref.{MutBor}
@@ -18,7 +18,7 @@ use Rattle.lay_read_tokens.specs.declared.stop.ReadNone.{ReadNone}
 use Rattle.lay_read_parts.specs.declared.leads.Lead.{Lead}
 use Rattle.lay_read_parts.specs.declared.leads.Lead.TheVariants as lead
 
--- These functions read types and what is asked of a name at this depth.
+-- These functions parse types, and the constraint of a name, at this depth.
 pub record AreDeeper (depth : ℕ) (may_read : Global → MutBor Tokens → TypePlace → ℕ → Type 0)
     (reads : Global → MutBor Tokens → TypePlace → ℕ → Result (Found Ty) ReadNone → MutBor Tokens → Type 0)
     (may_ask : Global → MutBor Tokens → ℕ → Type 0)
@@ -36,7 +36,7 @@ pub record AreDeeper (depth : ℕ) (may_read : Global → MutBor Tokens → Type
 
 -- ---- types
 
--- a type after the token that begins it
+-- a type after its first token
 abbrev pub marked : Within → TypePlace → Lead → Tokens → Read Ty
 marked deeper place lead.Paren ts = paren_type deeper ts
 marked deeper place lead.Never ts = Some ((ty.Never, 1), ts)
@@ -49,7 +49,8 @@ marked deeper place lead.Dyn ts = bounds_type deeper true place ts
 marked deeper place lead.Path ts = None
 marked deeper place lead.Func ts = None
 
--- a name and generic arguments, where the word is a name and they stand in no parentheses
+-- a name with its generic arguments, if the word is a name and no arguments in parentheses stand
+-- after it
 abbrev pub named_segment : Word → Args → Option (Name × Args)
 named_segment word args = named_segments ((word, args) ∷ [])
 

@@ -24,25 +24,27 @@ use Rattle.lay_code.specs.reader.Within.{ExprWithin}
 use Rattle.lay_code.specs.declared.blocks.Arm.{Arm}
 use Rattle.lay_code.specs.declared.exprs.Expr.{Expr}
 
--- this many levels deeper
+-- the form, this many levels deeper
 abbrev pub levels : ℕ → Form → Form
 levels zero f = f
 levels (suc n) f = Deeper (levels n f) Done
 
--- within this many pairs of braces, each with any number of `;` after its opening one
+-- the form within this many pairs of braces, where any number of `;` may follow each opening brace
 abbrev pub in_braces : ℕ → Form → Form
 in_braces zero f = f
 in_braces (suc n) f = Piece (opener Brace ∷ Semicolons ∷ []) (Part (in_braces n f) (piece (closer Brace ∷ [])))
 
--- an arm whose body stands within this many pairs of braces that aren't in the tree, and its comma if it has one
+-- An arm whose body stands within this many pairs of braces that aren't in the tree. The flag says
+-- that it has its comma.
 abbrev pub arm_shape : ℕ → Bool → Arm → Form
 arm_shape pairs ended a = behind_attrs (map attr_form a.attrs)
     (I0 (Part (pat_form Alternatives (about_pat a.pat)) (guard_form (option_map about_expr a.guard)))
     (Piece (Blank ∷ Operator (codes "=>") ∷ Blank ∷ [])
     (Part (levels (cost pairs) (in_braces pairs (about_expr a.body).form)) (when ended comma Done))))
 
--- After its comma any token may follow an arm. Without it no comma follows; after braces neither `.` nor `?`, as after a
--- block; and after a body that has none nothing that would go on with it, and no token at all unless the body is block-like
+-- Which tokens may follow an arm. After its comma any may. Without one no comma may. If the body
+-- stands within braces, the next token isn't `.` or `?`, as after a block. If it doesn't, the next
+-- token may not go on with the body. Then no token at all may follow, unless the body is block-like
 -- and no macro call.
 abbrev pub arm_follows : ℕ → Bool → ExprFacts → Tokens → Bool
 arm_follows pairs true x ts = true
@@ -55,13 +57,14 @@ ArmFront a ts n depth = (pairs : ℕ) × (ended : Bool) × MayBrace (braces_of (
 
 -- ---- readings
 
--- The body of an arm, without the braces that aren't in the tree, and whether it lets the arm lack its comma.
+-- The body of an arm without the braces that aren't in the tree. The flag that is read says whether
+-- the arm needs no comma after it.
 abbrev pub body_begun : ExprWithin → Tokens → Read (Expr × Bool)
 body_begun within ts = do
   x ← within.exprs statement ts
   Some (((undressed (length ts) x.0.0, is_free (about_expr x.0.0)), body_need (is_lone_body (about_expr x.0.0).kind) x.0.1), x.1)
 
--- an arm up to its comma, and whether its body lets it lack that
+-- An arm up to its comma. The flag that is read says whether the comma may be missing.
 unfoldable pub arm_begun : ExprWithin → Tokens → Read (Arm × Bool)
 arm_begun within ts = do
   attrs ← attributes false ts
@@ -70,18 +73,20 @@ arm_begun within ts = do
   x ← (if is_op (codes "=>") g.1 then body_begun within (drop 2 g.1) else None)
   Some ((((record { attrs = attrs.0; pat = p.0.0; guard = g.0.0; body = x.0.0.0 }), x.0.0.1), max p.0.1 (max g.0.1 x.0.1)), x.1)
 
--- what is left after the comma of an arm by itself, which may lack it where the flag says so, and where no token follows
+-- The tokens after the comma of an arm by itself. The comma may be missing at the end of the
+-- tokens, and where the flag says so.
 abbrev pub alone_end : Bool → Tokens → Option Tokens
 alone_end free ts = if first (is_mark (codes ",")) ts then Some (tail ts) else (if free || at_end ts then Some ts else None)
 
--- the arm by itself, with its comma
+-- the arm by itself, with its comma if it has one
 abbrev pub arm_alone : ExprWithin → Tokens → Read Arm
 arm_alone within ts = do
   x ← arm_begun within ts
   rest ← alone_end x.0.0.1 x.1
   Some ((x.0.0.0, x.0.1), rest)
 
--- The same one level deeper. A body without braces stands a level deeper still, so the budget is tested.
+-- The same one level deeper. A body that drops no braces takes one more level, so the budget is
+-- tested.
 abbrev pub alone_arm : ℕ → Tokens → Read Arm
 alone_arm zero ts = None
 alone_arm (suc budget) ts = do x ← arm_alone (code_in budget) ts; if nat_le x.0.1 budget then Some ((x.0.0, suc x.0.1), x.1) else None

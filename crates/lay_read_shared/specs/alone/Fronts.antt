@@ -15,15 +15,16 @@ use Rattle.lay_code.specs.declared.blocks.Stmt.{Stmt}
 use Rattle.lay_code.specs.declared.blocks.Stmt.TheOpen.{Stmt-F}
 use Rattle.lay_code.specs.declared.blocks.Stmt.TheViews.{out-Stmt}
 
--- A block may be followed by any token.
+-- Any token may follow a block.
 abbrev pub block_told : Block → Told
 block_told x = record { form = (about_block x).form false; good = (about_block x).good; follows = λ ts. true }
 
 abbrev pub BlockFront : Block → Tokens → ℕ → ℕ → Type 0
 BlockFront x = ToldFront (by_itself (block_told x))
 
--- An expression without its `;` is followed by none, and by nothing that would go on with it; and by no token at all where it
--- neither is block-like nor a macro call in braces. Any token may follow every other statement.
+-- Which tokens may follow a statement. After an expression without its `;` none may that is a `;`
+-- or that would go on with it. Then no token at all may follow, unless the expression is
+-- block-like. Any token may follow every other statement.
 abbrev pub follows_in : StmtNode → Tokens → Bool
 follows_in (Stmt-F.Stmt::Expr attrs x false) ts =
     follows (about_expr x) statement ts && not (first (is_mark (codes ";")) ts) && ((about_expr x).block_like || at_end ts)
@@ -40,11 +41,11 @@ StmtFront x = ToldFront (by_itself (stmt_told x))
 
 -- ---- readings
 
--- A node with code within it, by itself: that is one level deeper.
+-- A node of code by itself. The code within it is one level deeper.
 abbrev pub alone : {A : Type 0} → (ExprWithin → Tokens → Read A) → ℕ → Tokens → Read A
 alone one zero ts = None
 alone one (suc budget) ts = do x ← one (code_in budget) ts; Some ((x.0.0, suc x.0.1), x.1)
 
--- a statement that ends by itself, or after which no token stands
+-- A statement by itself. It ends by itself, or it is the last of the tokens.
 abbrev pub stmt_alone : ExprWithin → Tokens → Read Stmt
 stmt_alone within ts = do s ← stmt_by within ts; if (about_stmt s.0.0).ends || at_end s.1 then Some s else None
