@@ -1,4 +1,4 @@
--- What a sink that keeps a text tells.
+-- The bytes that a sink in memory keeps.
 use Rattle.std.specs.Prelude.{ℕ, List}
 use Rattle.lay_files.specs.declared.keep.Keeper.{Keeper}
 

@@ -1,4 +1,4 @@
--- What edits of the items of a file do.
+-- What it means to put an item into a file, to replace one and to remove one.
 use Rattle.std.specs.Prelude.{ℕ, ◌≡◌, false, List, length, insert, remove, slice_set, is_some, Result, Ok, Err}
 use Rattle.lay_text.specs.declared.refusal.FormatError.{FormatError}
 use Rattle.lay_text.specs.declared.refusal.FormatError.TheVariants as format
@@ -12,33 +12,33 @@ use Rattle.lay_items.specs.declared.reading.EditError.TheVariants as edit
 use Rattle.lay_items.specs.declared.reading.Laid.{Laid}
 use Rattle.lay_items.specs.declared.reading.Shape.{Shape}
 
--- why bytes read to no file; memory may always be wanting
+-- The bytes parse to no file, for this reason. Memory may run out.
 abbrev pub IsUnread : List ℕ → FormatError → Type 0
 IsUnread bytes (format.Refused refusal) = IsRefused bytes refusal
 IsUnread bytes format.NoMemory = Unit {0}
 
 -- ---- texts of one item
 
--- what a file holds
+-- how much a file holds
 abbrev pub shape_of : File → Shape
 shape_of file = record { shebang = is_some file.shebang; attrs = length file.attrs; items = length file.items }
 
--- one item and nothing else
+-- a file of one item and nothing else
 abbrev pub one_item : Shape
 one_item = record { shebang = false; attrs = 0; items = 1 }
 
--- why a text isn't one item
+-- The text isn't one item, for this reason. Memory may run out.
 abbrev pub IsNotOne : List ℕ → EditError → Type 0
 IsNotOne text (edit.Refused refusal) = IsRefused text refusal
 IsNotOne text (edit.NotOneItem shape) = (file : File) × ReadsOnlyTo text file × (shape ≡ shape_of file) × (shape ≡ one_item → ⊥)
 IsNotOne text edit.NoMemory = Unit {0}
 
--- the one item of a text, and its own text
+-- The answer is the one item of a text with the item's own text, or why the text isn't one item.
 abbrev pub IsOneItem : List ℕ → Result Laid EditError → Type 0
 IsOneItem text (Ok laid) = ReadsOnlyTo text (alone laid.item) × (laid.output ≡ item_text laid.item)
 IsOneItem text (Err why) = IsNotOne text why
 
--- the one item of a file that holds nothing else
+-- The answer is the one item of a file that holds nothing else, or what the file holds.
 abbrev pub IsOnly : File → Result Item Shape → Type 0
 IsOnly file (Ok item) = file ≡ alone item
 IsOnly file (Err shape) = (shape ≡ shape_of file) × (shape ≡ one_item → ⊥)
@@ -49,7 +49,7 @@ IsOnly file (Err shape) = (shape ≡ shape_of file) × (shape ≡ one_item → �
 abbrev pub with_item : File → ℕ → Item → File
 with_item file index item = record file { items = insert file.items index item }
 
--- a file with this item in the place of another
+-- a file with this item in the place of the one at an index
 abbrev pub with_other : File → ℕ → Item → File
 with_other file index item = record file { items = slice_set file.items index item }
 
@@ -57,12 +57,12 @@ with_other file index item = record file { items = slice_set file.items index it
 abbrev pub without_item : File → ℕ → File
 without_item file index = record file { items = remove file.items index }
 
--- The one item of the text is put in; or there is none, and the file stays.
+-- The one item of the text is put in. If the text isn't one item, the file stays.
 abbrev pub Inserts : File → ℕ → List ℕ → Result (Unit {0}) EditError → File → Type 0
 Inserts old index text (Ok done) new = (item : Item) × ReadsOnlyTo text (alone item) × (new ≡ with_item old index item)
 Inserts old index text (Err why) new = IsNotOne text why × (new ≡ old)
 
--- The one item of the text is put in the place of another; or there is none, and the file stays.
+-- The one item of the text takes the place of another. If the text isn't one item, the file stays.
 abbrev pub Replaces : File → ℕ → List ℕ → Result (Unit {0}) EditError → File → Type 0
 Replaces old index text (Ok done) new = (item : Item) × ReadsOnlyTo text (alone item) × (new ≡ with_other old index item)
 Replaces old index text (Err why) new = IsNotOne text why × (new ≡ old)

@@ -1,4 +1,4 @@
--- The tokens ahead, of a list or of a text.
+-- The next tokens, of a list or of a text.
 use Rattle.std.specs.Prelude.{List}
 use Rattle.lay_token.specs.declared.token.Token.{Token}
 use Rattle.lay_lex.specs.one_by_one.Ahead.{tokens_ahead}

@@ -1,5 +1,6 @@
--- Which forms tell their units by their layout. What a text says follows from its first characters; a text `,` tells whether it is a
--- word by the break after it and by the arrow of an arm before it; and after documentation on a line a break comes before any text.
+-- For which forms the stream of the layout tells the units. The first characters of a text tell
+-- what it is. A text `,` is a word or not by the break after it and by the arrow of an arm before
+-- it. After documentation up to the end of a line, a break comes before any text.
 use Rattle.std.specs.Prelude.{Bool, true, false, cond, ◌&&◌, ◌||◌, ◌==◌, not, ℕ, List, [], ◌∷◌, codes, Option, Some, None}
 use Rattle.std.specs.Str.{bytes_eq}
 use Rattle.lay_piece.specs.Characters as char
@@ -22,7 +23,7 @@ abbrev pub same : Bool → Bool → Bool
 same true b = b
 same false b = not b
 
--- The first character of a word decides what it is.
+-- The first character of a word tells what the word is.
 abbrev pub is_told : Kind → ℕ → List ℕ → Bool
 is_told kind c cs =
     same (opens kind) (c == char.open_brace) && (same (closes kind) (c == char.close_brace)
@@ -42,48 +43,49 @@ abbrev pub is_none : Option Opening → Bool
 is_none None = true
 is_none (Some opening) = false
 
--- It begins no documentation and no raw identifier.
+-- The text begins neither documentation nor a raw identifier.
 abbrev pub is_plain : List ℕ → Bool
 is_plain text = is_none (opening_of text) && not (bytes_eq text (codes "r#"))
 
 -- ---- what waits
 
--- what was fed last and waits for what comes
+-- what was fed last and isn't decided before more is fed
 pub data Wait : Type 0 where
-  -- nothing
+  -- nothing of the kind
   Still : Wait
   -- a `,` that is a word
   Said : Wait
   -- a `,` that is in no unit
   Laid : Wait
-  -- documentation on a line, up to the next break
+  -- documentation up to the end of the line, which the next break ends
   InLine : Wait
 
--- what waits, and whether the arrow of an arm was fed in the group that is open; or the layout doesn't tell the units
+-- The state of a stream: what waits, and whether the arrow of an arm was fed in the open group. It
+-- is lost if the stream doesn't tell the units.
 pub data Flow : Type 0 where
   Lost : Flow
   At : Wait → Bool → Flow
 
--- a text may come
+-- A text may come next.
 abbrev pub is_open : Wait → Bool
 is_open Still = true
 is_open Said = true
 is_open Laid = false
 is_open InLine = false
 
--- These words are a `,`.
+-- The words are one `,`.
 abbrev pub are_comma : List Word → Bool
 are_comma (Told kind text ∷ []) = is_punct kind && bytes_eq text (codes ",")
 are_comma _ = false
 
--- after a text of these words
+-- the state after a text that says these words
 abbrev pub text_flow : List Word → List ℕ → Wait → Bool → Flow
 text_flow ws text w arrow =
     cond (is_open w)
     (cond (bytes_eq text (codes ",")) (cond (are_comma ws) (At Said arrow) Lost) (At Still (bytes_eq text (codes " => ") || arrow)))
     Lost
 
--- an empty text is left out
+-- An empty text changes nothing.
 abbrev pub words_flow : List Word → List ℕ → Wait → Bool → Flow
 words_flow ws [] w arrow = At w arrow
 words_flow ws (c ∷ cs) w arrow = text_flow ws (c ∷ cs) w arrow
@@ -102,7 +104,7 @@ leaf_flow kind text Lost = Lost
 leaf_flow (Doc inner block) text (At w arrow) = Lost
 leaf_flow kind text (At w arrow) = text_flow (Told kind text ∷ []) text w arrow
 
--- a `,` that is in no unit
+-- the state after a `,` that is in no unit
 abbrev pub comma_flow : Flow → Flow
 comma_flow Lost = Lost
 comma_flow (At w arrow) = cond (is_open w) (At Laid arrow) Lost
@@ -122,7 +124,7 @@ break_flow b (At Said arrow) = cond (is_free b arrow) Lost (At Still arrow)
 break_flow b (At Laid arrow) = cond (is_free b arrow) (At Still arrow) Lost
 break_flow b (At InLine arrow) = At Still arrow
 
--- where a group begins or ends
+-- the state after a group begins or ends
 abbrev pub group_flow : Flow → Flow
 group_flow Lost = Lost
 group_flow (At Still arrow) = At Still arrow
@@ -130,7 +132,7 @@ group_flow (At Said arrow) = At Still arrow
 group_flow (At Laid arrow) = Lost
 group_flow (At InLine arrow) = At InLine arrow
 
--- within a group, and after it
+-- The state at the start of a group, and after it.
 abbrev pub entered : Flow → Flow
 entered Lost = Lost
 entered (At w arrow) = At w false

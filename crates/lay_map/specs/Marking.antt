@@ -1,4 +1,5 @@
--- What a layout, fed token by token, tells of the tokens of a text that spells the same: where the units are.
+-- Finding the units of tokens by the stream of the layout that they spell. The stream is fed token
+-- by token, and each text in it tells which token is the next unit.
 use Rattle.std.specs.Prelude.{◌≡◌, ℕ, zero, suc, ◌-◌, ℤ, pos, negsuc, Bool, true, false, cond, ◌&&◌, ◌||◌, ◌==◌, not, List, [], ◌∷◌, codes, Option, Some, None}
 use Rattle.std.specs.Str.{bytes_eq}
 use Rattle.lay_piece.specs.Characters as char
@@ -16,17 +17,17 @@ use Rattle.lay_map.specs.declared.walk.Sought.TheVariants.{First, Docs}
 
 pub record State : Type 0 where
   pub place : Place
-  -- how many opening braces were fed in a row, and aren't placed yet
+  -- how many opening braces were fed in a row and have no token yet
   pub row : ℕ
-  -- A text `,` was fed last, of which the next call tells whether it is a word.
+  -- The text fed last is a `,`. The next call tells whether it is a word.
   pub comma : Bool
-  -- where in documentation
+  -- whether the stream is within documentation, and of which kind
   pub within : Within
-  -- The arrow of an arm was fed in the group that is open, and in each group around it.
+  -- The arrow of an arm was fed in the open group. The list says the same of the groups around it.
   pub arrow : Bool
   pub outer : List Bool
 
--- Nothing was fed. The flag says that the first line is that of a shebang.
+-- The state before anything is fed. The flag says that the first line is a shebang.
 abbrev pub begun : List Token → Bool → State
 begun tokens shebang = record {
   place = record { ahead = tokens; braces = []; units = [] };
@@ -39,11 +40,11 @@ begun tokens shebang = record {
 
 -- ---- words
 
--- The opening braces that wait are placed, where the next word isn't `;`, or is.
+-- The opening braces that wait get their tokens. The flag says that the next word isn't `;`.
 abbrev pub settled : Bool → State → State
 settled loose s = record s { place = placed loose s.row s.place; row = 0 }
 
--- The token of a word that begins with this character is a unit.
+-- The next token that begins with this character is a unit.
 abbrev pub found : ℕ → State → State
 found c s = let t = settled (not (c == char.semicolon)) s in record t { place = sought_from (First c) t.place }
 
@@ -57,7 +58,7 @@ first_ahead c s = first_length (found c s).place.ahead
 abbrev pub raised : State → State
 raised s = record s { row = suc s.row }
 
--- the words of a text, of which the first characters, as many as told, are of the word before
+-- The state after the words of a text. Its first `n` characters belong to the word before.
 abbrev pub words_of : ℕ → List ℕ → State → State
 words_of n [] s = s
 words_of (suc n) (c ∷ cs) s = words_of n cs s
@@ -65,7 +66,7 @@ words_of zero (c ∷ cs) s =
     cond (c == char.open_brace) (words_of 0 cs (raised s))
     (cond (c == char.blank) (words_of 0 cs s) (words_of (first_ahead c s - 1) cs (worded c s)))
 
--- A word may begin with this character: it goes on with this many more.
+-- If a word begins with this character, its text has this many characters more.
 abbrev pub BeginsWord : ℕ → State → ℕ → State → Type 0
 BeginsWord c old n new = (cs : List ℕ) → words_of 0 (c ∷ cs) old ≡ words_of n cs new
 
@@ -84,7 +85,7 @@ opening_of text =
     let block = bytes_eq text (codes "/**") || bytes_eq text (codes "/*!") in
     cond (inner || block || bytes_eq text (codes "///")) (Some (record { inner = inner; block = block })) None
 
--- Documentation is a unit.
+-- The next documentation is a unit.
 abbrev pub doced : Bool → State → State
 doced inner s =
     let t = settled true s in
@@ -95,11 +96,12 @@ doced inner s =
 abbrev pub documented : Opening → State → State
 documented opening s = let t = doced opening.inner s in record t { within = cond opening.block Block Line }
 
--- the words of a text, which may be the arrow of an arm
+-- the state after a text that isn't documentation, which may be the arrow of an arm
 abbrev pub code_words : List ℕ → State → State
 code_words text s = let t = words_of 0 text s in record t { arrow = bytes_eq text (codes " => ") || t.arrow }
 
--- `r#` is fed before the name of a raw identifier, which is the text of its token.
+-- The state after such a text. A `r#` is fed before the name of a raw identifier, whose token has
+-- the name as its text.
 abbrev pub read_code : List ℕ → State → State
 read_code text s =
     cond (bytes_eq text (codes "r#")) s (cond (bytes_eq text (codes ",")) (record s { comma = true }) (code_words text s))
@@ -123,7 +125,8 @@ abbrev pub is_back : ℤ → Bool
 is_back (pos n) = false
 is_back (negsuc n) = true
 
--- A `,` before the break is in no unit: that after the last of several fields, or that of an arm.
+-- The `,` before this break is in no unit: it follows the last of several fields, or it is that of
+-- an arm.
 abbrev pub is_free : Break → Bool → Bool
 is_free b arrow = (b.blank == 65535) && (is_back b.offset || arrow)
 
@@ -152,6 +155,6 @@ abbrev pub fed_all : List Tok → State → State
 fed_all [] s = s
 fed_all (t ∷ ts) s = fed_all ts (fed_one t s)
 
--- the units where nothing more is fed
+-- the units, if nothing more is fed
 abbrev pub units_of : State → List Unit
 units_of s = (settled true (comma_settled s)).place.units

@@ -1,9 +1,9 @@
--- Units of a source and of an output, paired by their number.
+-- The units of a source and of an output in pairs. A unit is one token or one documentation.
 use Rattle.std.specs.Prelude.{List, [], ◌∷◌}
 use Rattle.lay_map.specs.declared.unit.Pair.{Pair}
 use Rattle.lay_map.specs.declared.unit.Unit.{Unit}
 
--- number k with number k
+-- the first with the first, the second with the second, and so on
 abbrev pub paired : List Unit → List Unit → List Pair
 paired [] others = []
 paired (unit ∷ units) [] = []

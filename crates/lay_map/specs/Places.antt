@@ -1,4 +1,4 @@
--- Where a unit stands in its text.
+-- Where a unit stands in its text: its offset and its length.
 use Rattle.std.specs.Prelude.{◌≡◌, List, [], ◌∷◌, map}
 use Rattle.lay_form.specs.Spelled.{Spells}
 use Rattle.lay_token.specs.declared.token.Token.{Token}
@@ -21,6 +21,6 @@ place_of_tokens (t ∷ ts) = unit_from t (end_of t ts)
 abbrev pub place_of : units.Unit → Unit
 place_of u = place_of_tokens u.tokens
 
--- These are where the units of the tokens stand that spell the file, however they spell it.
+-- The units of the tokens stand at these places, for every way in which the tokens spell the file.
 abbrev pub ArePlaces : File → List Token → List Unit → Type 0
 ArePlaces file ts places = (s : Spells (form_of_file file) top ts []) → places ≡ map place_of (units.units (form_of_file file) top ts [] s)

@@ -1,5 +1,6 @@
--- A walk over tokens that is told what begins the words, one by one: the first token is taken that begins so, and what stands before
--- it is in no unit. Braces alone need more than that, as `Choice` of `units` says.
+-- A walk over tokens that finds the units by the first characters of their words. It takes the next
+-- token that begins as the word does, and the tokens passed over are in no unit. Only braces need
+-- more, as `Choice` of `units` says.
 use Rattle.std.specs.Prelude.{◌≡◌, ◌⊎◌, ℕ, zero, suc, ◌+◌, ◌-◌, min, Bool, true, false, cond, ◌&&◌, ◌==◌, nat_le, List, [], ◌∷◌, ◌++◌, drop, length}
 use Rattle.lay_piece.specs.Characters as char
 use Rattle.lay_piece.specs.declared.kind.Kind.{Kind}
@@ -9,7 +10,8 @@ use Rattle.lay_map.specs.declared.unit.Unit.{Unit}
 use Rattle.lay_map.specs.declared.walk.Sought.{Sought}
 use Rattle.lay_map.specs.declared.walk.Sought.TheVariants.{First, Docs}
 
--- the tokens ahead; of each brace that is open, the innermost first, whether it is in a unit; and the units so far
+-- The tokens ahead, the open braces, and the units so far. For each open brace, the innermost
+-- first, a flag says whether the brace is in a unit.
 pub record Place : Type 0 where
   pub ahead : List Token
   pub braces : List Bool
@@ -26,7 +28,7 @@ abbrev pub is_said : Sought → Kind → List ℕ → Bool
 is_said (First c) kind text = alike text (c ∷ [])
 is_said Docs kind text = begins_doc kind text
 
--- where these braces are open
+-- The token is looked for while these braces are open.
 abbrev pub is_sought : Sought → List Bool → Token → Bool
 is_sought sought braces t =
     cond (opens t.kind) false (cond (closes t.kind) (is_closing sought && top braces) (is_said sought t.kind t.text))
@@ -39,17 +41,17 @@ sought_in sought (t ∷ ts) braces units =
     cond (is_sought sought braces t) (record { ahead = t ∷ ts; braces = braces; units = units })
     (sought_in sought ts (behind_token false t.kind braces) units)
 
--- before the first token that is looked for
+-- the place before the next token that is looked for
 abbrev pub sought_from : Sought → Place → Place
 sought_from sought p = sought_in sought p.ahead p.braces p.units
 
--- the token this many places after the first, or else the last
+-- the token this many places after the first, or the last one if there are fewer
 abbrev pub last_of : ℕ → Token → List Token → Token
 last_of zero t ts = t
 last_of (suc n) t [] = t
 last_of (suc n) t (u ∷ us) = last_of n u us
 
--- from a token to another; the places of a text are below 2^64
+-- The unit from one token to another. Offsets in a text are below 2^64.
 abbrev pub unit_from : Token → Token → Unit
 unit_from first last = record { at = first.at; len = min (last.at + last.len) 18446744073709551615 - first.at }
 
@@ -58,7 +60,7 @@ taken_in n [] braces units = record { ahead = []; braces = braces; units = units
 taken_in n (t ∷ ts) braces units =
     record { ahead = drop n ts; braces = behind_token true t.kind braces; units = units ++ unit_from t (last_of n t ts) ∷ [] }
 
--- The next token, with this many after it, is a unit.
+-- The next token is a unit, together with this many tokens after it.
 abbrev pub taken_from : ℕ → Place → Place
 taken_from n p = taken_in n p.ahead p.braces p.units
 
@@ -73,11 +75,13 @@ more_of inner (t ∷ ts) = more_doc inner t.kind
 
 -- ---- rows of opening braces
 
--- This many opening braces stand in a row ahead, or none is counted yet.
+-- The count is the number of opening braces in a row ahead, or it is 0 since they aren't counted
+-- yet.
 abbrev pub IsCount : Bool → ℕ → List Token → Type 0
 IsCount loose count ts = (count ≡ 0) ⊎ (count ≡ openers loose ts)
 
--- Of the braces that stand in a row this many are units, the last of them; the flag says that `;` may stand between.
+-- Of the opening braces in a row the last ones become units, this many of them. The flag says that
+-- `;` may stand between the braces.
 abbrev pub placed_in : Bool → ℕ → List Token → List Bool → List Unit → Place
 placed_in loose zero ts braces units = record { ahead = ts; braces = braces; units = units }
 placed_in loose (suc k) [] braces units = record { ahead = []; braces = braces; units = units }

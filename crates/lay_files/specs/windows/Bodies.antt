@@ -1,4 +1,4 @@
--- What files and the bodies of modules are read as.
+-- What it means that a text is parsed as a file or as the body of a module.
 use Rattle.std.specs.Prelude.{ℕ, ◌≡◌, Bool, true, false, List, [], ◌∷◌, ◌++◌, None, Result, Ok, Err}
 use Rattle.lay_token.specs.Lexes.{Lexes}
 use Rattle.lay_token.specs.declared.token.Token.{Token}
@@ -16,13 +16,14 @@ pub record IsEmpty (file : File) : Type 0 where
   pub attrs : file.attrs ≡ []
   pub items : file.items ≡ []
 
--- The tokens spell what is in the file, whatever follows them.
+-- The tokens spell what is in the file, and any tokens may follow them.
 pub record Stands (depth : ℕ) (file : File) (tokens : List Token) : Type 0 where
   pub spelled : (more : List Token) → Spells (form_of_file file) depth (tokens ++ more) more
   pub normal : is_normal file ≡ true
   pub shebang : file.shebang ≡ None
 
--- From the place on the text lexes to them; or they stand up to another place, with a closing brace after them.
+-- From the start on the text lexes to these tokens and no others. If the flag is set, they reach up
+-- to the end instead, with a closing brace after them.
 abbrev pub Ends : List ℕ → ℕ → ℕ → List Token → Bool → Type 0
 Ends text start end tokens false = Lexes text start tokens
 Ends text start end tokens true = (brace : Token) × IsBrace Closed brace × UpTo text start end (tokens ++ brace ∷ [])
@@ -33,7 +34,8 @@ abbrev pub BodyAs : ℕ → List ℕ → ℕ → ℕ → File → Result Bool Re
 BodyAs depth text start end file (Ok closed) = (tokens : List Token) × Stands depth file tokens × Ends text start end tokens closed
 BodyAs depth text start end file (Err none) = Unit {0}
 
--- A file, without its shebang, that tokens spell to which the text lexes. Where there is none, that says nothing.
+-- The text lexes to tokens that spell this file, which has no shebang. If there is no file, this
+-- says nothing.
 abbrev pub FileAs : ℕ → List ℕ → ℕ → Result File ReadNone → Type 0
 FileAs depth text start (Ok file) = (file.shebang ≡ None)
     × ((tokens : List Token) × Lexes text start tokens × SpellsFile depth file tokens)

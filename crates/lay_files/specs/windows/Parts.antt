@@ -1,4 +1,4 @@
--- What the parts of a file or a module are read as.
+-- What it means that tokens are parsed as parts of a file or of a module.
 use Rattle.std.specs.Prelude.{ℕ, ◌≡◌, Bool, true, false, List, [], ◌∷◌, ◌++◌, map, Option, Some, None, Result, Ok, Err, IsTrue}
 use Rattle.lay_token.specs.declared.token.Token.{Token}
 use Rattle.lay_form.specs.Form.{Form, Done, Part, Deeper}
@@ -24,14 +24,14 @@ use Rattle.lay_files.specs.declared.windows.heads.Head.{Head}
 
 -- ---- attributes and items
 
--- Attributes were added, which stand there one after another.
+-- Attributes come next, one after another, and were added.
 pub record AddsAttrs (inner : Bool) (old new : List Attr) (ahead left : List Token) : Type 0 where
   pub read : List Attr
   pub added : new ≡ old ++ read
   pub rows : Rows (GoodAt (about_attr inner) 0) read ahead left
   pub lexed : AreLexed left
 
--- The same of inner ones, where they may stand; else none is added.
+-- The same for inner attributes, where they may stand. Elsewhere none is added.
 abbrev pub AddsInner : Bool → List Attr → List Attr → List Token → List Token → Type 0
 AddsInner true old new ahead left = AddsAttrs true old new ahead left
 AddsInner false old new ahead left = (new ≡ old) × (left ≡ ahead)
@@ -50,24 +50,24 @@ IsModuleName name tokens = Spells (module_head name) 0 tokens [] × IsTrue (is_n
 abbrev pub head_form : Head → Form
 head_form head = behind_attrs (map attr_form head.attrs) (Part (vis_form head.vis) (module_head head.name))
 
--- The tokens are the head.
+-- The tokens spell the head.
 pub record IsHead (head : Head) (tokens : List Token) : Type 0 where
   pub spelled : Spells (head_form head) 0 tokens []
   pub attrs : are_attrs false head.attrs ≡ true
   pub vis : is_vis head.vis ≡ true
   pub name : is_name head.name.raw head.name.text ≡ true
 
--- the module of the head, with what is in the body
+-- the module with this head and this body
 abbrev pub module_of : Head → File → Item
 module_of head body = record { attrs = head.attrs; vis = head.vis; kind = item.Module head.name body.attrs body.items }
 
 -- ---- parts of a file, or of a module
 
--- the forms of what stands in it
+-- the forms of the attributes and the items of a file
 abbrev pub parts_of : File → List Form
 parts_of file = map attr_form file.attrs ++ forms (map (about_item Module) file.items)
 
--- Parts were added, which stand there, and then what leads.
+-- Parts come next and were added, and what leads comes after them.
 pub record Adds (depth : ℕ) (tokens : List Token) (old new : File) (lead : List Form) : Type 0 where
   pub read : List Form
   pub added : parts_of new ≡ parts_of old ++ read

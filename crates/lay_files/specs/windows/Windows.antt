@@ -1,4 +1,4 @@
--- What a window of tokens is.
+-- What a window of tokens is: tokens in a row, and why the row stops.
 use Rattle.std.specs.Prelude.{ℕ, ◌≡◌, false, List, [], ◌∷◌, ◌++◌, codes}
 use Rattle.lay_piece.specs.declared.kind.Delim.TheVariants.{Brace}
 use Rattle.lay_piece.specs.declared.kind.Kind.TheVariants.{Opener, Closer}
@@ -9,14 +9,14 @@ use Rattle.lay_lex.specs.declared.window.Stop.{Stop}
 use Rattle.lay_lex.specs.declared.window.Stop.TheVariants.{End, More, Opened, Closed}
 use Rattle.lay_read_tokens.specs.Answers.{AreLexed}
 
--- the brace after which tokens end
+-- The token is the brace at which the window stops.
 abbrev pub IsBrace : Stop → Token → Type 0
 IsBrace End t = ⊥
 IsBrace More t = ⊥
 IsBrace Opened t = (t.kind ≡ Opener Brace) × (t.text ≡ codes "{")
 IsBrace Closed t = (t.kind ≡ Closer Brace) × (t.text ≡ codes "}")
 
--- the tokens before it
+-- the tokens of the window without that brace
 abbrev pub Unbraced : Stop → List Token → List Token → Type 0
 Unbraced End tokens rest = rest ≡ tokens
 Unbraced More tokens rest = rest ≡ tokens
@@ -29,7 +29,8 @@ IsQuiet [] = Unit {0}
 IsQuiet (t ∷ []) = t.joint ≡ false
 IsQuiet (t ∷ u ∷ us) = IsQuiet (u ∷ us)
 
--- How far the tokens of a window, and the brace after them, go.
+-- The text lexes from the start to these tokens, and to the brace after them if the window stops at
+-- one. They reach as far as the window does.
 abbrev pub Goes : List ℕ → ℕ → List Token → ℕ → Stop → Type 0
 Goes text start tokens end End = Lexes text start tokens
 Goes text start tokens end More = UpTo text start end tokens

@@ -1,4 +1,4 @@
--- The output of a file, part by part.
+-- The text of a file, part by part.
 use Rattle.std.specs.Prelude.{ℕ, List, [], ◌∷◌, None, map, flat_map}
 use Rattle.lay_code.specs.Out.{out}
 use Rattle.lay_code.specs.nodes.Code.{form_of_item}
@@ -14,7 +14,7 @@ item_text item = line_text (form_of_item item)
 abbrev pub alone : Item → File
 alone item = record { shebang = None; attrs = []; items = item ∷ [] }
 
--- the text of what stands before the items of a file: its first line, if it is a shebang, and its attributes
+-- the text before the items of a file: the shebang if there is one, and the inner attributes
 abbrev pub head_text : File → List ℕ
 head_text file = out (record file { items = [] })
 

@@ -1,6 +1,7 @@
--- Units by the first match: which tokens they are, told by the words alone. Each word takes the first token from here on that
--- begins as it does, and the tokens before it are in no unit. Braces alone need more than that: of a row of opening ones as many as
--- words say are kept, the last of them, and a closing one is kept where the one that it closes is.
+-- Finding the units by their words alone, by first match. Each word takes the next token that
+-- begins as the word does, and the tokens passed over are in no unit. Only braces need more. Of
+-- opening braces in a row the last ones are kept, as many as there are words for. A closing brace
+-- is kept if the brace that it closes is.
 use Rattle.std.specs.Prelude.{ℕ, zero, suc, Bool, true, false, cond, not, ◌&&◌, ◌||◌, nat_le, ◌==◌, List, [], ◌∷◌, ◌++◌, take, codes}
 use Rattle.std.specs.Str.{bytes_eq}
 use Rattle.lay_piece.specs.Chars.{is_nil}
@@ -29,23 +30,23 @@ is_doc _ = false
 abbrev pub is_semicolon : Kind → List ℕ → Bool
 is_semicolon kind text = is_punct kind && bytes_eq (codes ";") text
 
--- The texts begin alike.
+-- The texts begin with the same character, or both are empty.
 abbrev pub alike : List ℕ → List ℕ → Bool
 alike [] cs = is_nil cs
 alike (c ∷ cs) [] = false
 alike (c ∷ cs) (d ∷ ds) = c == d
 
--- documentation is a token of its own, or begins with `#`
+-- The token is documentation, or begins with `#`.
 abbrev pub begins_doc : Kind → List ℕ → Bool
 begins_doc kind text = is_doc kind || alike text (codes "#")
 
--- A token of this kind and text says the word, as far as its first character tells.
+-- A token of this kind and text may say the word, as far as its first character tells.
 abbrev pub says : Word → Kind → List ℕ → Bool
 says (Told kind text) other given = alike given text
 says (Comment inner text) other given = begins_doc other given
 says (Documented inner text) other given = begins_doc other given
 
--- The next word, if there is one, isn't said by a token of this kind and text.
+-- A token of this kind and text doesn't say the next word.
 abbrev pub passes : List Word → Kind → List ℕ → Bool
 passes [] kind given = true
 passes (w ∷ ws) kind given = not (says w kind given)
@@ -67,28 +68,29 @@ is_semicolon_word (Documented inner text) = false
 
 -- ---- rows of opening braces
 
--- how many of the words that come next are opening braces
+-- how many opening braces come next among the words
 abbrev pub leading : List Word → ℕ
 leading [] = 0
 leading (w ∷ ws) = cond (word_opens w) (suc (leading ws)) 0
 
--- The word after them isn't `;`: a `;` that stands between braces is no word.
+-- The word after the opening braces isn't `;`. So a `;` between the braces is no word.
 abbrev pub is_loose : List Word → Bool
 is_loose [] = true
 is_loose (w ∷ ws) = cond (word_opens w) (is_loose ws) (not (is_semicolon_word w))
 
--- how many opening braces stand in a row, with any number of `;` between, or with none
+-- how many opening braces stand in a row; the flag says that any number of `;` may stand between
+-- them
 abbrev pub openers : Bool → List Token → ℕ
 openers loose [] = 0
 openers loose (t ∷ ts) = cond (opens t.kind) (suc (openers loose ts)) (cond (loose && is_semicolon t.kind t.text) (openers loose ts) 0)
 
--- No more of them stand there than words say.
+-- The opening braces in a row aren't more than the words say.
 abbrev pub fits : List Word → List Token → Bool
 fits ws ts = nat_le (openers (is_loose ws) ts) (leading ws)
 
 -- ---- braces that are open
 
--- The last of the open braces is a kept one.
+-- The innermost open brace is a kept one.
 abbrev pub top : List Bool → Bool
 top [] = false
 top (b ∷ bs) = b
@@ -97,7 +99,7 @@ abbrev pub under : List Bool → List Bool
 under [] = []
 under (b ∷ bs) = bs
 
--- the open braces after a token that is kept or isn't
+-- the open braces after a token; the flag says whether the token is kept
 abbrev pub behind_token : Bool → Kind → List Bool → List Bool
 behind_token is_kept kind stack = cond (opens kind) (is_kept ∷ stack) (cond (closes kind) (under stack) stack)
 
@@ -108,7 +110,7 @@ abbrev pub behind_words : List Word → List Bool → List Bool
 behind_words [] stack = stack
 behind_words (w ∷ ws) stack = behind_words ws (behind_word w stack)
 
--- Each closing brace among the words closes a kept one.
+-- Each closing brace among the words closes a kept brace.
 abbrev pub shuts : List Word → List Bool → Bool
 shuts [] stack = true
 shuts (w ∷ ws) stack = (not (word_closes w) || top stack) && shuts ws (behind_word w stack)
@@ -118,19 +120,20 @@ abbrev pub none : List Bool → Bool
 none [] = true
 none (b ∷ bs) = false
 
--- The braces among the words are pairs.
+-- The braces among the words are balanced.
 abbrev pub is_level : List Word → Bool
 is_level ws = shuts ws [] && none (behind_words ws [])
 
 -- ---- the choice
 
--- The token is the first one of the word.
+-- The token is the first token of the word.
 abbrev pub takes : List Bool → Word → List Word → Token → List Token → Bool
 takes stack w ws t ts =
     cond (opens t.kind) (word_opens w && fits (w ∷ ws) (t ∷ ts))
     (cond (closes t.kind) (word_closes w && top stack) (says w t.kind t.text))
 
--- how many tokens more documentation has: `#[doc = "text"]` is six tokens, and `#![doc = "text"]` seven
+-- How many tokens of documentation follow its first one. `#[doc = "text"]` has six tokens in all,
+-- and `#![doc = "text"]` seven.
 abbrev pub more_doc : Bool → Kind → ℕ
 more_doc inner kind = cond (is_doc kind) 0 (cond inner 6 5)
 
@@ -144,7 +147,8 @@ unit_of (Told kind text) t ts = kept t
 unit_of (Comment inner text) t ts = record { word = Comment inner text; tokens = t ∷ take (more_doc inner t.kind) ts }
 unit_of (Documented inner text) t ts = record { word = Documented inner text; tokens = t ∷ take (more_doc inner t.kind) ts }
 
--- the units of the words, where the first tokens, as many as told, are of the unit before, and these braces are open
+-- The units of the words. The first `n` tokens belong to the unit before, and these braces are
+-- open.
 abbrev pub chosen : ℕ → List Bool → List Word → List Token → List Unit
 chosen n stack ws [] = []
 chosen n stack [] (t ∷ ts) = []
@@ -155,7 +159,7 @@ chosen zero stack (w ∷ ws) (t ∷ ts) =
 
 -- ---- where it is right
 
--- No opening brace comes next but those that are words; the flag says it of what follows.
+-- No opening brace comes next unless it is a word. The flag says so of what follows the bits.
 abbrev pub calm_bits : List Bit → Bool → Bool
 calm_bits [] calm_behind = calm_behind
 calm_bits (Blank ∷ bs) calm_behind = calm_bits bs calm_behind
@@ -164,7 +168,7 @@ calm_bits (Operator [] ∷ bs) calm_behind = calm_bits bs calm_behind
 calm_bits (Operator (c ∷ cs) ∷ bs) calm_behind = true
 calm_bits (Semicolons ∷ bs) calm_behind = calm_bits bs calm_behind
 
--- The bits begin with a token that ends a row of braces.
+-- The bits begin with a token that ends a row of opening braces.
 abbrev pub stops : List Bit → Bool
 stops [] = false
 stops (Blank ∷ bs) = stops bs
@@ -188,7 +192,8 @@ calm (Optional laid bits f) calm_behind = stops bits && calm f calm_behind
 calm (Docs inner text f) calm_behind = true
 calm (Body braces behind i f) calm_behind = false
 
--- The first words are opening braces and one more, which isn't `;`, and nothing but `;` stands before them or between.
+-- The first words are opening braces and then one other word, which isn't `;`. Only a `;` may stand
+-- before or between them.
 abbrev pub firm_bits : List Bit → Bool → Bool
 firm_bits [] firm_behind = firm_behind
 firm_bits (Blank ∷ bs) firm_behind = firm_bits bs firm_behind
@@ -216,7 +221,7 @@ abbrev pub passes_each : List Word → List ℕ → Bool
 passes_each ws [] = true
 passes_each ws (c ∷ cs) = passes ws Punct (c ∷ []) && passes_each ws cs
 
--- The next word is said by no token of these bits, and none of them is a brace.
+-- No token of these bits says the next word, and none is a brace.
 abbrev pub skips : List Bit → List Word → Bool
 skips [] ws = true
 skips (Blank ∷ bs) ws = skips bs ws
@@ -224,7 +229,7 @@ skips (Fixed kind text ∷ bs) ws = not (opens kind || closes kind) && passes ws
 skips (Operator op ∷ bs) ws = passes_each ws op && skips bs ws
 skips (Semicolons ∷ bs) ws = passes ws Punct (codes ";") && skips bs ws
 
--- Where an opening brace is a word, what follows it is calm.
+-- If an opening brace is a word, what follows it is calm.
 abbrev pub is_settled : Kind → Bool → Bool
 is_settled kind calm_behind = not (opens kind) || calm_behind
 
@@ -235,12 +240,13 @@ clear_bits (Fixed kind text ∷ bs) ws calm_behind = is_settled kind (calm_bits 
 clear_bits (Operator op ∷ bs) ws calm_behind = clear_bits bs ws calm_behind
 clear_bits (Semicolons ∷ bs) ws calm_behind = passes (bits_words bs ++ ws) Punct (codes ";") && clear_bits bs ws calm_behind
 
--- The next word isn't said by what may follow a body.
+-- No token that may follow a body says the next word.
 abbrev pub passes_behind : Behind → List Word → Bool
 passes_behind Nothing ws = true
 passes_behind (ArmComma last block_like) ws = passes ws Punct (codes ",")
 
--- Where something may be spelled that is in no unit, the next word isn't said by it. These words follow the form.
+-- Wherever the form allows tokens that are in no unit, none of them says the next word. These words
+-- follow the form.
 abbrev pub clear : Form → List Word → Bool → Bool
 clear Done ws calm_behind = true
 clear (Piece bits f) ws calm_behind = clear_bits bits (words f ++ ws) (calm f calm_behind) && clear f ws calm_behind

@@ -1,5 +1,6 @@
--- The units of a spelling: each token that it keeps, and the tokens of one documentation together. What a spelling may leave
--- out, or have without being laid out, is in no unit.
+-- The units of a spelling. Each token that the layout keeps is a unit, and so are the tokens of one
+-- documentation together. Tokens that a spelling may lack, or that it has without their being laid
+-- out, are in no unit.
 use Rattle.std.specs.Prelude.{ℕ, zero, suc, ◌-◌, ◌≡◌, Bool, List, [], ◌∷◌, ◌++◌, map, length, take}
 use Rattle.lay_piece.specs.declared.kind.Kind.{Kind}
 use Rattle.lay_piece.specs.declared.kind.Kind.TheVariants.{Punct}
@@ -7,15 +8,15 @@ use Rattle.lay_token.specs.declared.token.Token.{Token}
 use Rattle.lay_form.specs.Form.{Bit, Blank, Fixed, Operator, Semicolons, Form, Done, Piece, Leaf, Listed, ListedDoc, Brk, LastComma, Group, Part, Deeper, Optional, Docs, Body}
 use Rattle.lay_form.specs.Spelled.{AreBits, cost, Spells}
 
--- what a unit says: a token's kind and text, or documentation
+-- what a unit says: the kind and the text of a token, or documentation
 pub data Word : Type 0 where
   Told : Kind → List ℕ → Word
-  -- a comment in a token list, whether it was a block or not
+  -- a doc comment in a token list, on a line or in a block; the flag says that it is an inner one
   Comment : Bool → List ℕ → Word
-  -- documentation of an item or of a part, however it was spelled
+  -- documentation of an item or of a part, in any spelling
   Documented : Bool → List ℕ → Word
 
--- from the one token to the other
+-- a word, and the tokens that say it
 pub record Unit : Type 0 where
   pub word : Word
   pub tokens : List Token
@@ -24,11 +25,11 @@ pub record Unit : Type 0 where
 abbrev pub kept : Token → Unit
 kept t = record { word = Told t.kind t.text; tokens = t ∷ [] }
 
--- the tokens up to what is left, which ends them
+-- the tokens before those that are left
 abbrev pub spent : List Token → List Token → List Token
 spent ts rest = take (length ts - length rest) ts
 
--- the first token
+-- the first token as a unit, if there is one
 abbrev pub first_unit : List Token → List Unit
 first_unit [] = []
 first_unit (t ∷ ts) = kept t ∷ []
@@ -37,7 +38,7 @@ abbrev pub take_one : List Token → List Token
 take_one [] = []
 take_one (t ∷ ts) = t ∷ []
 
--- as many tokens as an operator has characters
+-- one token for each character of an operator, each as a unit
 abbrev pub op_units : List ℕ → List Token → List Unit
 op_units [] ts = []
 op_units (c ∷ cs) [] = []
@@ -106,6 +107,6 @@ words (Body braces behind i f) = words i ++ words f
 abbrev pub said : List Unit → List Word
 said us = map (λ (u : Unit). u.word) us
 
--- Each token of punctuation has one character, as those of a text have.
+-- Each token of punctuation has one character. So it is for the tokens of a text.
 abbrev pub AreSingle : List Token → Type 0
 AreSingle ts = (before after : List Token) (t : Token) → ts ≡ before ++ t ∷ after → t.kind ≡ Punct → (c : ℕ) × (t.text ≡ c ∷ [])
