@@ -1,11 +1,11 @@
--- The command, as `clap` reads it, and what `clap` makes of words.
+-- The command line of `lay_fmt` as `clap` describes it, and what `clap` makes of words.
 use Rattle.std.specs.Prelude.{ℕ, ◌≡◌, ◌≢◌, true, List, [], Option, Some, None, codes}
 use Rattle.clap.specs.Words.{App, Rule, new_app, new_rule, with_rule, fault_of, found_of, matches_of, rows_of}
 use Rattle.clap.specs.Simple.{on_top}
 use Rattle.clap.specs.declared.builder.action.ArgAction.TheVariants.{Set, SetTrue}
 use Rattle.clap.specs.declared.parser.matches.ArgMatches.{ArgMatches}
 
--- a flag of this long name
+-- a flag with this long name
 abbrev pub flag_rule : List ℕ → Rule
 flag_rule name = record (new_rule name) { long = Some name; action = Some SetTrue }
 
@@ -17,7 +17,7 @@ check_rule = flag_rule (codes "check")
 abbrev pub map_rule : Rule
 map_rule = flag_rule (codes "map")
 
--- an option of this long name, which takes one value
+-- an option with this long name and one value
 abbrev pub option_rule : List ℕ → Rule
 option_rule name = record (new_rule name) { long = Some name; action = Some Set }
 
@@ -33,7 +33,7 @@ items_rule = option_rule (codes "items")
 abbrev pub file_rule : Rule
 file_rule = new_rule (codes "file")
 
--- a command whose words don't begin with the program's name
+-- a command whose words don't begin with the name of the program
 abbrev pub bare : App
 bare = on_top (λ top. record top { no_binary_name = true }) (new_app (codes "lay_fmt"))
 
@@ -41,7 +41,7 @@ bare = on_top (λ top. record top { no_binary_name = true }) (new_app (codes "la
 abbrev pub command : App
 command = with_rule (with_rule (with_rule (with_rule (with_rule bare check_rule) map_rule) sample_rule) items_rule) file_rule
 
--- The matches are those of the words, or none where there is a fault in the words.
+-- The matches are what `clap` finds in the words. There are none if the words have a fault.
 abbrev pub Matched : List (List ℕ) → Option ArgMatches → Type 0
 Matched words (Some matches) =
     (fault_of command words ≡ []) × (rows_of (found_of matches) ≡ matches_of command words)

@@ -1,4 +1,4 @@
--- Which node each call makes.
+-- Which node each call that builds statements, blocks, items or files makes.
 use Rattle.std.specs.Prelude.{ℕ, Bool, true, false, List, [], ◌∷◌, ◌++◌, map, codes, Option, Some, None}
 use Rattle.lay_piece.specs.Docs.{doc_form}
 use Rattle.lay_piece.specs.declared.doc.DocForm.{DocForm}
@@ -39,7 +39,7 @@ use Rattle.lay_build.specs.declared.kinds.NamedType.{NamedType}
 
 -- ---- statements and blocks
 
--- the pattern that a name is
+-- the pattern that binds this name
 abbrev pub bind : Name → Pat
 bind given = pat.Bind false false given None
 
@@ -120,7 +120,7 @@ item_mod public given items = item_of public (item.Module given [] items)
 abbrev pub doc_path : MetaPath
 doc_path = meta_path.Path (record { global = false; words = record { raw = false; text = codes "doc" } ∷ [] })
 
--- a token list that is one string
+-- the token list of one string literal
 abbrev pub string_list : List ℕ → List Listed
 string_list text = listed.Token kind.Str (string_text text) false ∷ []
 
@@ -131,7 +131,7 @@ abbrev pub doc_by : DocForm → List ℕ → Attr
 doc_by Neither text = doc_attr text
 doc_by _ text = attr.Doc false text
 
--- documentation of this text, of what follows it
+-- the outer documentation with this text
 abbrev pub doc : List ℕ → Attr
 doc text = doc_by (doc_form false text) text
 

@@ -1,4 +1,5 @@
--- A name and the expression after its `:`, which is nested in it: its form, and what holds of it.
+-- A named expression, which is a name, a `:` and an expression one level deeper: its form, and what
+-- holds of it.
 use Rattle.lay_form.specs.Depth.{alone}
 use Rattle.lay_form.specs.Form.{Form, Done, Part, Piece}
 use Rattle.lay_node.specs.Words.{leaf_of}

@@ -1,4 +1,4 @@
--- Which node each call makes.
+-- Which node each call that builds expressions makes.
 use Rattle.std.specs.Prelude.{ℕ, ◌||◌, Bool, true, false, if◌then◌else◌, List, [], ◌∷◌, ◌++◌, map, decimal, Option, None}
 use Rattle.lay_piece.specs.declared.kind.Kind.{Kind}
 use Rattle.lay_piece.specs.declared.kind.Kind.TheVariants as kind
@@ -46,7 +46,7 @@ abbrev pub is_chain_node : ExprNode → Bool
 is_chain_node (Expr-F.Chain first rest) = true
 is_chain_node _ = false
 
--- an expression, in parentheses unless it may stand so
+-- the expression, in parentheses unless the flag is set
 abbrev pub unless : Bool → Expr → Expr
 unless stands x = if stands then x else expr.Paren x
 
@@ -62,7 +62,8 @@ is_test x = is_operand x || is_chain x
 abbrev pub operand : Expr → Expr
 operand x = unless (is_operand x) x
 
--- what an `if` tests
+-- what an `if` tests: the expression, in parentheses unless it is an operand or a chain of
+-- operators
 abbrev pub test : Expr → Expr
 test x = unless (is_test x) x
 
@@ -73,7 +74,7 @@ is_postfix_node _ = false
 abbrev pub is_postfix : Expr → Bool
 is_postfix x = is_postfix_node (out-Expr x)
 
--- a step after a base, and after those that it has
+-- An expression with one more step. If it has steps already, the step is added to them.
 abbrev pub stepped_node : ExprNode → Expr → Step → Expr
 stepped_node (Expr-F.Postfix base steps) x one = expr.Postfix base (steps ++ one ∷ [])
 stepped_node _ x one = expr.Postfix x (one ∷ [])
@@ -98,7 +99,7 @@ abbrev pub field_ends : ExprNode → Bool
 field_ends (Expr-F.Postfix base steps) = field_last steps
 field_ends _ = false
 
--- It ends in the name of a field, after which a call would be a method's.
+-- The expression ends in the name of a field. A call after it would be a method call.
 abbrev pub ends_in_field : Expr → Bool
 ends_in_field x = field_ends (out-Expr x)
 

@@ -1,4 +1,4 @@
--- Expressions on their way into others.
+-- Expressions that are about to become parts of others.
 use Rattle.std.specs.Prelude.{ℕ, ◌≡◌}
 use Rattle.lay_form.specs.Depth.{least_depth}
 use Rattle.lay_code.specs.declared.exprs.Expr.{Expr}

@@ -1,4 +1,5 @@
--- What calls keep and what they answer. A form and what holds of a node are those of the node's kind.
+-- What the calls that build nodes keep and answer, for a kind of nodes with its form and with what
+-- holds of its nodes.
 use Rattle.std.specs.Prelude.{ℕ, ◌≡◌, ◌≤◌, ◌<◌, ◌⊎◌, IsTrue, List, map, Option, Some, None, Result, Ok, Err}
 use Rattle.std.specs.List.{AllByRecursion}
 use Rattle.lay_form.specs.Depth.{least_depth}
@@ -11,53 +12,56 @@ use Rattle.lay_build_types.specs.declared.built.BuildError.TheVariants as error
 
 -- ---- what is kept
 
--- The names and literals of a node are pieces of their kinds, and what holds of nodes of its kind holds of it.
+-- The names and literals of the node are pieces of their kinds, and what holds of its kind holds of
+-- it.
 pub record IsMade {N : Type 0} (form : N → Form) (Holds : N → Type 0) (node : N) : Type 0 where
   pub pieces : IsTrue (are_pieces (form node))
   pub holding : Holds node
 
--- A node that was built needs no greater depth than files may have.
+-- The node was built, and needs no greater depth than a file may have.
 pub record IsKept {N : Type 0} (form : N → Form) (Holds : N → Type 0) (node : N) : Type 0 where
   pub made : IsMade form Holds node
   pub within : least_depth (form node) ≤ top
 
--- a node with its need, before the need is looked at
+-- A node and the depth that it needs, before that depth is checked.
 pub record IsPart {N : Type 0} (form : N → Form) (Holds : N → Type 0) (part : N × ℕ) : Type 0 where
   pub made : IsMade form Holds part.0
   pub need : part.1 ≡ least_depth (form part.0)
 
--- the nodes of a list that were built, with what the deepest needs
+-- the nodes of a list, with the greatest depth that one of them needs
 pub record AreParts {N : Type 0} (form : N → Form) (Holds : N → Type 0) (nodes : List N) (parts : List N × ℕ) : Type 0 where
   pub same : parts.0 ≡ nodes
   pub need : parts.1 ≡ greatest (map form nodes)
   pub within : parts.1 ≤ top
   pub kept : AllByRecursion (IsKept form Holds) nodes
 
--- what is needed by a node that may be there
+-- the depth that an optional node needs
 abbrev pub need_if : {N : Type 0} → (N → Form) → Option N → ℕ
 need_if form None = 0
 need_if form (Some node) = least_depth (form node)
 
 -- ---- what is answered
 
--- It answers what the predicate says, or memory is wanting.
+-- The predicate holds of the answer, unless memory ran out.
 abbrev pub Gives : {A : Type 0} → Result A BuildError → (A → Type 0) → Type 0
 Gives (Ok x) P = P x
 Gives (Err why) P = why ≡ error.NoMemory
 
--- The node, exactly where it isn't too deep.
+-- The answer is the node, unless the node is too deep or memory ran out. It is refused as too deep
+-- only if it is.
 abbrev pub Makes : {N : Type 0} → (N → Form) → N → Result N BuildError → Type 0
 Makes form node (Ok built) = (built ≡ node) × (least_depth (form node) ≤ top)
 Makes form node (Err error.TooDeep) = top < least_depth (form node)
 Makes form node (Err error.NoMemory) = Unit {0}
 Makes form node (Err _) = ⊥
 
--- a part that was made is answered so
+-- The answer to a part: its node unless it is too deep, or the reason why the part couldn't be
+-- made.
 abbrev pub Answers : {N : Type 0} → (N → Form) → Result (N × ℕ) BuildError → Result N BuildError → Type 0
 Answers form (Ok part) result = Makes form part.0 result
 Answers form (Err why) result = result ≡ Err why
 
--- It is refused for this reason, or memory is wanting.
+-- The call refuses for this reason, or memory ran out.
 abbrev pub Refuses : {N : Type 0} → BuildError → Result N BuildError → Type 0
 Refuses why (Ok built) = ⊥
 Refuses why (Err e) = (e ≡ why) ⊎ (e ≡ error.NoMemory)

@@ -1,4 +1,4 @@
--- The nodes that are built, kind by kind: the form of each, and what holds of it.
+-- The kinds of nodes that are built: the form of each, and what holds of a node of the kind.
 use Rattle.std.specs.Prelude.{◌≡◌, Bool, true, false, IsTrue}
 use Rattle.lay_form.specs.Depth.{alone}
 use Rattle.lay_form.specs.Form.{Form, Done}
@@ -26,7 +26,7 @@ IsName name = IsTrue (is_name name.raw name.text)
 abbrev pub form_of_type : Ty → Form
 form_of_type ty = (about_type ty).told.form
 
--- It may stand where one bound alone may.
+-- The type may stand where only one bound may.
 abbrev pub IsType : Ty → Type 0
 IsType ty = IsTrue (good_at NoBounds (about_type ty))
 
@@ -35,8 +35,9 @@ IsType ty = IsTrue (good_at NoBounds (about_type ty))
 abbrev pub form_of_expr : Expr → Form
 form_of_expr x = (about_expr x).form
 
--- What is within it stands in its places wherever it is put, and its end takes neither an operator nor `<` that follows it: so it
--- stands at every place of its level where its root may stand.
+-- What is within the expression stands in its places wherever the expression is put, and no
+-- operator or `<` after it is taken by its end. So it stands at every place of its level where its
+-- root may stand.
 pub record StandsFree (x : ExprFacts) : Type 0 where
   pub within : (no_struct first : Bool) → x.within no_struct first ≡ true
   pub closed : is_open x.tail ≡ false
@@ -50,7 +51,7 @@ IsExpr x = StandsFree (about_expr x)
 abbrev pub form_of_stmt : Stmt → Form
 form_of_stmt s = alone (about_stmt s).form
 
--- Others may stand after it.
+-- The statement is well formed, and other statements may follow it.
 pub record IsStmt (s : Stmt) : Type 0 where
   pub good : IsTrue (about_stmt s).good
   pub ends : IsTrue (about_stmt s).ends

@@ -1,4 +1,4 @@
--- Which node each call makes.
+-- Which node each call that builds names, paths or types makes.
 use Rattle.std.specs.Prelude.{ℕ, ◌&&◌, not, Bool, true, false, List, [], ◌∷◌, map, None}
 use Rattle.lay_piece.specs.Word.{class_of, is_path_word}
 use Rattle.lay_piece.specs.declared.kind.Kind.TheVariants as kind
@@ -17,11 +17,11 @@ use Rattle.lay_node.specs.declared.types.Ty.TheVariants as ty
 
 -- ---- names and paths
 
--- The text is an identifier other than `_`, and no word that names a part of a path.
+-- The text is an identifier other than `_`, and no keyword that may stand in a path.
 abbrev pub may_be_name : List ℕ → Bool
 may_be_name text = is_text_of kind.Ident text && not (is_path_word text)
 
--- A keyword that is no word of a path is a name where it is raw.
+-- A keyword that may not stand in a path is a name if it is raw.
 abbrev pub is_raw : Class → Bool
 is_raw Strict = true
 is_raw Reserved = true
@@ -33,7 +33,7 @@ name text = record { raw = is_raw (class_of text); text = text }
 abbrev pub word : Name → Word
 word given = record { raw = given.raw; text = given.text }
 
--- the arguments of a word before these names: those of the path, where none is left
+-- the arguments of a word in a path: those of the path if it is the last word, and otherwise none
 abbrev pub args_before : List Name → Args → Args
 args_before [] arguments = arguments
 args_before (next ∷ rest) arguments = args.None
@@ -42,7 +42,7 @@ abbrev pub further : List Name → Args → List (Word × Args)
 further [] arguments = []
 further (next ∷ rest) arguments = (word next, args_before rest arguments) ∷ further rest arguments
 
--- words, of which the last has the arguments
+-- the words of a path, of which the last one has the arguments
 abbrev pub segments : Name → List Name → Args → List (Word × Args)
 segments first rest arguments = (word first, args_before rest arguments) ∷ further rest arguments
 

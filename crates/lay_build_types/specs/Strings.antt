@@ -1,8 +1,9 @@
--- The string literal of a text.
+-- The string literal that stands for a text.
 use Rattle.std.specs.Prelude.{ℕ, cond, ◌==◌, List, [], ◌∷◌, ◌++◌, codes, flat_map}
 use Rattle.lay_piece.specs.Characters as char
 
--- A quote and a backslash stand after a backslash, an LF is `\n`, a CR is `\r`, and all else is as it is.
+-- One character of the literal. A quote and a backslash get a backslash before them, an LF becomes
+-- `\n`, a CR becomes `\r`, and every other character stays.
 abbrev pub escaped : ℕ → List ℕ
 escaped c =
     cond (c == char.quote) (codes "\\\"") (cond (c == char.backslash) (codes "\\\\")

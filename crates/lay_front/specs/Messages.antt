@@ -1,4 +1,4 @@
--- The line that a run says on `err`.
+-- The line that a run writes to `err`, by its status.
 use Rattle.std.specs.Prelude.{ℕ, List, [], ◌++◌, codes, Option, Result, Err}
 use Rattle.std.specs.Fmt.{decimal}
 use Rattle.lay_io.specs.Faults.{Rose}
@@ -14,18 +14,18 @@ use Rattle.lay_front.specs.Stops.{status_of}
 use Rattle.lay_front.specs.declared.command.Status.{Status}
 use Rattle.lay_front.specs.declared.command.Status.TheVariants.{Done, Differs, Usage, ReadFailed, Refused, WriteFailed, TooLong, NoMemory}
 
--- why an input is refused, after the place
+-- the reason why an input is refused, as it stands after the place
 abbrev pub reason : Refusal → List ℕ
 reason (NotUtf8 at) = codes ": not UTF-8\n"
 reason (NoToken at) = codes ": no token\n"
 reason (Unbalanced at) = codes ": unbalanced delimiter\n"
 reason (NoItem at) = codes ": no item\n"
 
--- line and column in decimal digits, and why
+-- the line of a refusal: its line and column in decimal digits, and the reason
 abbrev pub refusal_line : Refusal → Place2 → List ℕ
 refusal_line refusal place = decimal place.line ++ codes ":" ++ (decimal place.column ++ reason refusal)
 
--- the line of a status, where these bytes were given
+-- the line of a status, for a run that was given these bytes
 abbrev pub message : List ℕ → Status → List ℕ
 message bytes Done = []
 message bytes Differs = codes "differs\n"
@@ -36,13 +36,13 @@ message bytes WriteFailed = codes "write failed\n"
 message bytes TooLong = codes "input is longer than 16777216 bytes\n"
 message bytes NoMemory = codes "no memory\n"
 
--- Where the status is a refusal, the bytes have it.
+-- If the status is a refusal, the bytes are refused so.
 abbrev pub RefusedIn : List ℕ → Status → Type 0
 RefusedIn bytes (Refused refusal) = IsRefused bytes refusal
 RefusedIn bytes status = Unit {0}
 
--- A run over the bytes that are told said the line of its status: a prefix of it, and all of it where no write failed. Where
--- it told a refusal, these bytes have it.
+-- A run wrote the line of its status to `err`: a prefix of it, and all of it if no write failed. If
+-- the status is a refusal, the bytes of the run are refused so.
 pub record Says (told : Option (List ℕ)) (status : Status) (before now : Option (List ℕ)) (faults later : ℕ)
     : Type 0 where
   pub bytes : List ℕ
@@ -51,7 +51,7 @@ pub record Says (told : Option (List ℕ)) (status : Status) (before now : Optio
   pub part : GrewByPrefix before now (message bytes status)
   pub whole : (Rose faults later → ⊥) → GrewBy before now (message bytes status)
 
--- the line of what ended a run: a refusal brings its place, and no other end needs the bytes
+-- The line of what ended a run. A refusal comes with its place, so the bytes aren't needed.
 abbrev pub line_of_end : Result (Unit {0}) Stop → List ℕ
 line_of_end (Err (stop.Refused refusal place)) = refusal_line refusal place
 line_of_end ended = message [] (status_of ended)

@@ -1,4 +1,4 @@
--- How a run comes out, of what it ended with.
+-- The status of a run, by what ended it.
 use Rattle.std.specs.Prelude.{Result, Ok, Err}
 use Rattle.lay_front.specs.declared.stop.Stop.{Stop}
 use Rattle.lay_front.specs.declared.stop.Stop.TheVariants as stop

@@ -1,4 +1,4 @@
--- The map of bytes that read to a file, and what is written of it.
+-- The map of bytes that parse to a file, and what it means that the map was written.
 use Rattle.std.specs.Prelude.{ℕ, ◌≡◌, List, [], map, Option}
 use Rattle.lay_io.specs.Told.{GrewBy, GrewByPrefix}
 use Rattle.lay_map.specs.spelling.Units.{units}
@@ -11,11 +11,12 @@ use Rattle.lay_map.specs.Places.{place_of}
 use Rattle.lay_map.specs.declared.unit.Unit.{Unit}
 use Rattle.lay_map_lines.specs.Lines.{map_text}
 
--- where the units of bytes stand that read to a file
+-- the places of the units of bytes that parse to the file
 abbrev pub units_read : {bytes : List ℕ} {file : File} → Reads bytes file → List Unit
 units_read {bytes} {file} reads = map place_of (units (form_of_file file) top reads.tokens [] reads.spells.1)
 
--- The bytes read to the file, and so does its text. The lines are those of their units, number by number.
+-- The bytes parse to the file, and so does the file's text. The lines tell where the units of both
+-- stand, the first with the first and so on.
 pub record IsMap (bytes : List ℕ) (file : File) (lines : List ℕ) : Type 0 where
   pub source : Reads bytes file
   pub output : Reads (out file) file

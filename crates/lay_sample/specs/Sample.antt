@@ -1,4 +1,4 @@
--- Which bytes a seed and a number of items stand for.
+-- The sample of a seed and a number of items: the bytes that are generated from them.
 use Rattle.std.specs.Prelude.{ℕ, zero, suc, ◌+◌, ◌*◌, ◌/◌, ◌%◌, ◌^◌, ◌==◌, List, ◌++◌, if◌then◌else◌, codes, flat_map}
 use Rattle.std.specs.Fmt.{decimal}
 use Rattle.std.specs.List.{range_with_len}
@@ -9,11 +9,11 @@ use Rattle.lay_sample.specs.declared.items.Item.TheVariants.{Struct, Use, Functi
 abbrev pub next_state : ℕ → ℕ
 next_state state = (state * 6364136223846793005 + 1442695040888963407) % 2 ^ 64
 
--- what a draw of n gives: the upper bits of the state after it, modulo n
+-- the result of a draw of n: the upper bits of the next state, modulo n
 abbrev pub draw : ℕ → ℕ → ℕ
 draw n state = next_state state / 2 ^ 33 % n
 
--- an item of a kind, with its number drawn where the kind has one
+-- The item of this kind. Its number is drawn, if the kind has one.
 abbrev pub item_of : ℕ → ℕ → Item
 item_of kind state =
     if kind == 0 then Struct else
@@ -21,11 +21,12 @@ item_of kind state =
     (if kind == 2 then Function (draw 1000 state) else
     Constant (draw 100 state)))
 
--- the item that is drawn at a state: a draw of 4 is its kind, and its number is drawn next
+-- The item that is drawn at a state. A draw of 4 gives its kind, and the next draw its number.
 abbrev pub item_at : ℕ → Item
 item_at state = item_of (draw 4 state) (next_state state)
 
--- the state after the item that is drawn at a state: a struct takes one draw, every other item two
+-- The state after the item that is drawn at a state. A struct takes one draw, and every other item
+-- two.
 abbrev pub state_behind : ℕ → ℕ
 state_behind state = if draw 4 state == 0 then next_state state else next_state (next_state state)
 
@@ -42,6 +43,6 @@ line_of i (Function v) =
     codes "fn f" ++ decimal i ++ codes "(x:u8)->u8{match x{0=>{g(x)}_=>x+" ++ decimal v ++ codes ",}}\n"
 line_of i (Constant v) = codes "const C" ++ decimal i ++ codes ":[u8;3]=[1,2," ++ decimal v ++ codes "];\n"
 
--- The sample of a seed: the lines of that many items, in order, numbered from 0.
+-- The sample of a seed: the lines of this many items in order, numbered from 0.
 abbrev pub sample_text : ℕ → ℕ → List ℕ
 sample_text seed items = flat_map (λ i. line_of i (item_at (state_before seed i))) (range_with_len 0 items)

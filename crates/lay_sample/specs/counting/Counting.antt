@@ -1,5 +1,5 @@
--- The counts of a text. A line ends at an LF, which is no part of it. After the last LF stands one more line, which is
--- empty where the text ends there.
+-- What is counted of a text. An LF ends a line and isn't part of it. After the last LF there is one
+-- more line, which is empty if the text ends with the LF.
 use Rattle.std.specs.Prelude.{ℕ, Bool, ◌==◌, max, List, [], ◌∷◌, length, map, fold, count_by}
 use Rattle.std.specs.List.{slice_split}
 
@@ -7,11 +7,11 @@ use Rattle.std.specs.List.{slice_split}
 abbrev pub is_line_feed : ℕ → Bool
 is_line_feed byte = byte == 10
 
--- how many bytes of a text are LFs
+-- how many LFs a text has
 abbrev pub lines_of : List ℕ → ℕ
 lines_of text = count_by is_line_feed text
 
--- the lines of a text, which is cut at its LFs
+-- the lines of a text, without their LFs
 abbrev pub split_lines : List ℕ → List (List ℕ)
 split_lines text = slice_split is_line_feed text
 

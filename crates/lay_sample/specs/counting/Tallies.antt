@@ -1,4 +1,4 @@
--- What a tally says of a text.
+-- What it means that a tally has the counts of a text.
 use Rattle.std.specs.Prelude.{ℕ, ◌≡◌, List, length}
 use Rattle.lay_sample.specs.counting.Counting.{lines_of, longest_line, last_line}
 use Rattle.lay_sample.specs.declared.counting.tally.Tally.{Tally}
