@@ -1,4 +1,5 @@
--- Arms that are spelled are read: a body within braces that aren't in the tree is read with them, as blocks, and loses them.
+-- Arms that are spelled are read: a body within braces that the syntax tree doesn't hold is read
+-- with them, as blocks, and loses them.
 use Rattle.std.proofs.Common.{◌≡◌, ℕ, zero, suc, ◌+◌, ◌-◌, ◌≤◌, max, Bool, true, false, not, ◌&&◌, ◌||◌, List, [], ◌∷◌, map, length, codes, Option, option_map, Some, None, inl, inr, refl, sym, ap, subst, ◌∙◌, arith}
 use Rattle.std.proofs.lemmas.Bool.{and_parts, not-true, or_right}
 use Rattle.lay_piece.specs.Forms.{closing}

@@ -1,4 +1,5 @@
--- Bodies of arms: what is read of one, without the braces that aren't in the tree, stands there within this many pairs.
+-- Bodies of arms: what is read of one, without the braces that the syntax tree doesn't hold, stands
+-- there within this many pairs.
 use Rattle.std.proofs.Common.{◌≡◌, ℕ, zero, suc, ◌-◌, ◌≤◌, true, false, [], length, None, refl, sym, subst, ◌∙◌, arith}
 use Rattle.lay_form.specs.Spelled.{Closes, MayBrace, Opens, Spells}
 use Rattle.lay_node.specs.Ahead.{Tokens}

@@ -1,4 +1,5 @@
--- Blocks, statements, conditions and branches are read where they are spelled, where what is one level deeper is read.
+-- Blocks, statements, conditions and branches are parsed where they are spelled, if that holds one
+-- level deeper.
 use Rattle.std.proofs.Common.{◌≡◌, ℕ, zero, suc, ◌≤◌, ◌<◌, Bool, true, false, ◌&&◌, ◌||◌, List, [], ◌∷◌, map, length, codes, Some, if◌then◌else◌, inl, inr, refl, sym, ap, subst, arith}
 use Rattle.std.proofs.lemmas.Bool.{and_parts}
 use Rattle.lay_piece.specs.Forms.{opening, closing}

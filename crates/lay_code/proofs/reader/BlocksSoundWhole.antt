@@ -1,4 +1,5 @@
--- Whole blocks, and the branches that lead to them: what is read stands there, where what is one level deeper is read so.
+-- Whole blocks, and the branches that lead to them: what is parsed stands there, if that holds one
+-- level deeper.
 use Rattle.std.proofs.Common.{◌≡◌, ℕ, ◌≤◌, max, Bool, true, false, ◌&&◌, ◌||◌, List, [], ◌∷◌, ◌++◌, map, inl, inr, codes, Some, refl, sym, subst, ◌∙◌, arith, if◌then◌else◌}
 use Rattle.std.proofs.lemmas.Bool.{and_from}
 use Rattle.lay_piece.specs.declared.kind.Delim.TheVariants.{Brace}

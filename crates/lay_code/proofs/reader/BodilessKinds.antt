@@ -1,5 +1,5 @@
--- Kinds of expressions that end in no body, so not within braces that aren't in the tree: paths, casts, steps, branches, and those
--- of which the last operand is left out.
+-- Kinds of expressions that end in no body, so not within braces that the syntax tree doesn't hold:
+-- paths, casts, steps, branches, and those of which the last operand is left out.
 use Rattle.std.proofs.Common.{◌≡◌, Bool, true, false, ◌&&◌, ◌||◌, nat_le, List, [], ◌∷◌, ◌++◌, map, Option, Some, None, if◌then◌else◌, refl, sym, subst}
 use Rattle.std.proofs.lemmas.Bool.{and_from, or_left}
 use Rattle.lay_form.specs.Form.{Form, Done, Part}

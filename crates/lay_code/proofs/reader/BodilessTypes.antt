@@ -1,4 +1,5 @@
--- Paths and types end in no body, by the induction of their family. So none of them ends within braces that aren't in the tree.
+-- Paths and types end in no body, by the induction of their family. So none of them ends within
+-- braces that the syntax tree doesn't hold.
 use Rattle.std.proofs.Common.{◌≡◌, Bool, true, false, not, ◌||◌, List, [], ◌∷◌, ◌++◌, codes, map, Option, Some, None, sym, refl, subst, ap}
 use Rattle.std.proofs.lemmas.Bool.{and_from, or_right}
 use Rattle.lay_piece.specs.Forms.{closing}

@@ -1,4 +1,4 @@
--- Branches are read where they are spelled, where what is one level deeper is read.
+-- Branches are parsed where they are spelled, if that holds one level deeper.
 use Rattle.std.proofs.Common.{◌≡◌, ℕ, max, true, ◌∷◌, [], Some, inl, refl, subst, arith}
 use Rattle.std.proofs.lemmas.Bool.{and_parts}
 use Rattle.lay_piece.specs.Forms.{opening}

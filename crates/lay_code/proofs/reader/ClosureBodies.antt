@@ -1,6 +1,6 @@
--- Bodies of closures: what is left of one that is read, without the braces that aren't in the tree,
--- stands there within this many pairs of them; and what stands there is read as that many blocks,
--- which are taken off again.
+-- Bodies of closures: what is left of one that is read, without the braces that the syntax tree
+-- doesn't hold, stands there within this many pairs of them; and what stands there is read as that
+-- many blocks, which are taken off again.
 use Rattle.std.proofs.Common.{◌≡◌, ℕ, zero, suc, ◌+◌, ◌-◌, ◌≤◌, ◌<◌, nat_le, Bool, true, false, not, ◌&&◌, ◌||◌, length, [], inl, inr, None, if◌then◌else◌, refl, sym, ap, subst, ◌∙◌, arith, le-leb}
 use Rattle.std.proofs.lemmas.Bool.{and_from, and_parts, eq-eqb, not-true}
 use Rattle.lay_form.specs.BracedEnds.{EndsBraced}

@@ -1,4 +1,4 @@
--- Conditions are read where they are spelled, where what is one level deeper is read.
+-- Conditions are parsed where they are spelled, if that holds one level deeper.
 use Rattle.std.proofs.Common.{◌≡◌, ℕ, max, Bool, true, false, List, [], ◌∷◌, map, drop, codes, Option, Some, None, if◌then◌else◌, inl, refl, sym, ap, subst, ◌∙◌, arith, le-leb, eq-eqb}
 use Rattle.std.specs.Prelude.{◌==◌}
 use Rattle.std.specs.List.{list_any}

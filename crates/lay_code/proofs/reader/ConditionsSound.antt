@@ -1,4 +1,4 @@
--- Conditions: what is read stands there, where what is one level deeper is read so.
+-- Conditions: what is parsed stands there, if that holds one level deeper.
 use Rattle.std.proofs.Common.{◌≡◌, ℕ, suc, ◌≤◌, max, Bool, true, false, ◌||◌, List, [], ◌∷◌, map, inl, inr, codes, drop, Some, None, refl, sym, ap, subst, ◌∙◌, arith, if◌then◌else◌}
 use Rattle.std.specs.List.{list_any}
 use Rattle.std.proofs.lemmas.Bool.{and_from, and_parts, eqb-true, or_parts}

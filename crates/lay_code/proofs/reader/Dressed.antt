@@ -1,5 +1,6 @@
--- Blocks of one expression: what they are, what spells them, and expressions within several of them. As such blocks the bodies
--- of arms and of closures are read within braces that aren't in the tree, which are taken off then.
+-- Blocks of one expression: what they are, what spells them, and expressions within so many of
+-- them. As such blocks the bodies of arms and of closures are read within braces that the syntax
+-- tree doesn't hold, which are taken off then.
 use Rattle.std.proofs.Common.{◌≡◌, ℕ, zero, suc, ◌+◌, ◌-◌, ◌≤◌, ◌<◌, Bool, true, false, not, ◌&&◌, List, [], ◌∷◌, map, length, ◌⊎◌, inl, inr, Option, option_map, Some, None, refl, sym, ap, subst, ◌∙◌, arith}
 use Rattle.std.proofs.lemmas.Bool.{not-true}
 use Rattle.lay_piece.specs.Forms.{opening}

@@ -1,4 +1,4 @@
--- Every expression is read where it is spelled, in its place, where what is within it is read.
+-- Every expression is parsed where it is spelled, in its place, where what is within it is read.
 use Rattle.std.proofs.Common.{◌≡◌, ℕ, zero, suc, ◌≤◌, Bool, true, false, not, ◌&&◌, nat_le, [], ◌∷◌, map, option_map, Some, None, refl, sym, ap, subst, ◌∙◌, arith, le-leb, leb-true}
 use Rattle.std.proofs.lemmas.Bool.{and_parts}
 use Rattle.lay_form.specs.Spelled.{Spells}

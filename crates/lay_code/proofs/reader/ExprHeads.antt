@@ -1,4 +1,5 @@
--- What begins an expression is read where it is spelled: what is held of each kind that does. What operators go on with isn't.
+-- What begins an expression is parsed where it is spelled: what is held of each kind that does.
+-- What operators go on with isn't.
 use Rattle.std.proofs.Common.{◌≡◌, ℕ, suc, Bool, true, not, ◌&&◌, nat_le, Some, ap, subst, ◌∙◌}
 use Rattle.lay_form.specs.Spelled.{Spells}
 use Rattle.lay_node.specs.Ahead.{Tokens}

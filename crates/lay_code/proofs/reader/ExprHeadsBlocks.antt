@@ -1,4 +1,4 @@
--- Blocks and loops, after a label or without one, are read where they are spelled.
+-- Blocks and loops, after a label or without one, are parsed where they are spelled.
 use Rattle.std.proofs.Common.{◌≡◌, ℕ, suc, ◌≤◌, max, Bool, true, false, ◌&&◌, [], ◌∷◌, codes, Option, Some, None, refl, ◌∙◌, arith}
 use Rattle.std.proofs.lemmas.Bool.{and_parts}
 use Rattle.lay_piece.specs.Forms.{opening}

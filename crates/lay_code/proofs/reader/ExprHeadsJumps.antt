@@ -1,4 +1,5 @@
--- Operands that may be left out: those of `return` and `break`, and the ends of ranges, are read where they are spelled.
+-- Optional operands: those of `return` and `break`, and the ends of ranges, are parsed where they
+-- are spelled.
 use Rattle.std.proofs.Common.{◌≡◌, ℕ, suc, ◌≤◌, max, Bool, true, false, not, ◌&&◌, ◌||◌, nat_le, leb-true, le-leb, eqb-true, [], ◌∷◌, codes, Option, option_map, Some, None, is_some, inl, inr, refl, sym, subst, arith}
 use Rattle.std.specs.Prelude.{◌==◌}
 use Rattle.std.proofs.lemmas.Bool.{and_parts, not-true, false_from_ne_true}

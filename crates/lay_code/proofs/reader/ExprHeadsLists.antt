@@ -1,4 +1,4 @@
--- Expressions in parentheses and brackets are read where they are spelled.
+-- Expressions in parentheses and brackets are parsed where they are spelled.
 use Rattle.std.proofs.Common.{◌≡◌, ℕ, suc, ◌<◌, max, Bool, true, false, not, ◌&&◌, List, [], ◌∷◌, map, length, codes, ◌⊎◌, inl, inr, Some, refl, sym, subst, ◌∙◌, arith}
 use Rattle.std.specs.List.{list_all}
 use Rattle.std.proofs.lemmas.Bool.{and_parts, not-true}

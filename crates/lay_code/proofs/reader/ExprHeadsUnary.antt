@@ -1,4 +1,5 @@
--- Unary expressions are read where they are spelled: the operators one by one, and the operand after the last of them.
+-- Unary expressions are parsed where they are spelled: the operators one by one, and the operand
+-- after the last of them.
 use Rattle.std.proofs.Common.{◌≡◌, ℕ, suc, ◌≤◌, ◌<◌, leb-true, Bool, true, false, not, ◌&&◌, ◌||◌, nat_le, List, [], ◌∷◌, length, drop, codes, Some, is_some, inl, inr, refl, arith}
 use Rattle.std.proofs.lemmas.Bool.{and_parts, cases_Bool, not-true}
 use Rattle.lay_piece.specs.declared.kind.Kind.TheVariants.{Ident, Punct}

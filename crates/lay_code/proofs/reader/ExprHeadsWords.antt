@@ -1,4 +1,4 @@
--- Literals, paths, macro calls, `_` and `continue` are read where they are spelled.
+-- Literals, paths, macro calls, `_` and `continue` are parsed where they are spelled.
 use Rattle.std.proofs.Common.{◌≡◌, ℕ, suc, Bool, true, false, not, ◌&&◌, codes, Option, Some, None, is_some, refl, sym, subst, arith}
 use Rattle.std.proofs.lemmas.Bool.{and_parts, not-true}
 use Rattle.lay_piece.specs.declared.kind.Delim.TheVariants.{Brace}

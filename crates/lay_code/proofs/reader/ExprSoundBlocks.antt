@@ -1,4 +1,4 @@
--- Expressions with blocks and no arms: what is read stands there, where what is one level deeper is read so.
+-- Expressions with blocks and no arms: what is parsed stands there, if that holds one level deeper.
 use Rattle.std.proofs.Common.{◌≡◌, ℕ, suc, ◌≤◌, max, Bool, true, false, not, ◌&&◌, List, [], ◌∷◌, map, inl, inr, codes, drop, Option, option_map, Some, None, is_some, refl, sym, subst, ◌∙◌, arith}
 use Rattle.std.proofs.lemmas.Bool.{and_parts, and_from}
 use Rattle.lay_piece.specs.declared.kind.Delim.TheVariants.{Brace}

@@ -1,4 +1,4 @@
--- Closures: what is read stands there, where what is one level deeper is read so.
+-- Closures: what is parsed stands there, if that holds one level deeper.
 use Rattle.std.proofs.Common.{◌≡◌, ℕ, suc, ◌≤◌, max, Bool, true, false, not, ◌&&◌, List, [], ◌∷◌, inl, inr, length, map, codes, drop, Option, Some, None, if◌then◌else◌, refl, ap, subst, arith}
 use Rattle.std.specs.List.{list_all}
 use Rattle.std.proofs.lemmas.Bool.{and_from}

@@ -1,4 +1,5 @@
--- What begins an expression, by its lead: what is read stands there, where what is one level deeper is read so.
+-- What begins an expression, by its lead: what is parsed stands there, if that holds one level
+-- deeper.
 use Rattle.std.proofs.Common.{◌≡◌, ℕ, Bool, codes, inl, inr, Option, Some, None, refl}
 use Rattle.lay_piece.specs.declared.kind.Delim.TheVariants.{Paren, Bracket}
 use Rattle.lay_form.specs.Form.{keyword, opener}

@@ -1,5 +1,5 @@
--- What begins an expression: what is read stands there, where what is one level deeper is read so. Struct literals and
--- prefix operators stand in files of their own.
+-- What begins an expression: what is parsed stands there, if that holds one level deeper. Struct
+-- literals and prefix operators stand in files of their own.
 use Rattle.std.proofs.Common.{◌≡◌, ℕ, suc, max, Bool, true, false, not, ◌&&◌, List, [], ◌∷◌, inl, inr, map, codes, Option, Some, None, refl, sym, ap, subst, arith}
 use Rattle.std.proofs.lemmas.Bool.{and_from, leb-true}
 use Rattle.lay_piece.specs.declared.kind.Delim.TheVariants.{Paren, Bracket}

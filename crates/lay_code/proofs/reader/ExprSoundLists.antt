@@ -1,5 +1,5 @@
--- Lists of expressions in delimiters, and operands that may be left out: what is read stands there, where what is one
--- level deeper is read so.
+-- Lists of expressions in delimiters, and operands that may be left out: what is parsed stands
+-- there, if that holds one level deeper.
 use Rattle.std.proofs.Common.{◌≡◌, ℕ, Bool, true, false, not, ◌&&◌, List, map, Option, Some, None, refl, sym, subst, ◌∙◌}
 use Rattle.lay_piece.specs.declared.kind.Delim.{Delim}
 use Rattle.lay_form.specs.Form.{opener, closer}

@@ -1,4 +1,5 @@
--- Operators and their operands after an expression: what is read stands there, where what is one level deeper is read so.
+-- Operators and their operands after an expression: what is parsed stands there, if that holds one
+-- level deeper.
 use Rattle.std.proofs.Common.{◌≡◌, ℕ, suc, ◌≤◌, max, Bool, true, false, not, ◌&&◌, List, [], ◌∷◌, inl, inr, length, map, drop, Some, refl, sym, ap, subst, ◌∙◌, arith}
 use Rattle.std.specs.Prelude.{◌==◌}
 use Rattle.std.proofs.lemmas.Bool.{and_parts, and_from, eq-eqb, eqb-true}

@@ -1,4 +1,5 @@
--- Prefix operators and their operand, and ranges: what is read stands there, where what is one level deeper is read so.
+-- Prefix operators and their operand, and ranges: what is parsed stands there, if that holds one
+-- level deeper.
 use Rattle.std.proofs.Common.{◌≡◌, ℕ, zero, suc, ◌≤◌, max, Bool, true, false, not, ◌&&◌, ◌||◌, List, [], ◌∷◌, inl, inr, drop, codes, Option, option_map, Some, None, is_some, if◌then◌else◌, refl, sym, ap, subst, ◌∙◌, arith}
 use Rattle.std.specs.Str.{bytes_eq}
 use Rattle.std.proofs.lemmas.Bool.{and_parts, and_from}

@@ -1,5 +1,5 @@
--- Casts, ranges with a first end, and postfix steps after an expression: what is read stands there, where what is one level
--- deeper is read so.
+-- Casts, ranges with a first end, and postfix steps after an expression: what is parsed stands
+-- there, if that holds one level deeper.
 use Rattle.std.proofs.Common.{◌≡◌, ℕ, suc, ◌≤◌, max, Bool, true, false, not, ◌&&◌, ◌||◌, List, [], ◌∷◌, inl, inr, map, codes, Some, refl, sym, subst, ◌∙◌, arith}
 use Rattle.std.specs.Prelude.{nat_le}
 use Rattle.std.proofs.lemmas.Bool.{and_from, leb-true}

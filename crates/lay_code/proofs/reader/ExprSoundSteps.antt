@@ -1,4 +1,4 @@
--- Postfix steps: what is read stands there, where what is one level deeper is read so.
+-- Postfix steps: what is parsed stands there, if that holds one level deeper.
 use Rattle.std.proofs.Common.{◌≡◌, ℕ, ◌≤◌, max, Bool, true, false, not, ◌&&◌, ◌||◌, List, [], ◌∷◌, inl, inr, map, drop, codes, Option, Some, None, if◌then◌else◌, refl, sym, subst, ◌∙◌, arith}
 use Rattle.std.specs.Prelude.{nat_le}
 use Rattle.std.specs.Str.{chars}

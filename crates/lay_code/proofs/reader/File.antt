@@ -1,5 +1,5 @@
--- Files: the longest run of inner attributes and items is spelled, no run that is spelled is longer, and the tokens spell
--- one file at most.
+-- Files: the longest prefix of inner attributes and items is spelled, no run that is spelled is
+-- longer, and the tokens spell one file at most.
 use Rattle.std.proofs.Common.{◌≡◌, ℕ, zero, suc, ◌≤◌, Bool, true, false, ◌&&◌, List, [], ◌∷◌, ◌++◌, length, map, codes, Option, Some, None, refl, sym, ap, subst, ◌∙◌, arith}
 use Rattle.std.proofs.lemmas.Bool.{and_parts, and_from, or_parts}
 use Rattle.lay_token.specs.declared.token.Token.{Token}

@@ -1,5 +1,6 @@
--- What follows an expression: either nothing that goes on with it, or, where it ends within braces that aren't in the tree,
--- anything but an operator. The second is told of the form, so it goes from an operand to what ends in it, and back.
+-- What follows an expression: either nothing that goes on with it, or, where it ends within braces
+-- that the syntax tree doesn't hold, anything but an operator. The second is told of the form, so
+-- it goes from an operand to what ends in it, and back.
 use Rattle.std.proofs.Common.{◌≡◌, ℕ, zero, suc, ◌≤◌, ◌<◌, Bool, true, false, not, ◌&&◌, ◌||◌, List, [], ◌∷◌, length, codes, Option, Some, None, ◌⊎◌, inl, inr, if◌then◌else◌, refl, ap, subst, ◌-◌, arith, le-leb}
 use Rattle.std.specs.Prelude.{◌==◌, nat_le, IsTrue}
 use Rattle.std.proofs.lemmas.Bool.{and_parts, and_from, eqb-true, leb-true, or_cases}

@@ -1,4 +1,5 @@
--- What follows the head of a function: its where clause, and a body or a `;`, are read where they are spelled.
+-- What follows the head of a function: its where clause, and a body or a `;`, are parsed where they
+-- are spelled.
 use Rattle.std.proofs.Common.{◌≡◌, ℕ, max, Bool, true, false, [], ◌∷◌, map, codes, Option, option_map, Some, None, inl, inr, refl, sym, subst, arith}
 use Rattle.std.specs.Prelude.{is_some}
 use Rattle.lay_piece.specs.Forms.{opening}
