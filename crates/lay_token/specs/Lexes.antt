@@ -106,7 +106,7 @@ abbrev pub Lexes : List ℕ → ℕ → List Token → Type 0
 Lexes bytes start tokens = (parts : List Part) × (last : List ℕ)
     × AreParts (chars (drop start bytes)) parts last × (tokens ≡ tokens_from start parts)
 
--- The text is parts, a gap as long as it can be, and a rest that begins with no piece.
+-- The text is parts, then a gap as long as it can be, and then a rest that begins with no piece.
 pub record PartsBefore (text : List ℕ) (parts : List Part) (gap rest : List ℕ) : Type 0 where
   pub whole : text ≡ spell parts (gap ++ rest)
   pub fit : Fit Other parts (gap ++ rest)
@@ -114,7 +114,7 @@ pub record PartsBefore (text : List ℕ) (parts : List Part) (gap rest : List �
   pub no_gap : BeginsNoGap rest
   pub no_piece : BeginsNoPiece rest (is_index_place (steps Other parts))
 
--- Lexing from the start stops at the place, the first past gaps where no token is had.
+-- Lexing from `start` stops at this place: the first one after a gap where no piece comes next.
 abbrev pub NoTokenAt : List ℕ → ℕ → ℕ → Type 0
 NoTokenAt bytes start at = (parts : List Part) × (gap rest : List ℕ)
     × PartsBefore (chars (drop start bytes)) parts gap rest × (at ≡ start + size (spell parts gap))

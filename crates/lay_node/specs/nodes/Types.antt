@@ -178,7 +178,7 @@ abbrev pub all_types_good : List TypeFacts → Bool
 all_types_good xs = list_all (good_at Bounds) xs
 
 pub record ArgsFacts : Type 0 where
-  -- as they are spelled in code, and in what names a kind of things
+  -- the facts about the arguments in code, and in the name of a kind of things
   pub code : Facts
   pub kind : Facts
   -- They stand in parentheses.
