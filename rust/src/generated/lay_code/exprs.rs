@@ -31,7 +31,7 @@ use crate::generated::lay_node::{
     Ty,
 };
 use crate::generated::lay_token::{List, Text};
-/// Whether an expression begins a statement or the body of an arm, and how much of it it is.
+/// Whether an expression begins a statement or the body of an arm, and whether it is the whole.
 #[derive(Clone, Copy, Debug, PartialEq, Eq)]
 pub enum Start {
     /// It begins neither, as `b` in `a + b;`.

@@ -1,6 +1,6 @@
 //! Made by scripts/rust.sh from crates/lay_code/src/file.rt, which is proved: change that.
 //!
-//! Source files.
+//! The node of a source file.
 use crate::generated::lay_code::item::Item;
 use crate::generated::lay_node::Attr;
 use crate::generated::lay_token::{List, Text};

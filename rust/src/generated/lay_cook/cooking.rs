@@ -1,6 +1,6 @@
 //! Made by scripts/rust.sh from crates/lay_cook/src/cooking.rt, which is proved: change that.
 //!
-//! The values of string literals.
+//! From a token to the value of the string literal that it is.
 use crate::generated::lay_cook::raw::raw_value;
 use crate::generated::lay_cook::strings::{next, push_value};
 use crate::generated::lay_token::{Kind, NoMemory, Text, Token};

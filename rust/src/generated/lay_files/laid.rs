@@ -1,6 +1,6 @@
 //! Made by scripts/rust.sh from crates/lay_files/src/laid.rt, which is proved: change that.
 //!
-//! What has the layout of a file.
+//! The trait of what has the layout of a file: a file, or an expression as the value of a constant.
 use crate::generated::lay_code::{Expr, File};
 use crate::generated::lay_out_code::{put_enclosed_constant, put_file};
 use crate::generated::lay_stream::Emit;

@@ -1,6 +1,6 @@
 //! Made by scripts/rust.sh from crates/lay_front/src/command.rt, which is proved: change that.
 //!
-//! The command.
+//! The command: its runs, and the status of each.
 use crate::generated::lay_front::compare::is_text;
 use crate::generated::lay_front::messages::tell;
 use crate::generated::lay_front::samples::sum_up_sample;

@@ -21,8 +21,9 @@ pub fn ends_before(
         None => false,
     }
 }
-/// Why a window ends after its last token, if it does. It does if `open`, the number of groups that are
-/// open before that token, is 0, and the token is the opening brace of a module or a closing brace.
+/// Why a window ends after its last token, if it does. It does if `least` is given, no group was
+/// open before that token (`open` is 0), and the token is the opening brace of a module or a
+/// closing brace.
 #[inline]
 pub fn ends_behind(least: Option<usize>, open: usize, tokens: &[Token]) -> Option<Stop> {
     if open == 0 && least.is_some() { ends_in_brace(tokens) } else { None }

@@ -38,7 +38,7 @@ pub(crate) struct Marking<'a> {
     within: Within,
     /// Whether the `=>` of an arm was fed in the open group.
     arrow: bool,
-    /// The same flag for each group around it.
+    /// For each group around it, whether the `=>` of an arm was fed in that group.
     outer: Flags,
 }
 impl<'a> Marking<'a> {
@@ -132,7 +132,7 @@ impl<'a> Marking<'a> {
             None => self.read_code(text),
         }
     }
-    /// Takes a text that isn't documentation.
+    /// Takes a text that begins no documentation.
     fn read_code(&mut self, text: &[u8]) -> Result<(), NoMemory> {
         if text == b"r#".as_slice() {
             return Ok(());
@@ -145,7 +145,7 @@ impl<'a> Marking<'a> {
         self.arrow = text == b" => ".as_slice() || self.arrow;
         Ok(())
     }
-    /// The beginning of documentation.
+    /// Takes a text that begins documentation.
     fn document(&mut self, opening: Opening) -> Result<(), NoMemory> {
         self.settle(true)?;
         self.walk.docs(opening.inner)?;
@@ -193,7 +193,7 @@ fn behind_line(within: Within) -> Within {
 fn is_free(token: Break, arrow: bool) -> bool {
     token.blank == 65535 && (token.offset < 0 || arrow)
 }
-/// The documentation that a text begins, if it begins any.
+/// The kind of documentation comment that the text opens; `None` if it is no such opening mark.
 fn opening_of(text: &[u8]) -> Option<Opening> {
     let inner = text == b"//!".as_slice() || text == b"/*!".as_slice();
     let block = text == b"/**".as_slice() || text == b"/*!".as_slice();

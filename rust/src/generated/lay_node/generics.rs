@@ -5,7 +5,8 @@ use crate::generated::lay_node::attr::Attr;
 use crate::generated::lay_node::token::{Lifetime, Name};
 use crate::generated::lay_node::types::{Binder, Bound, ConstArg, LifetimeParam, Ty};
 use crate::generated::lay_token::List;
-/// Generic parameters (Rust Reference, "Generic parameters"): `<'a, A: B = C, const D: E = 1>`, or none.
+/// Generic parameters (Rust Reference, "Generic parameters"): `<'a, A: B = C, const D: E = 1>`, or
+/// none.
 #[derive(Clone, Debug, PartialEq, Eq)]
 pub struct Generics {
     pub params: List<GenericParam>,

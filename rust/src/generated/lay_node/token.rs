@@ -42,7 +42,8 @@ pub enum Listed {
 pub struct Lifetime {
     pub text: Text,
 }
-/// A literal token, or `true` or `false`, which are identifiers (Rust Reference, "Literal expressions").
+/// A literal token, or `true` or `false`, which are identifiers (Rust Reference, "Literal
+/// expressions").
 #[derive(Clone, Debug, PartialEq, Eq)]
 pub struct Literal {
     pub kind: Kind,

@@ -57,7 +57,8 @@ pub fn sheds(expr: &Expr, no_struct: bool) -> bool {
         _ => false,
     }
 }
-/// Whether an unlabelled block is one whose braces are dropped.
+/// Whether an unlabelled block is one whose braces are dropped; `no_struct` says that no struct
+/// literal may stand there.
 fn is_shed(block: &Block, no_struct: bool) -> bool {
     is_lone(block) && (!no_struct || is_block_structless(block))
 }

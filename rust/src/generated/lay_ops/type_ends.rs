@@ -70,7 +70,8 @@ pub fn path_lacks_args(path: &Path) -> bool {
         None => false,
     }
 }
-/// The same question for the generic arguments of the last segment of such a path.
+/// Whether `<` after these generic arguments, those of the last segment of a path in an expression,
+/// would open generic arguments of a type that they end in.
 fn code_args_lack(args: &Args) -> bool {
     match args {
         Args::Round { output: Some(output), .. } => type_lacks_args(output.get()),

@@ -16,13 +16,14 @@ use crate::generated::lay_out_tokens::notation::{NEVER_BREAK, SPACE_BREAK};
 use crate::generated::lay_out_types::calls::{add_either, add_if, add_text};
 use crate::generated::lay_paren_defs::{AsIs, Enclose};
 use crate::generated::lay_stream::Emit;
-/// Emits the layout of a block, whose braces have a leading blank or not.
+/// Emits the layout of a block. `lead` says that its braces have a leading blank.
 pub fn put_block<
     E: Emit,
 >(out: &mut E, block: &Block, lead: bool) -> Result<(), E::Fault> {
     add_block::<E, AsIs>(out, Ok(()), lead, block)
 }
-/// Emits a block, with each statement on a line of its own. The braces have a leading blank or not.
+/// Emits a block, with each statement on a line of its own. `lead` says that its braces have a
+/// leading blank.
 pub fn add_block<
     E: Emit,
     X: Enclose,
@@ -42,7 +43,7 @@ pub fn add_block<
     let stmts = add_stmts::<E, X>(out, attrs, HARD_BREAK, stmts);
     close_body(out, stmts)
 }
-/// Emits a block that may stand on one line if it is a single expression.
+/// Emits a block, which may stand on one line if it is a single expression.
 pub fn add_soft<
     E: Emit,
     X: Enclose,

@@ -112,7 +112,7 @@ fn add_arm<
     let inner = add_body_part::<E, X>(out, opened, arm.body.get());
     close_arm(out, inner, braces)
 }
-/// Emits the guard of an arm, if it has one, after its `if`.
+/// Emits an `if` and the guard of an arm, if it has one.
 fn add_guard<
     E: Emit,
     X: Enclose,

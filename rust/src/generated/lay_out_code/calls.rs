@@ -22,7 +22,7 @@ use crate::generated::lay_out_heads::{
 };
 use crate::generated::lay_out_tokens::{put_bare_attr, put_group};
 use crate::generated::lay_stream::Emit;
-/// Emits an attribute.
+/// Emits an attribute, and nothing after it.
 pub fn add_bare_attr<
     E: Emit,
 >(out: &mut E, before: Result<(), E::Fault>, attr: &Attr) -> Result<(), E::Fault> {

@@ -11,7 +11,7 @@ use crate::generated::lay_out_exprs::blocks::{
 use crate::generated::lay_out_types::lists::{add_begin, add_end};
 use crate::generated::lay_paren_defs::Enclose;
 use crate::generated::lay_stream::Emit;
-/// Emits a condition after its word, in a group of its own.
+/// Emits the word before a condition, and the condition, in a group of their own.
 pub fn add_condition<
     E: Emit,
     X: Enclose,

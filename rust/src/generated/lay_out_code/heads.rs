@@ -31,7 +31,7 @@ pub trait Head {
         E: Emit,
     >(&self, out: &mut E, before: Result<(), E::Fault>) -> Result<(), E::Fault>;
 }
-/// Emits a head, after its visibility.
+/// Emits a visibility and a head, in a group of their own.
 pub fn add_head<
     E: Emit,
     H: Head,
@@ -45,7 +45,7 @@ pub fn add_head<
     let head = head.add(out, opened);
     add_end(out, head)
 }
-/// Emits a head, and a `;`.
+/// Emits a visibility, a head, and a `;`.
 pub fn add_ended<
     E: Emit,
     H: Head,
@@ -58,7 +58,7 @@ pub fn add_ended<
     let head = add_head(out, before, vis, head);
     add_text(out, head, b";")
 }
-/// Emits a head, a where clause, and a `;`.
+/// Emits a visibility, a head, a where clause, and a `;`.
 pub fn add_ended_clause<
     E: Emit,
     H: Head,
@@ -72,7 +72,7 @@ pub fn add_ended_clause<
     let head = add_head(out, before, vis, head);
     add_semicolon(out, head, wheres)
 }
-/// Emits a head, and a where clause before a body.
+/// Emits a visibility, a head, and a where clause before a body.
 pub fn add_clause<
     E: Emit,
     H: Head,

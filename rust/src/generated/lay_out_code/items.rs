@@ -142,8 +142,8 @@ fn add_valued<
     let whole = add_end(out, value);
     add_text(out, whole, b";")
 }
-/// Emits inner attributes and items in braces, each on a line of its own. The braces have a leading
-/// blank or not.
+/// Emits inner attributes and items in braces, each on a line of its own. `lead` says that the
+/// braces have a leading blank.
 fn add_body<
     E: Emit,
     X: Enclose,

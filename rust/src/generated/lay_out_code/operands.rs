@@ -12,7 +12,7 @@ use crate::generated::lay_out_types::calls::{add_either, add_text, add_word};
 use crate::generated::lay_out_types::lists::{add_close, add_lead};
 use crate::generated::lay_paren_defs::Enclose;
 use crate::generated::lay_stream::Emit;
-/// Emits the fields of a struct literal, after its `{`.
+/// Emits the `{` of a struct literal and its fields; nothing if it has no fields.
 pub fn add_fields<
     E: Emit,
     X: Enclose,
@@ -28,7 +28,8 @@ pub fn add_fields<
     }
     done
 }
-/// Emits the `..` after the fields of a struct literal, and its base, if it has one.
+/// Emits the `..` of a struct literal and its base, if it has one. Before them stands the `{` if
+/// `first`, which says that there are no fields, else a comma.
 pub fn add_base<
     E: Emit,
     X: Enclose,
@@ -42,7 +43,7 @@ pub fn add_base<
     let dots = add_text(out, lead, b"..");
     add_optional::<E, X>(out, dots, true, base)
 }
-/// Emits a field of a struct literal, after its attributes.
+/// Emits a field of a struct literal, with its attributes.
 fn add_field<
     E: Emit,
     X: Enclose,
@@ -66,7 +67,7 @@ fn add_field<
         }
     }
 }
-/// Emits the operands after the first one, each after its operator.
+/// Emits the operands of a chain after the first one, each with its operator before it.
 pub fn add_operands<
     E: Emit,
     X: Enclose,
@@ -82,7 +83,7 @@ pub fn add_operands<
     }
     done
 }
-/// Emits the targets of an assignment, each before its operator.
+/// Emits the targets of an assignment, each with its operator after it.
 pub fn add_targets<
     E: Emit,
     X: Enclose,

@@ -37,7 +37,7 @@ fn add_params<
     }
     add_close(out, done, true, params.is_empty(), b"||", b"|")
 }
-/// Emits a parameter, after its attributes.
+/// Emits a parameter, with its attributes.
 fn add_param<
     E: Emit,
 >(

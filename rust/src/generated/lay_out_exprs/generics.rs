@@ -6,7 +6,7 @@ use crate::generated::lay_out_types::add_angles;
 use crate::generated::lay_out_types::calls::add_text;
 use crate::generated::lay_stream::Emit;
 use crate::generated::lay_text::List;
-/// Emits the generic arguments of a method after `::`, if it has some.
+/// Emits `::` and the generic arguments of a method, if it has some.
 pub fn add_generics<
     E: Emit,
 >(

@@ -52,7 +52,7 @@ fn prefix_text(prefix: Prefix) -> &'static [u8] {
         Prefix::RawMut => b"&raw mut ",
     }
 }
-/// Emits the types of a cast, each after its `as`.
+/// Emits the types of a cast, each with an `as` before it.
 pub fn add_casts<
     E: Emit,
 >(out: &mut E, before: Result<(), E::Fault>, types: &[Ty]) -> Result<(), E::Fault> {

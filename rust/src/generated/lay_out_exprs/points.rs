@@ -13,7 +13,8 @@ pub fn part_ends_in_point<X: Enclose>(point: bool, node: &Expr) -> bool {
     }
     ends_in_point(point, node)
 }
-/// Whether an optional part ends in a `.`.
+/// Whether an optional part ends in a `.`; if there is none, whether the text before it does, as
+/// `point` says.
 pub fn optional_ends_in_point<
     X: Enclose,
 >(point: bool, node: &Option<Boxed<Expr>>) -> bool {
@@ -59,7 +60,8 @@ fn ends_in_point(point: bool, node: &Expr) -> bool {
         _ => false,
     }
 }
-/// Whether an optional operand ends in a `.`.
+/// Whether an optional operand ends in a `.`; if there is none, whether the text before it does, as
+/// `point` says.
 fn operand_ends_in_point(point: bool, operand: &Option<Boxed<Expr>>) -> bool {
     match operand {
         None => point,

@@ -65,7 +65,7 @@ impl Part for Variant {
         add_discriminant(out, fields, &self.discriminant)
     }
 }
-/// Emits the discriminant of a variant, if it has one.
+/// Emits a `=` and the discriminant of a variant, if it has one.
 fn add_discriminant<
     E: Emit,
 >(

@@ -94,7 +94,7 @@ fn add_param_kind<
         }
     }
 }
-/// Emits a type after its `:`, if there is one: that of a receiver, of a binding, or of a parameter
+/// Emits a `:` and a type, if there is one: that of a receiver, of a binding, or of a parameter
 /// of a closure.
 pub fn add_self_type<
     E: Emit,

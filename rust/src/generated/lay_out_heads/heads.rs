@@ -21,7 +21,7 @@ pub fn put_trait_head<E: Emit>(out: &mut E, head: &TraitHead) -> Result<(), E::F
     let name = add_called(out, word, b"trait ", &head.name, &head.generics);
     add_asked(out, name, head.bounds.as_slice())
 }
-/// Emits a word with a blank after it, a name, and generic parameters.
+/// Emits `word`, which ends in a blank, a name, and generic parameters.
 pub fn add_called<
     E: Emit,
 >(

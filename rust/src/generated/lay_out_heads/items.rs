@@ -78,7 +78,7 @@ fn add_body<
     let clause = add_wheres(out, before, wheres, true);
     add_braces(out, clause, parts, leads(wheres))
 }
-/// Whether braces after a where clause have a leading blank.
+/// Whether the braces after this where clause have a leading blank: if it has no predicates.
 pub fn leads(wheres: &Wheres) -> bool {
     wheres.predicates.as_slice().is_empty()
 }

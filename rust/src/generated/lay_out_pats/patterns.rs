@@ -158,7 +158,7 @@ fn add_fields<
     }
     add_closing_brace(out, done, true, fields.is_empty())
 }
-/// Emits a field, after its attributes.
+/// Emits a field of a struct pattern, with its attributes.
 fn add_field<
     E: Emit,
 >(out: &mut E, before: Result<(), E::Fault>, field: &FieldPat) -> Result<(), E::Fault> {
@@ -199,7 +199,7 @@ fn add_attr_line<
     put_bare_attr(out, attr)?;
     out.brk(HARD_BREAK)
 }
-/// Emits a literal, or a number after its `-`.
+/// Emits a literal, or a negative number with its `-`.
 fn add_value<
     E: Emit,
 >(out: &mut E, before: Result<(), E::Fault>, value: &PatValue) -> Result<(), E::Fault> {
@@ -337,7 +337,7 @@ pub fn add_closing_brace<
     out.end()?;
     out.text(b"}")
 }
-/// The break after the last field.
+/// The break after the last field; `may` says that a comma may stand before it.
 fn closing_break(may: bool) -> Break {
     if may {
         return COMMA_CLOSING_SPACE_BREAK;

@@ -3,7 +3,7 @@
 //! The layout of words, documentation, and other single tokens.
 use crate::generated::lay_stream::Emit;
 use crate::generated::lay_token::{DocForm, Kind, Text, doc_form};
-/// Emits a word or a name, after the `r#` of a raw one.
+/// Emits a word or a name; a raw one with its `r#`.
 pub fn put_word<E: Emit>(out: &mut E, raw: bool, text: &Text) -> Result<(), E::Fault> {
     if !raw {
         return out.text(text.as_bytes());

@@ -34,7 +34,7 @@ pub fn add_if<
     }
     before
 }
-/// Emits one of two texts.
+/// Emits `if_first` if `first`, else `if_second`.
 pub fn add_either<
     E: Emit,
 >(
@@ -82,7 +82,8 @@ pub fn add_braces<
     before?;
     put_enclosed(out, Delim::Brace, tokens)
 }
-/// Emits an attribute within other parts.
+/// Emits an attribute within other parts. After an outer one stands a blank, or a newline if it is
+/// a line comment.
 pub(crate) fn add_attr<
     E: Emit,
 >(out: &mut E, before: Result<(), E::Fault>, attr: &Attr) -> Result<(), E::Fault> {

@@ -29,7 +29,7 @@ pub fn add_lead<
     }
     put_comma(out)
 }
-/// Emits the comma between two elements.
+/// Emits the comma between two elements, and the break after it.
 fn put_comma<E: Emit>(out: &mut E) -> Result<(), E::Fault> {
     out.text(b",")?;
     out.brk(SPACE_BREAK)

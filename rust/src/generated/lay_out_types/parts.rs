@@ -75,7 +75,7 @@ pub(crate) fn add_binder<
         }
     }
 }
-/// Emits lifetimes in `<` and `>`.
+/// Emits lifetime parameters in `<` and `>`.
 fn add_lifetime_params<
     E: Emit,
 >(

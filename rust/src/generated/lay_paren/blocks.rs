@@ -19,7 +19,7 @@ use crate::shims::Global;
 pub(crate) fn place_block(alloc: Global, block: &mut Block) -> Result<(), NoMemory> {
     place_stmts(alloc, &mut block.stmts)
 }
-/// Puts them in an optional block.
+/// Puts the missing parentheses in an optional block.
 pub(crate) fn place_block_or_none(
     alloc: Global,
     block: &mut Option<Block>,
@@ -29,18 +29,18 @@ pub(crate) fn place_block_or_none(
         None => Ok(()),
     }
 }
-/// Puts them in statements.
+/// Puts the missing parentheses in statements.
 fn place_stmts(alloc: Global, stmts: &mut List<Stmt>) -> Result<(), NoMemory> {
     place_each_stmt(alloc, stmts.as_mut_slice())
 }
-/// Puts them in each of the statements.
+/// Puts the missing parentheses in each of the statements.
 fn place_each_stmt(alloc: Global, stmts: &mut [Stmt]) -> Result<(), NoMemory> {
     for stmt in stmts.iter_mut() {
         place_stmt(alloc, stmt)?;
     }
     Ok(())
 }
-/// Puts them in a statement.
+/// Puts the missing parentheses in a statement.
 fn place_stmt(alloc: Global, stmt: &mut Stmt) -> Result<(), NoMemory> {
     match stmt {
         Stmt::Let { value, otherwise, .. } => {
@@ -53,7 +53,8 @@ fn place_stmt(alloc: Global, stmt: &mut Stmt) -> Result<(), NoMemory> {
         }
     }
 }
-/// Puts them in the value of a `let`, if it has one; `before_else` says that an `else` follows.
+/// Puts the missing parentheses in the value of a `let`, if it has one; `before_else` says that an
+/// `else` follows.
 fn place_value(
     alloc: Global,
     value: &mut Option<Boxed<Expr>>,
@@ -68,9 +69,9 @@ fn place_value(
         None => Ok(()),
     }
 }
-/// Puts them in a value that stands before an `else`. Its parts are placed as if the value stood in
-/// parentheses. Then the value gets a pair if it can't precede the `else`, which depends on the
-/// parentheses that its parts got.
+/// Puts the missing parentheses in a value that stands before an `else`. Its parts are placed as if
+/// the value stood in parentheses. Then the value gets a pair if it can't precede the `else`, which
+/// depends on the parentheses that its parts got.
 fn place_before_else(alloc: Global, value: &mut Expr) -> Result<(), NoMemory> {
     place_parts(alloc, value, FREE)?;
     if may_precede_else(value) {
@@ -78,37 +79,37 @@ fn place_before_else(alloc: Global, value: &mut Expr) -> Result<(), NoMemory> {
     }
     enclose(alloc, value)
 }
-/// Puts them in branches.
+/// Puts the missing parentheses in branches.
 pub(crate) fn place_branches(
     alloc: Global,
     branches: &mut List<Branch>,
 ) -> Result<(), NoMemory> {
     place_each_branch(alloc, branches.as_mut_slice())
 }
-/// Puts them in each of the branches.
+/// Puts the missing parentheses in each of the branches.
 fn place_each_branch(alloc: Global, branches: &mut [Branch]) -> Result<(), NoMemory> {
     for branch in branches.iter_mut() {
         place_branch(alloc, branch)?;
     }
     Ok(())
 }
-/// Puts them in a branch.
+/// Puts the missing parentheses in a branch.
 fn place_branch(alloc: Global, branch: &mut Branch) -> Result<(), NoMemory> {
     place_condition(alloc, &mut branch.condition)?;
     place_block(alloc, &mut branch.body)
 }
-/// Puts them in the arms of a match.
+/// Puts the missing parentheses in the arms of a match.
 pub(crate) fn place_arms(alloc: Global, arms: &mut List<Arm>) -> Result<(), NoMemory> {
     place_each_arm(alloc, arms.as_mut_slice())
 }
-/// Puts them in each of the arms.
+/// Puts the missing parentheses in each of the arms.
 fn place_each_arm(alloc: Global, arms: &mut [Arm]) -> Result<(), NoMemory> {
     for arm in arms.iter_mut() {
         place_arm(alloc, arm)?;
     }
     Ok(())
 }
-/// Puts them in an arm.
+/// Puts the missing parentheses in an arm.
 fn place_arm(alloc: Global, arm: &mut Arm) -> Result<(), NoMemory> {
     place_operand(alloc, &mut arm.guard, FREE, Slot::Any)?;
     place_expr(alloc, arm.body.get_mut(), STATEMENT, Slot::Any)

@@ -17,9 +17,10 @@ pub enum ParenError {
     /// Memory could not be allocated.
     NoMemory,
 }
-/// Puts parentheses round each part of the expression that doesn't fit where it stands, the
-/// expression itself at `place`, and nowhere else. `parenthesize_law` says for which trees the
-/// result may stand at the place, and that no pair can be left out. `place.level` is at most 14.
+/// Puts parentheses round each part of the expression that doesn't fit where it stands, and round
+/// no other. The expression itself stands at `place`, and gets a pair too if it doesn't fit there.
+/// `parenthesize_law` says for which trees the result may stand at the place, and that no pair can
+/// be left out. `place.level` is at most 14.
 ///
 /// It is one walk over the tree, in place. It takes linear time, allocates the pairs only, and
 /// needs stack in proportion to the depth of the tree.

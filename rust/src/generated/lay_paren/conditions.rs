@@ -14,11 +14,11 @@ pub(crate) fn place_condition(
 ) -> Result<(), NoMemory> {
     place_links(alloc, &mut condition.links)
 }
-/// Puts them in links.
+/// Puts the missing parentheses in links.
 fn place_links(alloc: Global, links: &mut List<Link>) -> Result<(), NoMemory> {
     place_each_link(alloc, links.as_mut_slice())
 }
-/// Puts them in each of the links.
+/// Puts the missing parentheses in each of the links.
 fn place_each_link(alloc: Global, links: &mut [Link]) -> Result<(), NoMemory> {
     let count = links.len();
     let alone = count == 1;
@@ -27,8 +27,8 @@ fn place_each_link(alloc: Global, links: &mut [Link]) -> Result<(), NoMemory> {
     }
     Ok(())
 }
-/// Puts them in a link; `alone` says that it is the whole condition, `more` that another link
-/// follows.
+/// Puts the missing parentheses in a link; `alone` says that it is the whole condition, `more` that
+/// another link follows.
 fn place_link(
     alloc: Global,
     link: &mut Link,
@@ -44,7 +44,8 @@ fn place_link(
         }
     }
 }
-/// The place of a link that is an expression; `alone` and `more` as above.
+/// The place of a link that is an expression; `alone` says that it is the whole condition, `more`
+/// that another link follows.
 fn whole_place(alone: bool, more: bool) -> Place {
     if alone { plain(0, true) } else { link_place(more) }
 }

@@ -140,14 +140,14 @@ fn break_slot(label: &Option<Lifetime>) -> Slot {
 fn place_exprs(alloc: Global, exprs: &mut List<Expr>) -> Result<(), NoMemory> {
     place_each_expr(alloc, exprs.as_mut_slice())
 }
-/// Puts them in each of the expressions.
+/// Puts the missing parentheses in each of the expressions.
 fn place_each_expr(alloc: Global, exprs: &mut [Expr]) -> Result<(), NoMemory> {
     for expr in exprs.iter_mut() {
         place_expr(alloc, expr, FREE, Slot::Any)?;
     }
     Ok(())
 }
-/// Puts them in an optional operand.
+/// Puts the missing parentheses in an optional operand.
 pub(crate) fn place_operand(
     alloc: Global,
     operand: &mut Option<Boxed<Expr>>,
@@ -159,7 +159,8 @@ pub(crate) fn place_operand(
         None => Ok(()),
     }
 }
-/// Puts them in the operands of a chain after the first; `level` is that of its operators.
+/// Puts the missing parentheses in the operands of a chain after the first; `level` is that of its
+/// operators.
 fn place_operands(
     alloc: Global,
     operands: &mut List<(Op, Boxed<Expr>)>,
@@ -168,7 +169,7 @@ fn place_operands(
 ) -> Result<(), NoMemory> {
     place_each_operand(alloc, operands.as_mut_slice(), level, place)
 }
-/// Puts them in each of the operands.
+/// Puts the missing parentheses in each of the operands.
 fn place_each_operand(
     alloc: Global,
     operands: &mut [(Op, Boxed<Expr>)],
@@ -184,7 +185,7 @@ fn place_each_operand(
     }
     Ok(())
 }
-/// Puts them in the targets of an assignment.
+/// Puts the missing parentheses in the targets of an assignment.
 fn place_targets(
     alloc: Global,
     targets: &mut List<(Boxed<Expr>, Op)>,
@@ -192,7 +193,7 @@ fn place_targets(
 ) -> Result<(), NoMemory> {
     place_each_target(alloc, targets.as_mut_slice(), place)
 }
-/// Puts them in each of the targets.
+/// Puts the missing parentheses in each of the targets.
 fn place_each_target(
     alloc: Global,
     targets: &mut [(Boxed<Expr>, Op)],
@@ -206,18 +207,18 @@ fn place_each_target(
     }
     Ok(())
 }
-/// Puts them in the fields of a struct literal.
+/// Puts the missing parentheses in the fields of a struct literal.
 fn place_fields(alloc: Global, fields: &mut List<FieldExpr>) -> Result<(), NoMemory> {
     place_each_field(alloc, fields.as_mut_slice())
 }
-/// Puts them in each of the fields.
+/// Puts the missing parentheses in each of the fields.
 fn place_each_field(alloc: Global, fields: &mut [FieldExpr]) -> Result<(), NoMemory> {
     for field in fields.iter_mut() {
         place_field(alloc, field)?;
     }
     Ok(())
 }
-/// Puts them in a field of a struct literal.
+/// Puts the missing parentheses in a field of a struct literal.
 fn place_field(alloc: Global, field: &mut FieldExpr) -> Result<(), NoMemory> {
     match field {
         FieldExpr::Named { value, .. } => {
@@ -229,7 +230,7 @@ fn place_field(alloc: Global, field: &mut FieldExpr) -> Result<(), NoMemory> {
         FieldExpr::Short { .. } => Ok(()),
     }
 }
-/// Puts them in the base of a struct literal, if it has one.
+/// Puts the missing parentheses in the base of a struct literal, if it has one.
 fn place_base(
     alloc: Global,
     base: &mut Option<Option<Boxed<Expr>>>,
@@ -239,18 +240,18 @@ fn place_base(
         _ => Ok(()),
     }
 }
-/// Puts them in postfix steps.
+/// Puts the missing parentheses in postfix steps.
 fn place_steps(alloc: Global, steps: &mut List<Step>) -> Result<(), NoMemory> {
     place_each_step(alloc, steps.as_mut_slice())
 }
-/// Puts them in each of the steps.
+/// Puts the missing parentheses in each of the steps.
 fn place_each_step(alloc: Global, steps: &mut [Step]) -> Result<(), NoMemory> {
     for step in steps.iter_mut() {
         place_step(alloc, step)?;
     }
     Ok(())
 }
-/// Puts them in a postfix step.
+/// Puts the missing parentheses in a postfix step.
 fn place_step(alloc: Global, step: &mut Step) -> Result<(), NoMemory> {
     match step {
         Step::Field { .. } | Step::TupleIndex { .. } | Step::Try | Step::Await => Ok(()),

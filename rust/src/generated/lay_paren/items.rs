@@ -12,18 +12,18 @@ use crate::shims::Global;
 pub(crate) fn place_item(alloc: Global, item: &mut Item) -> Result<(), NoMemory> {
     place_kind(alloc, item.kind.get_mut())
 }
-/// Puts them in items.
+/// Puts the missing parentheses in items.
 fn place_items(alloc: Global, items: &mut List<Item>) -> Result<(), NoMemory> {
     place_each_item(alloc, items.as_mut_slice())
 }
-/// Puts them in each of the items.
+/// Puts the missing parentheses in each of the items.
 fn place_each_item(alloc: Global, items: &mut [Item]) -> Result<(), NoMemory> {
     for item in items.iter_mut() {
         place_item(alloc, item)?;
     }
     Ok(())
 }
-/// Puts them in what an item is.
+/// Puts the missing parentheses in what an item is.
 fn place_kind(alloc: Global, kind: &mut ItemKind) -> Result<(), NoMemory> {
     match kind {
         ItemKind::Module { items, .. } => place_items(alloc, items),

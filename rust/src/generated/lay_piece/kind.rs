@@ -49,8 +49,8 @@ pub enum Kind {
     Opener(Delim),
     /// `)`
     Closer(Delim),
-    /// `/// text`, `//! text`, `/** text */` or `/*! text */`: documentation of what follows, or with `inner`
-    /// of what it stands in, as a line or as a block.
+    /// `/// text`, `//! text`, `/** text */` or `/*! text */`: documentation of what follows, or
+    /// with `inner` of what it stands in, as a line or as a block.
     Doc {
         inner: bool,
         block: bool,

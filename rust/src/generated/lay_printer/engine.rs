@@ -204,8 +204,8 @@ impl Engine {
         let rooms = self.page.frames.spare() - self.queue.len();
         self.queue.room().min(rooms)
     }
-    /// How many more tokens fit without allocating, after one token: one fewer than `before`,
-    /// without a look at the room.
+    /// How many more tokens surely fit without allocating, after one token: one fewer than
+    /// `before`, without a look at the room. It is only looked at if `before` is 0.
     #[inline(always)]
     pub fn room_after(&self, before: usize) -> usize {
         match before.checked_sub(1) {

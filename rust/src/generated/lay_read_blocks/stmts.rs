@@ -87,7 +87,7 @@ impl<
         *at = begun;
         self.item_stmt(at)
     }
-    /// Parses an item, which is no macro call.
+    /// Parses an item that is no macro call.
     #[inline(never)]
     fn item_stmt(&self, at: &mut Ahead<'_>) -> Result<Found<Stmt>, ReadNone> {
         let found = (self.items)(self.alloc, at, Site::Module, self.depth)?;

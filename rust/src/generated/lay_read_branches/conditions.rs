@@ -157,7 +157,7 @@ impl<
         let found = self.rules.expr(at, plain(4, true))?;
         Ok(Found { need: found.need, node: (None, found.node) })
     }
-    /// Parses a link.
+    /// Parses a link of a condition, if it may end before the tokens that follow.
     #[inline(never)]
     fn one_link(
         &self,

@@ -12,7 +12,7 @@ use crate::generated::lay_read_tokens::tokens::read_tokens;
 use crate::generated::lay_read_tokens::{Ahead, Found, ReadNone};
 use crate::generated::lay_token::{Delim, List};
 use crate::shims::Global;
-/// The rest of an array `[a; n]` after its `;`.
+/// Parses the rest of an array `[a; n]` after its `;`.
 fn repeat_by(
     alloc: Global,
     at: &mut Ahead<'_>,

@@ -65,7 +65,8 @@ impl Level {
             _,
         >(self.alloc, at, self.depth, Opening::Predicate, self, Level::predicate, ())
     }
-    /// A where clause, and whether its last part is spelled.
+    /// Parses a where clause, if one comes next. The flag says that its last predicate has a comma,
+    /// or that it is a `where` without predicates.
     pub fn wheres(&self, at: &mut Ahead<'_>) -> Result<Found<(Wheres, bool)>, ReadNone> {
         if !takes_keyword(at, b"where") {
             let predicates = List::new(self.alloc);

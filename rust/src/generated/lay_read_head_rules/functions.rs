@@ -228,7 +228,7 @@ fn varies_last(params: &[Param]) -> bool {
 fn are_in_order(params: &[Param], comma: bool) -> bool {
     receives_first(params) && varies_last(params) && !(ends_variadic(params) && comma)
 }
-/// The parameters that were read, if they are in order, and the `)` after them.
+/// Parses the `)` after these parameters. It is an error if they aren't in order.
 fn closed_params(
     at: &mut Ahead<'_>,
     found: Found<(List<Param>, bool)>,

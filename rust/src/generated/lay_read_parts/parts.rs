@@ -205,7 +205,7 @@ pub fn read_captures(
     }
     read_captured(alloc, at)
 }
-/// The next token as a literal, if `passes`.
+/// Parses the next token as a literal, if `passes`.
 pub fn read_literal(
     alloc: Global,
     at: &mut Ahead<'_>,
@@ -260,7 +260,7 @@ fn is_at_string(alloc: Global, at: &Ahead<'_>) -> Result<bool, ReadNone> {
         None => Ok(false),
     }
 }
-/// Parses the string of an ABI, after `extern`.
+/// Parses the string of an ABI after its `extern`, if one comes next.
 fn read_abi_name(
     alloc: Global,
     at: &mut Ahead<'_>,

@@ -79,7 +79,7 @@ fn attr_ahead(alloc: Global, at: &mut Ahead<'_>, inner: bool) -> Result<Attr, Re
         read_meta(alloc, at, inner)
     }
 }
-/// Whether documentation comes next.
+/// Whether a documentation comment comes next: an inner one if `inner`, else an outer one.
 fn is_at_doc(at: &Ahead<'_>, inner: bool) -> bool {
     match at.peek(0) {
         Some(token) => {
@@ -112,7 +112,8 @@ fn read_meta(alloc: Global, at: &mut Ahead<'_>, inner: bool) -> Result<Attr, Rea
     let path = read_meta_path(alloc, at)?;
     read_meta_input(alloc, at, inner, path)
 }
-/// Passes `#[`, or `#![` of an inner attribute.
+/// Moves past `#[`, or the `#![` of an inner attribute, if it comes next, and says whether it did.
+/// If it didn't, the cursor may be anywhere.
 fn takes_opening(at: &mut Ahead<'_>, inner: bool) -> bool {
     if !takes_mark(at, b"#") {
         return false;
@@ -179,7 +180,7 @@ fn read_value(
         None => read_other_value(alloc, at, inner, path),
     }
 }
-/// Parses a value of an attribute that is no documentation, and the closing bracket.
+/// Parses the value of an attribute that isn't documentation, and the closing bracket.
 fn read_other_value(
     alloc: Global,
     at: &mut Ahead<'_>,
@@ -225,7 +226,7 @@ fn front_doc(
         None => Ok(None),
     }
 }
-/// The text of the documentation whose value is the token.
+/// The value of this string literal as the text of documentation; `None` if it can't be one.
 fn doc_text(
     alloc: Global,
     token: &Token,

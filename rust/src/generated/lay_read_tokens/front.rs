@@ -144,7 +144,7 @@ pub fn takes_colons(at: &mut Ahead<'_>) -> bool {
 pub fn takes_element_end(at: &mut Ahead<'_>, delim: Delim) -> bool {
     takes_mark(at, b",") || is_at_closer(at, delim)
 }
-/// Whether items may go on: a token is left, and no `}` comes next.
+/// Whether another item may follow: a token is left, and it is no `}`.
 pub fn has_items(at: &Ahead<'_>) -> bool {
     match at.peek(0) {
         Some(token) => !closes(token, Delim::Brace),

@@ -170,7 +170,7 @@ impl<
         let inner = boxed(self.alloc, found.node)?;
         Ok(Found { node: Ty::Ptr { mutable, inner }, need })
     }
-    /// What follows `impl` or `dyn`.
+    /// Parses the bounds of a type after its `impl` or `dyn`.
     fn bounds_type(
         &self,
         at: &mut Ahead<'_>,
@@ -185,7 +185,7 @@ impl<
             },
         )
     }
-    /// A macro call, or a path.
+    /// Parses a macro call or a path.
     #[inline(never)]
     fn path_or_call(&self, at: &mut Ahead<'_>) -> Result<Found<Ty>, ReadNone> {
         if begins_call(self.alloc, at)? {
@@ -194,7 +194,7 @@ impl<
         }
         self.path_type(at)
     }
-    /// A path.
+    /// Parses a type that is a path, if no `!` follows it.
     fn path_type(&self, at: &mut Ahead<'_>) -> Result<Found<Ty>, ReadNone> {
         let path = self.path(at, PathStyle::Kind)?;
         if at.op_is(b"!") {
@@ -202,7 +202,7 @@ impl<
         }
         Ok(Found { need: path.need + 1, node: Ty::Path { path: path.node } })
     }
-    /// A parameter of a function type.
+    /// Parses a parameter of a function type.
     fn func_param(
         &self,
         at: &mut Ahead<'_>,
@@ -216,7 +216,8 @@ impl<
         )?;
         Ok(Found { need: ty.need, node: FuncParam { attrs, name, ty: ty.node } })
     }
-    /// Parameters of a function type as long as one begins.
+    /// Parses parameters of a function type as long as one begins. The flag says that a comma
+    /// follows the last one, or that there is none.
     fn open_params(
         &self,
         at: &mut Ahead<'_>,
@@ -229,7 +230,8 @@ impl<
             _,
         >(self.alloc, at, self.depth, Opening::Param, self, Rules::func_param, ())
     }
-    /// The parameters of a function type, and whether `...` stands after them.
+    /// Parses the parameters of a function type in parentheses. The flag says that a `...` follows
+    /// them.
     fn func_params(
         &self,
         at: &mut Ahead<'_>,
@@ -244,7 +246,7 @@ impl<
             Ok(Found { node: (params, variadic), need })
         } else { refused(params) }
     }
-    /// A function type.
+    /// Parses a function type.
     #[inline(never)]
     fn func_type(&self, at: &mut Ahead<'_>) -> Result<Found<Ty>, ReadNone> {
         let binder = read_binder_if(self.alloc, at)?;

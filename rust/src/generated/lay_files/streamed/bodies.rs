@@ -64,7 +64,8 @@ fn put_body<
     }
     Err(NotPut::NoReading)
 }
-/// Emits the module with this head, whose body begins at a byte offset, past its closing brace.
+/// Emits the module with this head. Its body begins at the byte offset `place`, which is moved past
+/// the closing brace.
 fn put_module<
     E: Emit,
 >(

@@ -5,7 +5,7 @@ use crate::generated::lay_code::{Attr, Item};
 use crate::generated::lay_out_code::put_item;
 use crate::generated::lay_out_tokens::{HARD_BREAK, put_bare_attr};
 use crate::generated::lay_stream::Emit;
-/// Emits an inner attribute, with a newline before it inside a module, else after it.
+/// Emits an inner attribute, with a newline before it if it is inside a module, else after it.
 pub fn put_attr_line<
     E: Emit,
 >(out: &mut E, within: bool, attr: &Attr) -> Result<(), E::Fault> {
@@ -13,7 +13,7 @@ pub fn put_attr_line<
     put_bare_attr(out, attr)?;
     put_line_behind(out, within)
 }
-/// Emits an item, with a newline before it inside a module, else after it.
+/// Emits an item, with a newline before it if it is inside a module, else after it.
 pub fn put_item_line<
     E: Emit,
 >(out: &mut E, within: bool, item: &Item) -> Result<(), E::Fault> {
@@ -21,11 +21,11 @@ pub fn put_item_line<
     put_item(out, item)?;
     put_line_behind(out, within)
 }
-/// Emits the newline before a part, inside a module.
+/// Emits a newline before a part, if it is inside a module.
 pub fn put_line_before<E: Emit>(out: &mut E, within: bool) -> Result<(), E::Fault> {
     if within { out.brk(HARD_BREAK) } else { Ok(()) }
 }
-/// Emits the newline after a part, outside modules.
+/// Emits a newline after a part, if it isn't inside a module.
 pub fn put_line_behind<E: Emit>(out: &mut E, within: bool) -> Result<(), E::Fault> {
     if within { Ok(()) } else { out.brk(HARD_BREAK) }
 }

@@ -9,12 +9,12 @@ use crate::generated::lay_out_pats::add_attrs;
 use crate::generated::lay_out_types::calls::{add_text, add_word};
 use crate::generated::lay_out_types::lists::add_end;
 use crate::generated::lay_stream::Emit;
-/// Opens a module that isn't empty, with a newline before it inside another one.
+/// Opens a module that isn't empty, with a newline before it if it is inside another one.
 pub fn open<E: Emit>(out: &mut E, within: bool, head: &Head) -> Result<(), E::Fault> {
     put_head(out, within, head)?;
     open_body(out, Ok(()), true)
 }
-/// Closes a module that isn't empty, with a newline after it outside modules.
+/// Closes a module that isn't empty, with a newline after it if it isn't inside another one.
 pub fn close<E: Emit>(out: &mut E, within: bool) -> Result<(), E::Fault> {
     close_body(out, Ok(()))?;
     put_line_behind(out, within)
